@@ -2,15 +2,15 @@
 use Rattle.std.proofs.Common.{◌≡◌, ◌∙◌, ℕ, Bool, List, ◌++◌, length, map, take, refl, sym, ap, subst, arith}
 use Rattle.std.proofs.Math.Seq.{take-append_seam}
 use Rattle.grep_core.proofs.lemmas.CostLaws.{same_length}
-use Rattle.re_auto.specs.Searches.{AllAnswer, SameMatchers}
+use Rattle.re_auto.specs.Searches.{AllAnswer}
 use Rattle.re_search.specs.declared.matcher.Matcher.{Matcher}
-use Rattle.re_search.specs.Working.Matchers.{matched_expression, room_of, wants_whole}
+use Rattle.re_search.specs.Working.Matchers.{SameMatchers, wants_whole}
 use Rattle.re_syntax.specs.declared.syntax.Syntax.{Syntax}
 use Rattle.re_syntax.specs.declared.syntax.Syntax.TheVariants.{Basic, Extended, Fixed}
 use Rattle.gaxtrel.specs.Calls.{syntax_number}
 
 -- after a call on the matchers of a vector those that it keeps still agree on whether the whole line has to be matched
-pub still_right : {whole : Bool} (before now after rest : List Matcher) (len : ℕ) → SameMatchers matched_expression wants_whole room_of now after → now ≡ before → length now ≡ len
+pub still_right : {whole : Bool} (before now after rest : List Matcher) (len : ℕ) → SameMatchers now after → now ≡ before → length now ≡ len
     → AllAnswer whole (map wants_whole before) → AllAnswer whole (map wants_whole (take len (after ++ rest)))
 still_right {whole} before now after rest len same was long alike =
     let all : length after ≡ len = same_length wants_whole after now same.same_wholes ∙ long in

@@ -14,15 +14,9 @@ use Rattle.re_meter.specs.Meters.{Steps, AddsAtMost}
 use Rattle.re_meter.proofs.lemmas.Adding.{adds_both, adds_none, adds_within}
 use Rattle.re_runs.specs.Working.Blocks.{FindsNext, HoldsOfMany, IsBlock, IsNext, PassesAll}
 use Rattle.re_runs.proofs.lemmas.NextLines.{left_after, lines_of-beyond}
-use Rattle.re_search.specs.declared.searchers.Searchers.{Searchers}
-use Rattle.re_search.specs.Working.Searchers.{sought_by}
 use Rattle.re_search.specs.Working.Sought.{CountsSought, FindsSought, IsSought, Sought}
 use Rattle.grep_core.proofs.lemmas.CountedLines.{many_within}
 use Rattle.gaxtrel.specs.Calls.{FindsLine, bytes_to_next, line_cost, moved}
-
--- what matchers that are asked together search for
-pub sought_is : {M : Type 0} {g : _} (e : M → Expression) (s : Searchers M g) {ms : List M} {whole : Bool} → s.matchers.now ≡ ms → s.whole ≡ whole → sought_by e s ≡ record { expressions = map e ms; whole = whole }
-sought_is e s same same_whole = λ i. record { expressions = map e (same i); whole = same_whole i }
 
 -- ---- lines that are found and counted in a longer list
 
@@ -95,43 +89,40 @@ module _ (text : Text) (cut : ℕ) (passed : PassesAll (λ _. ⊤) text cut) whe
   and_last : HasNoNewline (drop cut text) → cut < length text → lines_of text ≡ lines_of (take cut text) ++ drop cut text ∷ []
   and_last free below = all_lines ∙ ap (λ l. lines_of (take cut text) ++ l) (one_line (drop cut text) free (omega (arith, below, length-drop cut text)))
 
-  -- the whole lines are searched for what is asked, which is what is sought
-  module _ (asked sought : Sought) (known : asked ≡ sought) where
-    found_in : (found : Option Span) → FindsSought asked (lines_of (take cut text)) found → FindsSought sought (lines_of (take cut text)) found
-    found_in found = subst (λ q. FindsSought q (lines_of (take cut text)) found) known
+  -- the whole lines are searched
+  module _ (sought : Sought) where
+    none_with : (rest : List Text) → lines_of text ≡ lines_of (take cut text) ++ rest → FindsSought sought (lines_of (take cut text)) None → All (λ line. ¬ IsSought sought line) rest → FindsSought sought (lines_of text) None
+    none_with rest are none others = subst (All (λ line. ¬ IsSought sought line)) (sym are) (All-append (λ line. ¬ IsSought sought line) (lines_of (take cut text)) rest none others)
 
-    none_with : (rest : List Text) → lines_of text ≡ lines_of (take cut text) ++ rest → FindsSought asked (lines_of (take cut text)) None → All (λ line. ¬ IsSought sought line) rest → FindsSought sought (lines_of text) None
-    none_with rest are none others = subst (All (λ line. ¬ IsSought sought line)) (sym are) (All-append (λ line. ¬ IsSought sought line) (lines_of (take cut text)) rest (found_in None none) others)
+    counted_with : (rest : List Text) (n m : ℕ) → lines_of text ≡ lines_of (take cut text) ++ rest → CountsSought sought (lines_of (take cut text)) n → CountsSought sought rest m → CountsSought sought (lines_of text) (n + m)
+    counted_with rest n m are counted others = subst (λ l. CountsSought sought l (n + m)) (sym are) (counted_before (IsSought sought) (lines_of (take cut text)) rest n m counted others)
 
-    counted_with : (rest : List Text) (n m : ℕ) → lines_of text ≡ lines_of (take cut text) ++ rest → CountsSought asked (lines_of (take cut text)) n → CountsSought sought rest m → CountsSought sought (lines_of text) (n + m)
-    counted_with rest n m are counted others = subst (λ l. CountsSought sought l (n + m)) (sym are) (counted_before (IsSought sought) (lines_of (take cut text)) rest n m (subst (λ q. CountsSought q (lines_of (take cut text)) n) known counted) others)
+    pub next_in_front : (at : Span) → FindsSought sought (lines_of (take cut text)) (Some at) → FindsSought sought (lines_of text) (Some at)
+    next_in_front at found = subst (λ l. IsNext (IsSought sought) l at) (sym all_lines) (found_before (IsSought sought) (lines_of (take cut text)) (lines_of (drop cut text)) at found)
 
-    pub next_in_front : (at : Span) → FindsSought asked (lines_of (take cut text)) (Some at) → FindsSought sought (lines_of text) (Some at)
-    next_in_front at found = subst (λ l. IsNext (IsSought sought) l at) (sym all_lines) (found_before (IsSought sought) (lines_of (take cut text)) (lines_of (drop cut text)) at (found_in (Some at) found))
-
-    pub none_in_front : length text ≤ cut → FindsSought asked (lines_of (take cut text)) None → FindsSought sought (lines_of text) None
+    pub none_in_front : length text ≤ cut → FindsSought sought (lines_of (take cut text)) None → FindsSought sought (lines_of text) None
     none_in_front past none = none_with [] (all_ended past) none (All-nil (λ line. ¬ IsSought sought line))
 
-    pub counts_front : (n : ℕ) → length text ≤ cut → CountsSought asked (lines_of (take cut text)) n → CountsSought sought (lines_of text) n
+    pub counts_front : (n : ℕ) → length text ≤ cut → CountsSought sought (lines_of (take cut text)) n → CountsSought sought (lines_of text) n
     counts_front n past counted = let same : n + 0 ≡ n = omega arith in subst (CountsSought sought (lines_of text)) same (counted_with [] n 0 (all_ended past) counted refl)
 
     -- there are no more of them than bytes
-    pub few_counted : (n : ℕ) → CountsSought asked (lines_of (take cut text)) n → n ≤ cut
-    few_counted n counted = omega (arith, many_within (IsSought asked) (lines_of (take cut text)) n counted, ap length front_lines, few_lines passed.0, passed.5)
+    pub few_counted : (n : ℕ) → CountsSought sought (lines_of (take cut text)) n → n ≤ cut
+    few_counted n counted = omega (arith, many_within (IsSought sought) (lines_of (take cut text)) n counted, ap length front_lines, few_lines passed.0, passed.5)
 
     -- the search takes no more than one search of the text
-    pub front_cost : (old new : Steps) → AddsAtMost (length asked.expressions * length (take cut text)) old new → AddsAtMost (line_cost (length sought.expressions) text) old new
+    pub front_cost : (old new : Steps) → AddsAtMost (length sought.expressions * length (take cut text)) old new → AddsAtMost (line_cost (length sought.expressions) text) old new
     front_cost old new few =
         let most = mul-le-mul_left (length sought.expressions) (omega (arith, cut_within, length-take-le cut text cut_within)) in
-        adds_within _ _ _ _ old new most most (subst (λ q. AddsAtMost (length q.expressions * length (take cut text)) old new) known few)
+        adds_within _ _ _ _ old new most most few
 
     -- and then the last line
-    module _ (now : Sought) (same : now ≡ asked) where
+    module _ (now : Sought) (same : now ≡ sought) where
       abbrev pub last_line : Text
       last_line = take (length text - cut) (drop cut text)
 
       last_is : ◌≡◌ {A = Sought × Text} (now, last_line) (sought, drop cut text)
-      last_is i = ((same ∙ known) i, take_rest text cut i)
+      last_is i = (same i, take_rest text cut i)
 
       last_sought : IsSought now last_line → IsSought sought (drop cut text)
       last_sought = subst (λ (p : Sought × Text). IsSought p.0 p.1) last_is
@@ -139,32 +130,32 @@ module _ (text : Text) (cut : ℕ) (passed : PassesAll (λ _. ⊤) text cut) whe
       last_unsought : (IsSought now last_line → ⊥) → ¬ IsSought sought (drop cut text)
       last_unsought not = subst (λ (p : Sought × Text). ¬ IsSought p.0 p.1) last_is not
 
-      pub next_at_last : HasNoNewline (drop cut text) → cut < length text → FindsSought asked (lines_of (take cut text)) None → IsSought now last_line → FindsSought sought (lines_of text) (Some (record { start = cut; end = length text }))
+      pub next_at_last : HasNoNewline (drop cut text) → cut < length text → FindsSought sought (lines_of (take cut text)) None → IsSought now last_line → FindsSought sought (lines_of text) (Some (record { start = cut; end = length text }))
       next_at_last free below none holds =
           let starts : cut ≡ length (terminated (lines_of (take cut text))) = passed.5 ∙ ap (λ l. length (terminated l)) (sym front_lines) in
           subst (λ l. IsNext (IsSought sought) l (record { start = cut; end = length text })) (sym (and_last free below))
-          (found_last (IsSought sought) (lines_of (take cut text)) (drop cut text) (record { start = cut; end = length text }) (found_in None none) (last_sought holds) starts (omega (arith, below, length-drop cut text)))
+          (found_last (IsSought sought) (lines_of (take cut text)) (drop cut text) (record { start = cut; end = length text }) none (last_sought holds) starts (omega (arith, below, length-drop cut text)))
 
-      pub none_at_last : HasNoNewline (drop cut text) → cut < length text → FindsSought asked (lines_of (take cut text)) None → (IsSought now last_line → ⊥) → FindsSought sought (lines_of text) None
+      pub none_at_last : HasNoNewline (drop cut text) → cut < length text → FindsSought sought (lines_of (take cut text)) None → (IsSought now last_line → ⊥) → FindsSought sought (lines_of text) None
       none_at_last free below none not =
           none_with (drop cut text ∷ []) (and_last free below) none (All-cons (λ line. ¬ IsSought sought line) (drop cut text) [] (last_unsought not) (All-nil (λ line. ¬ IsSought sought line)))
 
-      pub counts_last : (n : ℕ) → HasNoNewline (drop cut text) → cut < length text → IsSought now last_line → CountsSought asked (lines_of (take cut text)) n → CountsSought sought (lines_of text) (n + 1)
+      pub counts_last : (n : ℕ) → HasNoNewline (drop cut text) → cut < length text → IsSought now last_line → CountsSought sought (lines_of (take cut text)) n → CountsSought sought (lines_of text) (n + 1)
       counts_last n free below holds counted = counted_with (drop cut text ∷ []) n 1 (and_last free below) counted (0, refl, inl (last_sought holds, refl))
 
-      pub counts_without : (n : ℕ) → HasNoNewline (drop cut text) → cut < length text → (IsSought now last_line → ⊥) → CountsSought asked (lines_of (take cut text)) n → CountsSought sought (lines_of text) n
+      pub counts_without : (n : ℕ) → HasNoNewline (drop cut text) → cut < length text → (IsSought now last_line → ⊥) → CountsSought sought (lines_of (take cut text)) n → CountsSought sought (lines_of text) n
       counts_without n free below not counted =
           let one : n + 0 ≡ n = omega arith in
           subst (CountsSought sought (lines_of text)) one (counted_with (drop cut text ∷ []) n 0 (and_last free below) counted (0, refl, inr (last_unsought not, refl)))
 
-      pub last_cost : (old mid new : Steps) → AddsAtMost (length asked.expressions * length (take cut text)) old mid → AddsAtMost (line_cost (length now.expressions) last_line) mid new → AddsAtMost (line_cost (length sought.expressions) text) old new
+      pub last_cost : (old mid new : Steps) → AddsAtMost (length sought.expressions * length (take cut text)) old mid → AddsAtMost (line_cost (length now.expressions) last_line) mid new → AddsAtMost (line_cost (length sought.expressions) text) old new
       last_cost old mid new first then =
           let n = length sought.expressions in
           let sum : cut + (length text - cut) ≡ length text = omega (arith, cut_within) in
           let front : length (take cut text) ≡ cut = length-take-le cut text cut_within in
           let rest : length last_line ≡ length text - cut = ap length (take_rest text cut) ∙ length-drop cut text in
-          let both : length asked.expressions * length (take cut text) + length now.expressions * (length last_line + 1) ≡ n * (length text + 1) =
-          (λ i. length ((known i).expressions) * front i + length (((same ∙ known) i).expressions) * (rest i + 1)) ∙ grouped n cut (length text - cut) ∙ ap (λ k. n * (k + 1)) sum in
+          let both : length sought.expressions * length (take cut text) + length now.expressions * (length last_line + 1) ≡ n * (length text + 1) =
+          (λ i. n * front i + length ((same i).expressions) * (rest i + 1)) ∙ grouped n cut (length text - cut) ∙ ap (λ k. n * (k + 1)) sum in
           subst (λ k. AddsAtMost k old new) both (adds_both _ _ _ _ old mid new first then)
         where
           grouped : (k a b : ℕ) → k * a + k * (b + 1) ≡ k * (a + b + 1)

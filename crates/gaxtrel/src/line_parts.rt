@@ -1,15 +1,16 @@
 //! All parts of one line.
-ghost use Rattle.std.specs.Prelude.{◌≤◌, length, map};
+ghost use Rattle.std.specs.Prelude.{◌≤◌, length};
 ghost use Rattle.re_meter.specs.Meters.{AddsAtMost};
-ghost use Rattle.re_auto.specs.Searches.{AllAnswer, SameMatchers};
 ghost use Rattle.gaxtrel.specs.Calls.{PutsParts, line_cost};
+ghost use Rattle.re_search.specs.Working.Matchers.{AreAlike, SameMatchers, expressions_of};
+ghost use Rattle.re_search.specs.Working.Sought.{sought_of};
 
 use crate::part::{GaxtrelPart, put_part};
-use re_search::{LineMatch, LineParts, Meter, next_part};
+use re_search::{LineParts, Matcher, Meter, next_part};
 
 /// How many parts the line has from a place on. The first ones are written over the array.
-pub(crate) fn put_parts<M: LineMatch>(
-    matchers: &mut [M],
+pub(crate) fn put_parts(
+    matchers: &mut [Matcher],
     whole: bool,
     line: &[u8],
     from: usize,
@@ -19,11 +20,11 @@ pub(crate) fn put_parts<M: LineMatch>(
 ) -> usize
     requires within { from ≤ length line.now }
     requires room { length line.now ≤ learned.old.room }
-    requires alike { AllAnswer whole (map M.whole matchers.old) }
-    ensures put { PutsParts (record { expressions = map M.expression matchers.old; whole = whole })
+    requires alike { AreAlike whole matchers.old }
+    ensures put { PutsParts (sought_of whole matchers.old)
         line.now from parts.old parts.new result }
-    ensures same { SameMatchers M.expression M.whole M.room matchers.old matchers.new }
-    ensures steps { AddsAtMost (line_cost (length (map M.expression matchers.old)) line.now)
+    ensures same { SameMatchers matchers.old matchers.new }
+    ensures steps { AddsAtMost (line_cost (length (expressions_of matchers.old)) line.now)
         meter.old meter.new }
 {
     learned.begin();

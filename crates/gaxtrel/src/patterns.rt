@@ -15,10 +15,10 @@ ghost use Rattle.gaxtrel.specs.Calls.{FindsLine, PutsParts, line_cost};
 
 use crate::line_parts::put_parts;
 use crate::part::GaxtrelPart;
-use crate::text_search::{count_in_text, is_matched, next_in_text};
+use crate::text_search::{count_in_text, next_in_text};
 use grep_core::Options;
 use grep_utility::searchers_of;
-use re_search::{LineParts, Matcher, Meter, Span, Syntax, parts};
+use re_search::{LineParts, Matcher, Meter, Span, Syntax, is_matched, parts};
 use re_syntax::{FaultKind, PatternFault};
 use std::alloc::{AllocError, Global};
 use std::marker::Model;
@@ -34,10 +34,8 @@ pub struct Patterns {
 }
 
 impl Model for Patterns {
-    ghost use Rattle.std.specs.Prelude.{map};
     ghost use Rattle.std.specs.Coded.{codes};
-    ghost use Rattle.re_auto.specs.Searches.{AllAnswer};
-    ghost use Rattle.re_search.specs.Working.Matchers.{wants_whole};
+    ghost use Rattle.re_search.specs.Working.Matchers.{AreAlike};
     ghost use Rattle.re_search.specs.contracts.matcher.Matcher as matcher;
     ghost use Rattle.gaxtrel.specs.Kept.{Kept};
 
@@ -47,7 +45,7 @@ impl Model for Patterns {
 
     ghost view = { λ p. record { matchers = p.matchers.items; whole = p.whole } };
 
-    ghost invariant = { λ p. AllAnswer p.whole (map wants_whole p.matchers.items) };
+    ghost invariant = { λ p. AreAlike p.whole p.matchers.items };
 }
 
 impl Patterns {

@@ -48,9 +48,8 @@ pub use Rattle.re_meter.specs.Meters.{AddsAtMost}
 pub use Rattle.re_search.specs.Reading.{IsOutOfMemory, IsReadable, IsRefusedFor, IsSmallFor}
 pub use Rattle.re_search.specs.Working.Blocks.{HoldsOfMany, IsBlock, IsNext}
 pub use Rattle.re_search.specs.Working.LineParts.{ArePartsOf, spent}
-pub use Rattle.re_search.specs.Working.Matchers.{matched_expression, wants_whole}
-pub use Rattle.re_search.specs.Working.Searchers.{SameSearchers, asks_whole, sought_by}
-pub use Rattle.re_search.specs.Working.Sought.{IsSought, Sought}
+pub use Rattle.re_search.specs.Working.Matchers.{AreAlike, SameMatchers, expressions_of, matched_expression, wants_whole}
+pub use Rattle.re_search.specs.Working.Sought.{IsSought, Sought, sought_of}
 pub use Rattle.re_search.specs.declared.matcher.Matcher.{Matcher}
 pub use Rattle.re_syntax.specs.Bytes.{Text}
 pub use Rattle.re_syntax.specs.Expression.{Expression, alt}

@@ -52,7 +52,7 @@ pub use Rattle.grep_utility.specs.declared.words.tokens.Meaning.TheVariants.{Tak
 pub use Rattle.re_search.specs.Meters.{Steps}
 pub use Rattle.re_search.specs.Reading.{IsOutOfMemory, IsReadable}
 pub use Rattle.re_search.specs.Working.Literals.{literal_meaning}
-pub use Rattle.re_search.specs.Working.Matchers.{matched_expression, wants_whole}
+pub use Rattle.re_search.specs.Working.Matchers.{expressions_of, matched_expression, wants_whole}
 pub use Rattle.re_search.specs.Working.Patterns.{IsCounted, IsPattern, meaning, meant_by, pattern_expression}
 pub use Rattle.re_search.specs.Working.Strings.{AddsStrings, string_expression}
 pub use Rattle.re_search.specs.declared.matcher.Matcher.{Matcher}

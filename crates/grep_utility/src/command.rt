@@ -1,7 +1,5 @@
 //! The whole command (XCU grep).
-ghost use Rattle.std.specs.Prelude.{◌≡◌, map};
-ghost use Rattle.re_search.specs.Working.Matchers.{matched_expression, wants_whole};
-ghost use Rattle.re_search.specs.Searches.{AllAnswer};
+ghost use Rattle.re_search.specs.Working.Matchers.{AreAlike, expressions_of};
 ghost use Rattle.grep_core.specs.Run.{writer, devices};
 ghost use Rattle.grep_core.specs.Sources.{Returns};
 ghost use Rattle.grep_utility.specs.Command.{SearchEnds, CommandGives};
@@ -27,17 +25,14 @@ fn search_request<F: Files, W: CountedWrite, N: CountedWrite>(
     messages: &mut N,
     meter: &mut Meter,
 ) -> u8
-    requires whole { AllAnswer task.now.request.now.options.line_regexp
-        (map wants_whole matchers.old) }
-    ensures { SearchEnds (map matched_expression matchers.old)
-        task.now.request.now.options
+    requires alike { AreAlike task.now.request.now.options.line_regexp matchers.old }
+    ensures { SearchEnds (expressions_of matchers.old) task.now.request.now.options
         (sources_named (F.folder files.old) (searched (texts_of task.now.request.now.files.items)))
         (Returns F.returned_readers files.old files.new)
         (devices (writer W.contents W.failures out.old) (writer N.contents N.failures messages.old)
         (F.failures files.old) meter.old)
         (devices (writer W.contents W.failures out.new) (writer N.contents N.failures messages.new)
-        (F.failures files.new) meter.new)
-        result }
+        (F.failures files.new) meter.new) result }
 {
     let search = SearchRequest {
         alloc: task.alloc,

@@ -22,11 +22,6 @@ SomeMatches es line whole = Any (λ e. Matches e line whole) es
 abbrev pub AllAnswer : Bool → List Bool → Type 0
 AllAnswer whole wholes = All (λ w. w ≡ whole) wholes
 
--- the verdict says whether some expression matches the line, by the answer that all matchers give
-abbrev pub DecidesMatchOfAll : List Expression → List Bool → Text → Bool → Type 0
-DecidesMatchOfAll es wholes line verdict =
-    (whole : Bool) → AllAnswer whole wholes → IsTrue verdict ↔ SomeMatches es line whole
-
 -- the same matchers in the same order: each has its expression as before, asks for whole lines or
 -- not as before, and may keep as much as before
 pub record SameMatchers {M : Type 0} (expression : M → Expression) (whole : M → Bool)

@@ -1,21 +1,19 @@
 -- The words of specs and of std that proofs of this crate use, passed on from one place. Declares nothing.
 pub use Rattle.memchr.specs.Find.{IsFirstByte, is_byte}
-pub use Rattle.re_auto.specs.Searches.{AllAnswer, DecidesMatchOfAll, FindsPart, SameMatchers, SomeMatches}
+pub use Rattle.re_auto.specs.Searches.{AllAnswer, FindsPart, SomeMatches}
 pub use Rattle.re_ends.specs.Working.GreatestEnds.{AddsEnds, FoundPast}
 pub use Rattle.re_ends.specs.declared.table.Window.{Window}
 pub use Rattle.re_match.specs.Working.Aheads.{IsAhead, past}
 pub use Rattle.re_match.specs.declared.ahead.Ahead.TheVariants.{In}
-pub use Rattle.re_match.specs.Working.Same.{SameMatcher}
 pub use Rattle.re_meter.specs.Meters.{AddsUpTo}
 pub use Rattle.re_search.specs.Reading.{IsReadable, IsRefusedFor, IsSmallFor}
 pub use Rattle.re_search.specs.Working.LineParts.{AreAllEnds, AreEnds, AreEndsIn, ArePartsOf, FindsBefore, LineEnds, spent}
+pub use Rattle.re_search.specs.Working.Matchers.{AreAlike, IsSame, SameMatchers, expressions_of, matched_expression, room_of, wants_whole}
 pub use Rattle.re_search.specs.Working.Patterns.{IsPattern, meaning, meant_by, pattern_expression}
-pub use Rattle.re_search.specs.Working.Searchers.{SameSearchers, expressions_by, sought_by}
-pub use Rattle.re_search.specs.Working.Sought.{FindsSought, IsSought, PassesUnsought, Sought}
+pub use Rattle.re_search.specs.Working.Sought.{FindsSought, IsSought, PassesUnsought, Sought, sought_of}
 pub use Rattle.re_search.specs.Working.Strings.{AddsEach, string_expression}
 pub use Rattle.re_search.specs.declared.pattern.Pattern.{Pattern}
 pub use Rattle.re_search.specs.declared.pattern.Pattern.TheVariants.{String, Tree}
-pub use Rattle.re_search.specs.declared.searchers.Searchers.{Searchers}
 pub use Rattle.re_syntax.specs.Bytes.{Text}
 pub use Rattle.re_syntax.specs.Expression.{Expression, alt, alt_more, alt_none, begin, byte, cat, cat_more, cat_none, empty, end, none_of, one_of, repeat, sequence}
 pub use Rattle.re_syntax.specs.Holds.{Holds, Matches, copies, folded, positions}

@@ -3,7 +3,6 @@ pub use Rattle.re_match.specs.Working.Literals
 pub mod Matchers
 pub mod Blocks
 pub mod Sought
-pub mod Searchers
 pub mod LineParts
 pub mod Strings
 pub mod Patterns

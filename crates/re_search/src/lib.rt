@@ -5,7 +5,6 @@ mod choice;
 mod line_parts;
 mod matcher;
 mod pattern;
-mod searchers;
 mod several;
 mod strings;
 
@@ -16,5 +15,4 @@ pub use pattern::{Pattern, read_pattern};
 pub use re_auto::Meter;
 pub use re_match::{Cached, LineMatch, Strings};
 pub use re_syntax::{Span, Syntax};
-pub use searchers::Searchers;
-pub use several::parts;
+pub use several::{count_matched, is_matched, next_matched, parts};

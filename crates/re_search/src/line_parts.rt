@@ -1,17 +1,19 @@
 //! All parts of one line, from the first to the last. Each byte of the line is one step of each
 //! matcher, however many parts there are.
 ghost use Rattle.std.specs.Prelude.{◌≡◌, ℕ, ◌+◌, ◌-◌, ◌*◌, ◌^◌, ◌<◌, ◌≤◌, [], ◌∷◌, false, IfOk, IfSome, length};
-ghost use Rattle.std.specs.Prelude.{map, replicate, true, vec_capacity};
+ghost use Rattle.std.specs.Prelude.{replicate, true, vec_capacity};
 ghost use Rattle.re_syntax.specs.Bytes.{Text};
 ghost use Rattle.re_auto.specs.Meters.{Steps};
-ghost use Rattle.re_auto.specs.Searches.{AddsAtMost, AllAnswer, FindsPart, SameMatchers};
+ghost use Rattle.re_auto.specs.Searches.{AddsAtMost, FindsPart};
 ghost use Rattle.re_meter.specs.Meters.{AddsUpTo};
 ghost use Rattle.re_match.specs.Working.Aheads.{IsWindowOf, past};
-ghost use Rattle.re_match.specs.Working.Same.{SameMatcher};
 ghost use Rattle.re_search.specs.Working.LineParts.{AreAllEnds, AreEnds, AreEndsIn, ArePartsOf};
 ghost use Rattle.re_search.specs.Working.LineParts.{FindsBefore, spent};
-ghost use Rattle.re_search.specs.Working.Sought.{Sought};
+ghost use Rattle.re_search.specs.Working.Matchers.{AreAlike, IsSame, SameMatchers};
+ghost use Rattle.re_search.specs.Working.Matchers.{expressions_of, matched_expression};
+ghost use Rattle.re_search.specs.Working.Sought.{Sought, sought_of};
 
+use crate::matcher::Matcher;
 use crate::several::line_part;
 use re_auto::Meter;
 use re_match::{Ahead, LineMatch, Window, rest_of};
@@ -132,21 +134,16 @@ impl LineParts {
     }
 
     // Looks at a window of the line.
-    fn look_at<M: LineMatch>(
-        &mut self,
-        matcher: &mut M,
-        line: &[u8],
-        window: Window,
-        meter: &mut Meter,
-    )
-        requires window { IsWindowOf (M.expression matcher.old) line.now window }
+    fn look_at(&mut self, matcher: &mut Matcher, line: &[u8], window: Window, meter: &mut Meter)
+        requires window { IsWindowOf (matched_expression matcher.old) line.now window }
         requires high { window.end ≤ length line.now }
         requires room { length line.now ≤ self.old.room }
-        ensures right { AreEndsIn (record { expressions = M.expression matcher.old ∷ []; whole = false })
-            line.now window.start window.end self.new }
+        ensures right { AreEndsIn
+            (record { expressions = matched_expression matcher.old ∷ []; whole = false }) line.now
+            window.start window.end self.new }
         ensures seen { self.new.seen ≡ past line.now window.end }
         ensures room { self.new.room ≡ self.old.room }
-        ensures same { SameMatcher M.expression M.whole M.room matcher.old matcher.new }
+        ensures same { IsSame matcher.old matcher.new }
         ensures steps { AddsUpTo (window.end - window.start) 0 meter.old meter.new }
     {
         self.open(line, window);
@@ -154,14 +151,13 @@ impl LineParts {
     }
 
     // Looks at the whole line.
-    fn look_over<M: LineMatch>(&mut self, matchers: &mut [M], line: &[u8], meter: &mut Meter)
+    fn look_over(&mut self, matchers: &mut [Matcher], line: &[u8], meter: &mut Meter)
         requires room { length line.now ≤ self.old.room }
-        ensures right { (from : ℕ) → ArePartsOf
-            (record { expressions = map M.expression matchers.old; whole = false }) line.now from
-            self.new }
+        ensures right { (from : ℕ) → ArePartsOf (sought_of false matchers.old)
+            line.now from self.new }
         ensures seen { self.new.seen ≡ length line.now }
         ensures room { self.new.room ≡ self.old.room }
-        ensures same_matchers { SameMatchers M.expression M.whole M.room matchers.old matchers.new }
+        ensures same_matchers { SameMatchers matchers.old matchers.new }
         ensures steps { AddsAtMost (length matchers.old * (length line.now + 1)) meter.old meter.new }
     {
         self.open(line, rest_of(line, 0));
@@ -169,10 +165,13 @@ impl LineParts {
     }
 }
 
-/// The next part of the line, by matchers that all give this answer to whether the whole line has
-/// to be matched: like [`crate::Searchers::next_part`].
-pub fn next_part<M: LineMatch>(
-    matchers: &mut [M],
+/// The next part of the line: the leftmost-longest of the stretches that are not empty, begin at
+/// `from` or later and are matched by some matcher (XBD 9.1). `whole` is what all matchers answer to
+/// whether the whole line has to be matched, and `parts` is what the parts before were searched with.
+/// All parts of a line take at most one step for each matcher and byte, and one more for each
+/// matcher, and pass at most as many bytes, however many they are. Nothing is allocated.
+pub fn next_part(
+    matchers: &mut [Matcher],
     whole: bool,
     line: &[u8],
     from: usize,
@@ -180,17 +179,13 @@ pub fn next_part<M: LineMatch>(
     meter: &mut Meter,
 ) -> Option<Span>
     requires within { from ≤ length line.now }
-    requires alike { AllAnswer whole (map M.whole matchers.old) }
+    requires alike { AreAlike whole matchers.old }
     requires room { length line.now ≤ parts.old.room }
-    requires right { ArePartsOf
-        (record { expressions = map M.expression matchers.old; whole = whole }) line.now from
-        parts.old }
-    ensures reported { FindsPart (map M.expression matchers.old) line.now whole from result }
-    ensures same_matchers { SameMatchers M.expression M.whole M.room matchers.old matchers.new }
+    requires right { ArePartsOf (sought_of whole matchers.old) line.now from parts.old }
+    ensures reported { FindsPart (expressions_of matchers.old) line.now whole from result }
+    ensures same_matchers { SameMatchers matchers.old matchers.new }
     ensures right { IfSome result
-        (λ part. ArePartsOf
-        (record { expressions = map M.expression matchers.old; whole = whole }) line.now part.end
-        parts.new) }
+        (λ part. ArePartsOf (sought_of whole matchers.old) line.now part.end parts.new) }
     ensures room { parts.new.room ≡ parts.old.room }
     ensures seen { parts.new.seen ≤ length line.now }
     ensures steps { (first : Steps) →
@@ -211,23 +206,20 @@ pub fn next_part<M: LineMatch>(
 }
 
 // The next part where the whole line has to be matched.
-fn next_whole<M: LineMatch>(
-    matchers: &mut [M],
+fn next_whole(
+    matchers: &mut [Matcher],
     line: &[u8],
     from: usize,
     parts: &mut LineParts,
     meter: &mut Meter,
 ) -> Option<Span>
     requires within { from ≤ length line.now }
-    requires alike { AllAnswer true (map M.whole matchers.old) }
-    requires right { ArePartsOf
-        (record { expressions = map M.expression matchers.old; whole = true }) line.now from parts.old }
-    ensures reported { FindsPart (map M.expression matchers.old) line.now true from result }
-    ensures same_matchers { SameMatchers M.expression M.whole M.room matchers.old matchers.new }
+    requires alike { AreAlike true matchers.old }
+    requires right { ArePartsOf (sought_of true matchers.old) line.now from parts.old }
+    ensures reported { FindsPart (expressions_of matchers.old) line.now true from result }
+    ensures same_matchers { SameMatchers matchers.old matchers.new }
     ensures right { IfSome result
-        (λ part. ArePartsOf
-        (record { expressions = map M.expression matchers.old; whole = true }) line.now part.end
-        parts.new) }
+        (λ part. ArePartsOf (sought_of true matchers.old) line.now part.end parts.new) }
     ensures room { parts.new.room ≡ parts.old.room }
     ensures seen { parts.new.seen ≤ length line.now }
     ensures steps { (first : Steps) →
@@ -245,8 +237,8 @@ fn next_whole<M: LineMatch>(
 }
 
 // The next part of the line, by one matcher, which looks at the line window by window.
-fn next_of_one<M: LineMatch>(
-    matcher: &mut M,
+fn next_of_one(
+    matcher: &mut Matcher,
     line: &[u8],
     from: usize,
     parts: &mut LineParts,
@@ -255,13 +247,13 @@ fn next_of_one<M: LineMatch>(
     requires within { from ≤ length line.now }
     requires room { length line.now ≤ parts.old.room }
     requires right { ArePartsOf
-        (record { expressions = M.expression matcher.old ∷ []; whole = false }) line.now from parts.old }
-    ensures reported { FindsPart (M.expression matcher.old ∷ []) line.now false from result }
-    ensures same { SameMatcher M.expression M.whole M.room matcher.old matcher.new }
-    ensures right { IfSome result
-        (λ part. ArePartsOf
-        (record { expressions = M.expression matcher.old ∷ []; whole = false }) line.now part.end
-        parts.new) }
+        (record { expressions = matched_expression matcher.old ∷ []; whole = false }) line.now from
+        parts.old }
+    ensures reported { FindsPart (matched_expression matcher.old ∷ []) line.now false from result }
+    ensures same { IsSame matcher.old matcher.new }
+    ensures right { IfSome result (λ part. ArePartsOf
+        (record { expressions = matched_expression matcher.old ∷ []; whole = false }) line.now
+        part.end parts.new) }
     ensures room { parts.new.room ≡ parts.old.room }
     ensures seen { parts.new.seen ≤ length line.now }
     ensures steps { (first : Steps) → AddsAtMost (spent parts.old.seen) first meter.old
@@ -322,8 +314,8 @@ fn fill(list: &mut Vec<usize>, count: usize)
 }
 
 // Gives each place of the line the greatest end of the parts that begin there.
-fn put_ends<M: LineMatch>(
-    matchers: &mut [M],
+fn put_ends(
+    matchers: &mut [Matcher],
     line: &[u8],
     ends: &mut [usize],
     spare: &mut Vec<usize>,
@@ -331,9 +323,8 @@ fn put_ends<M: LineMatch>(
 )
     requires zeros { ends.old ≡ replicate (length line.now) 0 }
     requires spare { length line.now ≤ vec_capacity spare.old }
-    ensures right { AreAllEnds
-        (record { expressions = map M.expression matchers.old; whole = false }) line.now ends.new }
-    ensures same_matchers { SameMatchers M.expression M.whole M.room matchers.old matchers.new }
+    ensures right { AreAllEnds (sought_of false matchers.old) line.now ends.new }
+    ensures same_matchers { SameMatchers matchers.old matchers.new }
     ensures room { length ends.new ≡ length ends.old }
     ensures spare { vec_capacity spare.old ≤ vec_capacity spare.new }
     ensures steps { AddsAtMost (length matchers.old * (length line.now + 1)) meter.old meter.new }

@@ -1,6 +1,6 @@
 //! Matchers made from the texts of patterns.
 ghost use Rattle.std.specs.Prelude.{◌≡◌, ◌+◌, ◌-◌, ◌<◌, ◌≤◌, ◌↔◌, ◌⊎◌, [], ◌∷◌, true, false, IsTrue};
-ghost use Rattle.std.specs.Prelude.{IfOk, IfErr, IfSome, length, map, vec_capacity};
+ghost use Rattle.std.specs.Prelude.{IfOk, IfErr, length, vec_capacity};
 ghost use Rattle.re_syntax.specs.Working.Trees.{expression_of};
 ghost use Rattle.re_syntax.specs.Holds.{Matches, positions};
 ghost use Rattle.re_syntax.specs.Profile.{most_positions, most_states};
@@ -8,8 +8,7 @@ ghost use Rattle.re_syntax.specs.Spelled.{IsMeant, has_limit};
 ghost use Rattle.re_search.specs.Reading.{IsSmallFor, IsReadable, IsOutOfMemory};
 ghost use Rattle.re_search.specs.Reading.{IsRefusedFor};
 ghost use Rattle.re_search.specs.Working.Matchers.{matched_expression, wants_whole, is_fixed};
-ghost use Rattle.re_search.specs.Working.Matchers.{room_of, entries_of, CountsSteps};
-ghost use Rattle.re_match.specs.Working.Same.{SameMatcher};
+ghost use Rattle.re_search.specs.Working.Matchers.{IsSame, room_of, entries_of, CountsSteps};
 ghost use Rattle.re_match.specs.declared.strings.Look.TheVariants.{One};
 ghost use Rattle.re_auto.specs.Searches.{FindsPart};
 ghost use Rattle.re_meter.specs.Meters.{AddsAtMost};
@@ -90,7 +89,7 @@ impl LineMatch for Matcher {
             Matches (matched_expression self.old) line.now (wants_whole self.old) }
         ensures steps { AddsAtMost (length line.now + 1) meter.old meter.new }
         ensures counted { CountsSteps line.now self.old meter.old self.new meter.new result }
-        ensures same { SameMatcher matched_expression wants_whole room_of self.old self.new }
+        ensures same { IsSame self.old self.new }
     {
         match self {
             Matcher::Strings(strings) => strings.is_match(line, meter),
@@ -103,7 +102,7 @@ impl LineMatch for Matcher {
         ensures reported { FindsPart (matched_expression self.old ∷ []) line.now false from result }
         ensures steps { AddsAtMost (length line.now - from + 1) meter.old meter.new }
         ensures same_entries { entries_of self.new ≡ entries_of self.old }
-        ensures same { SameMatcher matched_expression wants_whole room_of self.old self.new }
+        ensures same { IsSame self.old self.new }
     {
         match self {
             Matcher::Strings(strings) => strings.find(line, from, meter),

@@ -1,14 +1,19 @@
 //! Several matchers over one line (XCU grep: a line is selected where any of the patterns matches
 //! it).
-ghost use Rattle.std.specs.Prelude.{ℕ, Bool, true, List, ◌≡◌, ◌+◌, ◌-◌, ◌*◌, ◌≤◌, ◌++◌, length};
-ghost use Rattle.std.specs.Prelude.{map};
+ghost use Rattle.std.specs.Prelude.{ℕ, Bool, true, List, ◌+◌, ◌-◌, ◌*◌, ◌<◌, ◌≤◌, ◌++◌, ◌↔◌, length};
+ghost use Rattle.std.specs.Prelude.{IfSome, IsTrue};
 ghost use Rattle.re_syntax.specs.Bytes.{Text};
 ghost use Rattle.re_syntax.specs.Expression.{Expression};
-ghost use Rattle.re_auto.specs.Searches.{FindsPart, DecidesMatchOfAll, AllAnswer};
-ghost use Rattle.re_auto.specs.Searches.{AddsAtMost, SameMatchers};
+ghost use Rattle.re_syntax.specs.Lines.{lines_of};
+ghost use Rattle.re_auto.specs.Searches.{AddsAtMost, FindsPart};
+ghost use Rattle.re_runs.specs.Working.Blocks.{IsBlock, next_cost};
+ghost use Rattle.re_search.specs.Working.Matchers.{AreAlike, SameMatchers, expressions_of};
+ghost use Rattle.re_search.specs.Working.Sought.{CountsSought, FindsSought, IsSought, sought_of};
 
+use crate::matcher::Matcher;
 use re_auto::Meter;
 use re_match::LineMatch;
+use re_runs::line_end;
 use re_syntax::Span;
 
 /// The next part of the line: the leftmost-longest of the stretches that are not empty, begin at
@@ -16,17 +21,17 @@ use re_syntax::Span;
 /// whether the whole line has to be matched. Called with 0 and then with the end of each part, it returns
 /// all parts of the line. It takes at most one step for each matcher and byte from `from` on, and
 /// one more for each matcher, and passes at most as many bytes.
-pub fn parts<M: LineMatch>(
-    matchers: &mut [M],
+pub fn parts(
+    matchers: &mut [Matcher],
     whole: bool,
     line: &[u8],
     from: usize,
     meter: &mut Meter,
 ) -> Option<Span>
     requires within { from ≤ length line.now }
-    requires alike { AllAnswer whole (map M.whole matchers.old) }
-    ensures reported { FindsPart (map M.expression matchers.old) line.now whole from result }
-    ensures same_matchers { SameMatchers M.expression M.whole M.room matchers.old matchers.new }
+    requires alike { AreAlike whole matchers.old }
+    ensures reported { FindsPart (expressions_of matchers.old) line.now whole from result }
+    ensures same_matchers { SameMatchers matchers.old matchers.new }
     ensures steps { AddsAtMost (length matchers.old * (length line.now - from + 1)) meter.old
         meter.new }
 {
@@ -43,19 +48,22 @@ pub fn parts<M: LineMatch>(
 
 /// The line, if the part is to begin there, and some matcher matches it. All have to answer that the
 /// whole line has to be matched.
-pub fn line_part<M: LineMatch>(
-    matchers: &mut [M],
+pub fn line_part(
+    matchers: &mut [Matcher],
     line: &[u8],
     from: usize,
     meter: &mut Meter,
 ) -> Option<Span>
-    requires { AllAnswer true (map M.whole matchers.old) }
-    ensures reported { FindsPart (map M.expression matchers.old) line.now true from result }
-    ensures same_matchers { SameMatchers M.expression M.whole M.room matchers.old matchers.new }
+    requires { AreAlike true matchers.old }
+    ensures reported { FindsPart (expressions_of matchers.old) line.now true from result }
+    ensures same_matchers { SameMatchers matchers.old matchers.new }
     ensures steps { AddsAtMost (length matchers.old * (length line.now - from + 1)) meter.old
         meter.new }
 {
-    if from > 0 || line.is_empty() || !is_matched(matchers, line, meter) {
+    if from > 0 || line.is_empty() {
+        return None;
+    }
+    if !is_matched(matchers, true, line, meter) {
         return None;
     }
     Some(Span {
@@ -85,15 +93,15 @@ fn better(best: Option<Span>, found: Option<Span>) -> Option<Span>
     best
 }
 
-/// Whether some matcher matches the line. All matchers have to agree on whether the whole line has
-/// to be matched. None is asked after the first that matches. It takes at most one step for each
-/// matcher and byte, and one more for each matcher.
-pub fn is_matched<M: LineMatch>(matchers: &mut [M], line: &[u8], meter: &mut Meter) -> bool
-    requires { (whole : Bool) × AllAnswer whole (map M.whole matchers.old) }
-    ensures reported { DecidesMatchOfAll (map M.expression matchers.old) (map M.whole matchers.old)
-        line.now result }
-    ensures same_matchers { SameMatchers M.expression M.whole M.room matchers.old matchers.new }
-    ensures steps { AddsAtMost (length matchers.old * (length line.now + 1)) meter.old meter.new }
+/// Whether some matcher matches the line. `whole` is what all matchers answer to whether the whole
+/// line has to be matched. None is asked after the first that matches. It takes at most one step for
+/// each matcher and byte, and one more for each matcher, and passes at most as many bytes.
+pub fn is_matched(matchers: &mut [Matcher], _whole: bool, line: &[u8], meter: &mut Meter) -> bool
+    requires alike { AreAlike _whole matchers.old }
+    ensures reported { IsTrue result ↔ IsSought (sought_of _whole matchers.old) line.now }
+    ensures same_matchers { SameMatchers matchers.old matchers.new }
+    ensures steps { AddsAtMost (length (expressions_of matchers.old) * (length line.now + 1))
+        meter.old meter.new }
 {
     for matcher in matchers.iter_mut() {
         if matcher.is_match(line, meter) {
@@ -101,4 +109,86 @@ pub fn is_matched<M: LineMatch>(matchers: &mut [M], line: &[u8], meter: &mut Met
         }
     }
     false
+}
+
+/// The first line of a block of whole lines that some matcher matches, by its place without its
+/// newline. `whole` is what all matchers answer to whether the whole line has to be matched. It takes
+/// at most one step for each matcher and byte up to that newline, and one more for each matcher, and
+/// passes at most as many bytes. If no line is matched, it takes at most one step for each matcher
+/// and byte of the block, and passes at most as many bytes.
+pub fn next_matched(
+    matchers: &mut [Matcher],
+    whole: bool,
+    block: &[u8],
+    meter: &mut Meter,
+) -> Option<Span>
+    requires alike { AreAlike whole matchers.old }
+    requires block { IsBlock block.now }
+    ensures reported { FindsSought (sought_of whole matchers.old) (lines_of block.now) result }
+    ensures within { IfSome result (λ at. (at.start ≤ at.end) × (at.end < length block.now)) }
+    ensures same_matchers { SameMatchers matchers.old matchers.new }
+    ensures steps { AddsAtMost (length (expressions_of matchers.old) * next_cost block.now result)
+        meter.old meter.new }
+{
+    if matchers.len() == 1 {
+        return matchers[0].next_matched(block, meter);
+    }
+    next_by_lines(matchers, whole, block, meter)
+}
+
+/// How many lines of a block of whole lines some matcher matches. `whole` is what all matchers answer
+/// to whether the whole line has to be matched. It takes at most one step for each matcher and byte,
+/// and passes at most as many bytes.
+pub fn count_matched(
+    matchers: &mut [Matcher],
+    whole: bool,
+    block: &[u8],
+    meter: &mut Meter,
+) -> u64
+    requires alike { AreAlike whole matchers.old }
+    requires block { IsBlock block.now }
+    ensures reported { CountsSought (sought_of whole matchers.old) (lines_of block.now) result }
+    ensures same_matchers { SameMatchers matchers.old matchers.new }
+    ensures steps { AddsAtMost (length (expressions_of matchers.old) * length block.now) meter.old
+        meter.new }
+{
+    if matchers.len() == 1 {
+        return matchers[0].count_matched(block, meter);
+    }
+    let mut count: u64 = 0;
+    let mut rest = block;
+    'lines: loop {
+        let Some(at) = next_matched(matchers, whole, rest, meter) else {
+            return count;
+        };
+        count += 1;
+        rest = &rest[at.end + 1..];
+    }
+}
+
+// The first line of a block that some matcher matches. Each line is searched by itself.
+fn next_by_lines(
+    matchers: &mut [Matcher],
+    whole: bool,
+    block: &[u8],
+    meter: &mut Meter,
+) -> Option<Span>
+    requires alike { AreAlike whole matchers.old }
+    requires block { IsBlock block.now }
+    ensures reported { FindsSought (sought_of whole matchers.old) (lines_of block.now) result }
+    ensures within { IfSome result (λ at. (at.start ≤ at.end) × (at.end < length block.now)) }
+    ensures same_matchers { SameMatchers matchers.old matchers.new }
+    ensures steps { AddsAtMost (length (expressions_of matchers.old) * next_cost block.now result)
+        meter.old meter.new }
+{
+    let mut start = 0;
+    'lines: loop {
+        let Some(end) = line_end(block, start) else {
+            return None;
+        };
+        if is_matched(matchers, whole, &block[start..end], meter) {
+            return Some(Span { start, end });
+        }
+        start = end + 1;
+    }
 }

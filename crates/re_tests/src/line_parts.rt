@@ -1,13 +1,12 @@
 //! All parts of a line, in one search of it, by steps and by passed bytes, also while each allocation
 //! fails in turn. Where none is refused, each line is searched once.
-ghost use Rattle.std.specs.Prelude.{◌≤◌, false, IfOk, length, map};
-ghost use Rattle.re_search.specs.Searches.{AllAnswer};
-ghost use Rattle.re_search.specs.Working.Matchers.{wants_whole};
+ghost use Rattle.std.specs.Prelude.{◌≤◌, false, IfOk, length};
+ghost use Rattle.re_search.specs.Working.Matchers.{AreAlike};
 
 use crate::cache::{MOST, REFUSE, WAS_REFUSED, ask};
 use crate::matchers::ends_of;
 use re_auto::{Meter, fresh_meter};
-use re_search::{LineParts, Matcher, Searchers, Syntax, parts};
+use re_search::{LineParts, Matcher, Syntax, next_part, parts};
 use re_syntax::split_file;
 use std::alloc::{AllocError, Global};
 use std::process::Abort;
@@ -56,7 +55,7 @@ fn again(alloc: Global, letters: &[u8], times: usize) -> Result<Vec<u8>, Fail> {
 
 // The matchers of extended expressions, one a line.
 fn all_made(alloc: Global, texts: &[u8]) -> Result<Vec<Matcher>, Fail>
-    ensures { IfOk result (λ v. AllAnswer false (map wants_whole v.items)) }
+    ensures { IfOk result (λ v. AreAlike false v.items) }
 {
     let mut matchers = Vec::new(alloc);
     for text in split_file(texts) {
@@ -75,15 +74,14 @@ fn count_parts(
     line_parts: &mut LineParts,
     meter: &mut Meter,
 ) -> u64
-    requires alike { AllAnswer false (map wants_whole matchers.old) }
-    requires others { AllAnswer false (map wants_whole others.old) }
+    requires alike { AreAlike false matchers.old }
+    requires others { AreAlike false others.old }
     requires room { length line.now ≤ line_parts.old.room }
 {
-    let mut searchers = Searchers::new(matchers, false);
     line_parts.begin();
     let mut from = 0;
     let mut count: u64 = 0;
-    while let Some(part) = searchers.next_part(line, from, line_parts, meter) {
+    while let Some(part) = next_part(matchers, false, line, from, line_parts, meter) {
         let expected = parts(others, false, line, from, &mut fresh_meter());
         assert_eq!(rt; Some((part.start, part.end)), ends_of(expected), "{line:?}");
         from = part.end;
@@ -111,8 +109,8 @@ fn searched_without(
     row: &Row,
     n: usize,
 ) -> Result<bool, AllocError>
-    requires alike { AllAnswer false (map wants_whole matchers.old) }
-    requires others { AllAnswer false (map wants_whole others.old) }
+    requires alike { AreAlike false matchers.old }
+    requires others { AreAlike false others.old }
 {
     let asked = matchers.len();
     let mut line_parts = LineParts::new(alloc);

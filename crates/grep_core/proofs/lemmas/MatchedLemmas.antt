@@ -87,15 +87,15 @@ run_stops contents failures s {block} {sent} {run} {start} a b c runs went stopp
     (all, are, subst (StopsWithin contents failures a c) (sym bytes) (stops_early contents failures a c (sent ++ slice_range block run start) (terminated more) (stops_later contents failures a b c sent (slice_range block run start) went stopped)))
 
 -- where selected lines are written as they are, they are the rows
-module _ (es : List Expression) (options : Options) (many : Bool) (name : Text) (bare : IsBare options many) (plain : options.invert_match ≡ false) (whole : Bool) (asks : whole ≡ options.line_regexp) where
-  pub rows_chosen : (number : ℕ) (ls all : List Text) → Chosen (IsSought (record { expressions = es; whole = whole })) ls all → (rows : List Text) × RowsOfLines es options many name number ls rows (length all) × (written [] rows ≡ terminated all)
+module _ (es : List Expression) (options : Options) (many : Bool) (name : Text) (bare : IsBare options many) (plain : options.invert_match ≡ false) where
+  pub rows_chosen : (number : ℕ) (ls all : List Text) → Chosen (IsSought (record { expressions = es; whole = options.line_regexp })) ls all → (rows : List Text) × RowsOfLines es options many name number ls rows (length all) × (written [] rows ≡ terminated all)
   rows_chosen number [] all none = ([], (refl, ap length none), sym (ap terminated none))
   rows_chosen number (l ∷ ls) all (front, rest, inl (holds, one), others, is) =
       let (rows, are, bytes) = rows_chosen (number + 1) ls rest others in
       let same : all ≡ l ∷ rest = is ∙ ap (λ f. f ++ rest) one in
       let own : List Text = (head colon (name_shown many name) (shown_number options number) ++ l) ∷ [] in
       let is_own : RowsOfSelected es options many (form options) name number l own = subst (λ shape. RowsOfSelected es options many shape name number l own) (sym bare.asked) refl in
-      let selected = selected_matched es options whole asks plain l holds in
+      let selected = selected_matched es options plain l holds in
       let none : head colon (name_shown many name) (shown_number options number) ≡ [] = rw (bare.no_name, bare.no_number) refl in (
         own ++ rows,
         (own, rows, true, length rest, inl (selected, is_own), decided_yes selected, are, refl, omega (arith, ap length same)),
@@ -104,7 +104,7 @@ module _ (es : List Expression) (options : Options) (many : Bool) (name : Text) 
   rows_chosen number (l ∷ ls) all (front, rest, inr (out, none), others, is) =
       let (rows, are, bytes) = rows_chosen (number + 1) ls rest others in
       let same : all ≡ rest = is ∙ ap (λ f. f ++ rest) none in
-      let unselected : ¬ Selected es options l = λ h. out (rw asks (rw plain at h)) in
+      let unselected : ¬ Selected es options l = λ h. out (rw plain at h) in
       (rows, ([], rows, false, length rest, inr (unselected, refl), decided_no unselected, are, refl, ap length same), bytes ∙ sym (ap terminated same))
 
 -- what a call writes that ends with a failed write
@@ -135,12 +135,12 @@ block_next block rest whole ahead room over = record {
 }
 
 -- what is written for them
-module _ {M : Type 0} {contents : M → Option Text} {failures : M → ℕ} {es : List Expression} {options : Options} {many : Bool} {name : Text} (bare : IsBare options many) (plain : options.invert_match ≡ false) {whole : Bool} (asks : whole ≡ options.line_regexp)
+module _ {M : Type 0} {contents : M → Option Text} {failures : M → ℕ} {es : List Expression} {options : Options} {many : Bool} {name : Text} (bare : IsBare options many) (plain : options.invert_match ≡ false)
     {R : Type 0} {now : Numbered R} {old new : M} {began ended : Steps} {block : Text} (is_block : IsBlock block) (next : IsNextOf now (lines_of block)) (steps : AddsAtMost (length es * length block) began ended)
-    (matched : List Text) (chosen : Chosen (IsSought (record { expressions = es; whole = whole })) (lines_of block) matched) where
+    (matched : List Text) (chosen : Chosen (IsSought (record { expressions = es; whole = options.line_regexp })) (lines_of block) matched) where
   pub takes_matched : {count found : ℕ} → GoesOut contents failures old new (terminated matched) → found ≡ length matched → count ≡ length (lines_of block) → TakesHeld es options many name now (writer contents failures old) (writer contents failures new) began ended (record { bytes = length block; count = count; found = found; goes_on = false })
   takes_matched went found counted =
-      let (rows, are, is) = rows_chosen es options many name bare plain whole asks (now.number + 1) (lines_of block) matched chosen in
+      let (rows, are, is) = rows_chosen es options many name bare plain (now.number + 1) (lines_of block) matched chosen in
       record {
         all = lines_of block;
         free = free_lines block is_block;
@@ -154,7 +154,7 @@ module _ {M : Type 0} {contents : M → Option Text} {failures : M → ℕ} {es 
 
   pub stops_matched : StopsWithin contents failures old new (terminated matched) → StopsHeld es options many name now (writer contents failures old) (writer contents failures new) began ended Write
   stops_matched stopped =
-      let (rows, are, is) = rows_chosen es options many name bare plain whole asks (now.number + 1) (lines_of block) matched chosen in
+      let (rows, are, is) = rows_chosen es options many name bare plain (now.number + 1) (lines_of block) matched chosen in
       record {
         all = lines_of block;
         free = free_lines block is_block;

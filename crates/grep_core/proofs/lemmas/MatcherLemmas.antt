@@ -1,5 +1,5 @@
 -- The matchers of patterns, one more at a time.
-use Rattle.grep_core.proofs.Prelude.{◌≡◌, ℕ, ◌+◌, ◌<◌, List, [], ◌∷◌, ◌++◌, All, ◌⊎◌, inl, inr, length, map, take, get_or, refl, sym, ap, ◌∙◌, subst, arith, length_push, map-append, Bool, All-push, AllZip, PatternFault, Syntax, Text, IsMeant, Matcher, IsSmallFor, IsReadable, IsRefusedFor, IsOutOfMemory, matched_expression, wants_whole, Options, IsFirstRefused, AreMatchers}
+use Rattle.grep_core.proofs.Prelude.{◌≡◌, ℕ, ◌+◌, ◌<◌, List, [], ◌∷◌, ◌++◌, All, ◌⊎◌, inl, inr, length, map, take, get_or, refl, sym, ap, ◌∙◌, subst, arith, length_push, map-append, Bool, All-push, AllZip, PatternFault, Syntax, Text, IsMeant, Matcher, IsSmallFor, IsReadable, IsRefusedFor, IsOutOfMemory, matched_expression, expressions_of, wants_whole, Options, IsFirstRefused, AreMatchers}
 use Rattle.re_search.proofs.lemmas.ReadingLaws.{refused_unreadable}
 
 -- two lists, element by element, joined
@@ -28,7 +28,7 @@ module _ (syntax : Syntax) (options : Options) where
         subst (λ ts. AreMatchers syntax options ts new) (sym both) (subst (AreMatchers syntax options (texts ++ text ∷ [])) (sym pushed) (record {
           meant =
               subst (AllZip (λ t e. IsMeant syntax options.ignore_case t e) (texts ++ text ∷ [])) (sym (map-append matched_expression matchers (m ∷ [])))
-              (AllZip-append (λ t e. IsMeant syntax options.ignore_case t e) texts (text ∷ []) (map matched_expression matchers) (matched_expression m ∷ []) s.meant (meant, tt));
+              (AllZip-append (λ t e. IsMeant syntax options.ignore_case t e) texts (text ∷ []) (expressions_of matchers) (matched_expression m ∷ []) s.meant (meant, tt));
           wholes = subst (All (λ w. w ≡ options.line_regexp)) (sym (map-append wants_whole matchers (m ∷ []))) (All-push (λ w. w ≡ options.line_regexp) (map wants_whole matchers) (wants_whole m) s.wholes whole);
           readable = All-push (IsReadable syntax options.ignore_case) texts text s.readable (matched_expression m, meant, small);
           counted = length_push matchers m ∙ ap (λ n. n + 1) s.counted ∙ sym (length_push texts text);

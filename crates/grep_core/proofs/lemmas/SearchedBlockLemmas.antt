@@ -123,21 +123,21 @@ bare_bytes options many name bare number (l ∷ ls) =
     ∙ ap (λ t. l ++ newline ∷ t) (bare_bytes options many name bare (number + 1) ls)
 
 -- under `-v` a line is selected exactly if it is not matched, and else if it is
-module _ (es : List Expression) (options : Options) (whole : Bool) (asks : whole ≡ options.line_regexp) where
+module _ (es : List Expression) (options : Options) where
   abbrev s : Sought
-  s = record { expressions = es; whole = whole }
+  s = record { expressions = es; whole = options.line_regexp }
 
   pub selected_matched : options.invert_match ≡ false → (line : Text) → IsSought s line → Selected es options line
-  selected_matched plain line h = rw plain (rw asks at h)
+  selected_matched plain line h = rw plain h
 
   pub unselected_unmatched : options.invert_match ≡ false → (ls : List Text) → All (λ line. ¬ IsSought s line) ls → All (λ line. ¬ Selected es options line) ls
-  unselected_unmatched plain ls none = λ k d below h. none k d below (rw asks (rw plain at h))
+  unselected_unmatched plain ls none = λ k d below h. none k d below (rw plain at h)
 
   pub selected_unmatched : options.invert_match ≡ true → (ls : List Text) → All (λ line. ¬ IsSought s line) ls → All (Selected es options) ls
-  selected_unmatched inverts ls none = λ k d below. rw inverts (λ m. none k d below (rw asks m))
+  selected_unmatched inverts ls none = λ k d below. rw inverts (λ m. none k d below m)
 
   pub unselected_matched : options.invert_match ≡ true → (line : Text) → IsSought s line → ¬ Selected es options line
-  unselected_matched inverts line h = λ selected. (rw inverts at selected) (rw asks at h)
+  unselected_matched inverts line h = λ selected. (rw inverts at selected) h
 
 -- where a stretch has lines only if lines are selected that are matched, they are
 pub plain_if : (invert : Bool) (count : ℕ) → (invert ≡ true → count ≡ 0) → 1 ≤ count → invert ≡ false
@@ -145,9 +145,9 @@ plain_if true count none some = absurd (omega (arith, some, none refl))
 plain_if false count none some = refl
 
 -- then none of the lines before the matched one is selected
-pub unselected_before : (es : List Expression) (options : Options) (whole : Bool) → whole ≡ options.line_regexp → (count : ℕ) → (options.invert_match ≡ true → count ≡ 0) → (ls : List Text) → length ls ≤ count → All (λ line. ¬ IsSought (record { expressions = es; whole = whole }) line) ls → All (λ line. ¬ Selected es options line) ls
-unselected_before es options whole asks count none ls few unsought = λ k d below.
-    unselected_unmatched es options whole asks (plain_if options.invert_match count none (omega (arith, few, below))) ls unsought k d below
+pub unselected_before : (es : List Expression) (options : Options) (count : ℕ) → (options.invert_match ≡ true → count ≡ 0) → (ls : List Text) → length ls ≤ count → All (λ line. ¬ IsSought (record { expressions = es; whole = options.line_regexp }) line) ls → All (λ line. ¬ Selected es options line) ls
+unselected_before es options count none ls few unsought = λ k d below.
+    unselected_unmatched es options (plain_if options.invert_match count none (omega (arith, few, below))) ls unsought k d below
 
 -- a stretch is asked for under `-v` only where rows are bare
 pub bare_if : {count : ℕ} {P : Type 0} (invert bare : Bool) → ((not invert || bare) ≡ false → count ≡ 0) → (IsTrue bare → P) → invert ≡ true → (count ≡ 0) ⊎ P
@@ -217,20 +217,20 @@ module _ {s : Sought} {stretch : SearchedBlock} {before all : List Text} (d : Is
   before_lines = ap lines_of d.bytes ∙ lines_of-terminated before before_free
 
   -- under `-v` they are its rows, and where it has none there is nothing to write
-  pub stretch_inverted : (es : List Expression) (options : Options) (whole : Bool) → whole ≡ options.line_regexp → s ≡ record { expressions = es; whole = whole } → (many : Bool) (name : Text) → options.invert_match ≡ true → (number : ℕ) → (stretch.count ≡ 0) ⊎ IsBare options many
+  pub stretch_inverted : (es : List Expression) (options : Options) → s ≡ record { expressions = es; whole = options.line_regexp } → (many : Bool) (name : Text) → options.invert_match ≡ true → (number : ℕ) → (stretch.count ≡ 0) ⊎ IsBare options many
       → (rows : List Text) × RowsOfLines es options many name number all rows (length before) × (stretch.before.now ≡ written [] rows)
-  stretch_inverted es options whole asks same many name inverts number (inl empty) =
+  stretch_inverted es options same many name inverts number (inl empty) =
       let none : all ≡ [] = nil_from_length all (omega (arith, empty, d.counted)) in
       let none_before : before ≡ [] = nil_from_length before (omega (arith, empty, before_within)) in
       ([], subst (λ ls. RowsOfLines es options many name number ls [] (length before)) (sym none) (refl, ap length none_before), d.bytes ∙ ap terminated none_before)
-  stretch_inverted es options whole asks same many name inverts number (inr bare) =
+  stretch_inverted es options same many name inverts number (inr bare) =
       (rows_selected options many name number before, rest stretch.line d.next, d.bytes ∙ sym (bare_bytes options many name bare number before))
     where
       first : RowsOfLines es options many name number before (rows_selected options many name number before) (length before)
-      first = rows_numbered es options many name bare.asked number before (selected_unmatched es options whole asks inverts before (subst (λ t. All (λ line. ¬ IsSought t line) before) same d.none))
+      first = rows_numbered es options many name bare.asked number before (selected_unmatched es options inverts before (subst (λ t. All (λ line. ¬ IsSought t line) before) same d.none))
 
       rest : (line : Option (Bor Text)) → MatchOption line (all ≡ before) (λ l. IsSought s l.now × (all ≡ before ++ l.now ∷ [])) → RowsOfLines es options many name number all (rows_selected options many name number before) (length before)
       rest None is = subst (λ ls. RowsOfLines es options many name number ls (rows_selected options many name number before) (length before)) (sym is) first
       rest (Some l) (holds, is) =
           subst (λ ls. RowsOfLines es options many name number ls (rows_selected options many name number before) (length before)) (sym is)
-          (rows_unmatched es options many name number before (rows_selected options many name number before) l.now first (unselected_matched es options whole asks inverts l.now (subst (λ t. IsSought t l.now) same holds)))
+          (rows_unmatched es options many name number before (rows_selected options many name number before) l.now first (unselected_matched es options inverts l.now (subst (λ t. IsSought t l.now) same holds)))

@@ -4,15 +4,14 @@ use Rattle.re_syntax.specs.declared.syntax.Syntax.{Syntax}
 use Rattle.re_syntax.specs.Bytes.{Text}
 use Rattle.re_search.specs.declared.matcher.Matcher.{Matcher}
 use Rattle.re_search.specs.Reading.{IsReadable}
-use Rattle.re_search.specs.Working.Matchers.{matched_expression, wants_whole}
-use Rattle.re_search.specs.Searches.{AllAnswer}
+use Rattle.re_search.specs.Working.Matchers.{AreAlike, expressions_of}
 use Rattle.grep_core.specs.declared.options.Options.{Options}
 use Rattle.grep_core.specs.Files.{AreMeant}
 
 -- one matcher for each pattern, each of which is readable
 pub record AreMatchers (syntax : Syntax) (options : Options) (texts : List Text)
     (matchers : List Matcher) : Type 0 where
-  pub meant : AreMeant syntax options texts (map matched_expression matchers)
-  pub wholes : AllAnswer options.line_regexp (map wants_whole matchers)
+  pub meant : AreMeant syntax options texts (expressions_of matchers)
+  pub wholes : AreAlike options.line_regexp matchers
   pub readable : All (IsReadable syntax options.ignore_case) texts
   pub counted : length matchers ≡ length texts

@@ -1,18 +1,18 @@
 //! The search of one source, with lines around the selected ones.
-ghost use Rattle.std.specs.Prelude.{◌≡◌, ◌⊎◌, ◌-◌, ◌≤◌, ℕ, [], ◌∷◌, ◌++◌, length, Err, IfOk};
+ghost use Rattle.std.specs.Prelude.{◌≡◌, ◌⊎◌, ◌-◌, ◌≤◌, [], ◌∷◌, ◌++◌, length, Err, IfOk};
 ghost use Rattle.std.specs.Prelude.{if◌then◌else◌};
 ghost use Rattle.re_syntax.specs.Lines.{lines_of};
-ghost use Rattle.re_search.specs.Working.Searchers.{SameSearchers, asks_whole, expressions_by};
+ghost use Rattle.re_search.specs.Working.Matchers.{AreAlike, SameMatchers, expressions_of};
 ghost use Rattle.re_search.specs.Working.Blocks.{IsBlock};
 ghost use Rattle.grep_core.specs.Around.{group_separator};
 ghost use Rattle.grep_core.specs.Row.{output_line};
 ghost use Rattle.grep_core.specs.Output.{form, around, written};
 ghost use Rattle.grep_io.specs.Reading.{open_source, OneLeft};
-ghost use Rattle.grep_core.specs.Run.{writer, TakesAll};
+ghost use Rattle.grep_core.specs.Run.{writer};
 ghost use Rattle.grep_io.specs.Written.{Writes};
 ghost use Rattle.grep_core.specs.Working.Passed.{Waits};
 ghost use Rattle.grep_core.specs.Working.Progress.{rows_around, row_by, rows_at, last_of};
-ghost use Rattle.grep_core.specs.Working.Progress.{next_shown, progress_from};
+ghost use Rattle.grep_core.specs.Working.Progress.{progress_from};
 ghost use Rattle.grep_core.specs.Working.ShownLines.{ShowGives};
 ghost use Rattle.grep_core.specs.Working.Given.{SearchGives};
 
@@ -27,7 +27,7 @@ use crate::search::recent::RecentLines;
 use crate::search::selection::is_selected;
 use crate::status::{FileEnd, FileFound, SearchFault};
 use grep_io::{CountedRead, CountedWrite, Lines, ReadFault, Stage, WriteFault};
-use re_search::{LineMatch, Meter, Searchers};
+use re_search::{Matcher, Meter};
 use std::alloc::{AllocError, Global};
 
 /// The lines around selected ones of a file: how far they are done, and the last that are not shown.
@@ -185,10 +185,10 @@ fn show_line<W: CountedWrite>(
 
 /// Searches the lines of a reader, from the first on: writes the rows of the selected lines and of
 /// those around them. Buffered output is sent before a read, which may wait.
-pub fn search_around<R: CountedRead, M: LineMatch, W: CountedWrite>(
+pub fn search_around<R: CountedRead, W: CountedWrite>(
     surroundings: &mut Surroundings,
     lines: &mut Lines<R>,
-    searchers: &mut Searchers<'_, M>,
+    matchers: &mut [Matcher],
     request: &FileRequest,
     out: &mut W,
     meter: &mut Meter,
@@ -197,24 +197,24 @@ pub fn search_around<R: CountedRead, M: LineMatch, W: CountedWrite>(
     requires still_open { lines.old.lines.stage ≡ Stage.Open }
     requires none_numbered { lines.old.number ≡ 0 }
     requires is_asked { form request.now.options ≡ around surroundings.old.progress.context }
-    requires whole { asks_whole searchers.old ≡ request.now.options.line_regexp }
+    requires alike { AreAlike request.now.options.line_regexp matchers.old }
     requires none_done { surroundings.old.progress
         ≡ progress_from surroundings.old.progress.context surroundings.old.progress.shown }
     requires none_after { surroundings.old.recent
         ≡ record { limit = surroundings.old.progress.context.before; lines = [] } }
-    ensures given { SearchGives (expressions_by M.expression searchers.old) request.now.options
+    ensures given { SearchGives (expressions_of matchers.old) request.now.options
         request.now.many surroundings.old.progress.shown
         (open_source request.now.name.now (R.remaining lines.old.lines.reader))
         (OneLeft (R.remaining lines.new.lines.reader))
         (R.failures lines.old.lines.reader) (R.failures lines.new.lines.reader)
         (writer W.contents W.failures out.old) (writer W.contents W.failures out.new)
         meter.old meter.new result }
-    ensures same { SameSearchers M.expression M.whole M.room searchers.old searchers.new }
+    ensures same { SameMatchers matchers.old matchers.new }
 {
     let mut selected: u64 = 0;
     'lines: loop {
         let asked = (surroundings.progress.left == 0) & !request.options.invert_match;
-        let stretch = next_held(lines, searchers, asked, meter);
+        let stretch = next_held(lines, matchers, request.options.line_regexp, asked, meter);
         let (bytes, count) = (stretch.bytes, stretch.count);
         if wait(stretch.before, stretch.before_count, surroundings).is_err() {
             return Err(SearchFault::Memory(lines.number()));
@@ -238,7 +238,7 @@ pub fn search_around<R: CountedRead, M: LineMatch, W: CountedWrite>(
         }
         let number = lines.number();
         let text = lines.line();
-        let found = is_selected(searchers, request.options, text, meter);
+        let found = is_selected(matchers, request.options, text, meter);
         let line = SearchedLine {
             selected: found,
             number,

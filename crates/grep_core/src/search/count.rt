@@ -1,6 +1,6 @@
 //! The search of one source, whose selected lines are only counted.
-ghost use Rattle.std.specs.Prelude.{◌≡◌, ℕ, ◌-◌, ◌≤◌, [], Err, IfOk, false, if◌then◌else◌};
-ghost use Rattle.re_search.specs.Working.Searchers.{SameSearchers, asks_whole, expressions_by};
+ghost use Rattle.std.specs.Prelude.{◌≡◌, ◌-◌, ◌≤◌, [], Err, false, if◌then◌else◌};
+ghost use Rattle.re_search.specs.Working.Matchers.{AreAlike, SameMatchers, expressions_of};
 ghost use Rattle.grep_core.specs.Output.{counts, form};
 ghost use Rattle.grep_io.specs.Reading.{open_source, OneLeft};
 ghost use Rattle.grep_core.specs.Run.{writer};
@@ -13,7 +13,7 @@ use crate::search::next_line::take_next;
 use crate::search::selection::is_selected;
 use crate::status::{FileEnd, FileFound, SearchFault};
 use grep_io::{CountedRead, CountedWrite, Lines, ReadFault, Stage};
-use re_search::{LineMatch, Meter, Searchers};
+use re_search::{Matcher, Meter, count_matched};
 
 // How many of `count` lines are selected, if `matched` are matched (XCU grep, option `-v`).
 fn count_selected(options: &Options, count: u64, matched: u64) -> u64
@@ -29,9 +29,9 @@ fn count_selected(options: &Options, count: u64, matched: u64) -> u64
 
 /// Searches the lines of a reader, from the first on, where only the number of selected lines is
 /// written, and that after the last line. Buffered output is sent before a read, which may wait.
-pub fn count_lines<R: CountedRead, M: LineMatch, W: CountedWrite>(
+pub fn count_lines<R: CountedRead, W: CountedWrite>(
     lines: &mut Lines<R>,
-    searchers: &mut Searchers<'_, M>,
+    matchers: &mut [Matcher],
     request: &FileRequest,
     out: &mut W,
     meter: &mut Meter,
@@ -40,21 +40,21 @@ pub fn count_lines<R: CountedRead, M: LineMatch, W: CountedWrite>(
     requires still_open { lines.old.lines.stage ≡ Stage.Open }
     requires none_numbered { lines.old.number ≡ 0 }
     requires is_asked { form request.now.options ≡ counts }
-    requires whole { asks_whole searchers.old ≡ request.now.options.line_regexp }
-    ensures given { SearchGives (expressions_by M.expression searchers.old) request.now.options
+    requires alike { AreAlike request.now.options.line_regexp matchers.old }
+    ensures given { SearchGives (expressions_of matchers.old) request.now.options
         request.now.many false (open_source request.now.name.now (R.remaining lines.old.lines.reader))
         (OneLeft (R.remaining lines.new.lines.reader))
         (R.failures lines.old.lines.reader) (R.failures lines.new.lines.reader)
         (writer W.contents W.failures out.old) (writer W.contents W.failures out.new)
         meter.old meter.new result }
-    ensures same { SameSearchers M.expression M.whole M.room searchers.old searchers.new }
+    ensures same { SameMatchers matchers.old matchers.new }
 {
     let options = &request.options;
     let mut selected: u64 = 0;
     'lines: loop {
         let block = lines.ready_lines();
         let (bytes, count) = (block.bytes.len(), block.count);
-        let matched = searchers.count_matched(block.bytes, meter);
+        let matched = count_matched(matchers, options.line_regexp, block.bytes, meter);
         lines.pass(bytes, count);
         selected = selected.saturating_add(count_selected(options, count, matched));
         match take_next(lines, out) {
@@ -62,7 +62,7 @@ pub fn count_lines<R: CountedRead, M: LineMatch, W: CountedWrite>(
             Ok(Some(end)) => return Ok(FileFound { end, selected }),
             Err(fault) => return Err(fault),
         }
-        let found = is_selected(searchers, request.options, lines.line(), meter);
+        let found = is_selected(matchers, request.options, lines.line(), meter);
         selected = count_found(selected, found);
     }
 }

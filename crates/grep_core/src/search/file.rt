@@ -1,7 +1,7 @@
 //! The search of one source.
-ghost use Rattle.std.specs.Prelude.{◌≡◌, ℕ, ◌+◌, ◌-◌, ◌^◌, ◌<◌, List, [], nat_lt, length, Err, IfOk};
+ghost use Rattle.std.specs.Prelude.{◌≡◌, ◌+◌, ◌-◌, ◌^◌, ◌<◌, [], length, Err};
 ghost use Rattle.std.specs.Prelude.{false, if◌then◌else◌};
-ghost use Rattle.re_search.specs.Working.Searchers.{SameSearchers, asks_whole, expressions_by};
+ghost use Rattle.re_search.specs.Working.Matchers.{AreAlike, SameMatchers, expressions_of};
 ghost use Rattle.grep_core.specs.Output.{form, written};
 ghost use Rattle.grep_io.specs.Reading.{open_source, OneLeft};
 ghost use Rattle.grep_io.specs.Written.{Writes};
@@ -22,7 +22,7 @@ use crate::search::requests::{SearchRequest, SourceRequest};
 use crate::sources::Sources;
 use crate::status::{FileEnd, FileFound, RunFault, SearchFault};
 use grep_io::{CountedRead, CountedWrite, Lines, ReadFault, Stage, WriteFault};
-use re_search::{LineMatch, LineParts, Meter, Searchers};
+use re_search::{LineParts, Matcher, Meter};
 
 /// One more, if a line was found.
 pub fn count_found(selected: u64, found: bool) -> u64
@@ -34,9 +34,9 @@ pub fn count_found(selected: u64, found: bool) -> u64
 
 /// Searches the lines of a reader, from the first on: writes the rows of the selected lines, and
 /// under `-q` and `-l` stops at the first. Buffered output is sent before a read, which may wait.
-fn search_lines<R: CountedRead, M: LineMatch, W: CountedWrite>(
+fn search_lines<R: CountedRead, W: CountedWrite>(
     lines: &mut Lines<R>,
-    searchers: &mut Searchers<'_, M>,
+    matchers: &mut [Matcher],
     request: &FileRequest,
     line_parts: &mut LineParts,
     out: &mut W,
@@ -46,20 +46,20 @@ fn search_lines<R: CountedRead, M: LineMatch, W: CountedWrite>(
     requires still_open { lines.old.lines.stage ≡ Stage.Open }
     requires none_numbered { lines.old.number ≡ 0 }
     requires plain { IsPlain (form request.now.options) }
-    requires whole { asks_whole searchers.old ≡ request.now.options.line_regexp }
-    ensures given { SearchGives (expressions_by M.expression searchers.old) request.now.options
+    requires alike { AreAlike request.now.options.line_regexp matchers.old }
+    ensures given { SearchGives (expressions_of matchers.old) request.now.options
         request.now.many false (open_source request.now.name.now (R.remaining lines.old.lines.reader))
         (OneLeft (R.remaining lines.new.lines.reader))
         (R.failures lines.old.lines.reader) (R.failures lines.new.lines.reader)
         (writer W.contents W.failures out.old) (writer W.contents W.failures out.new)
         meter.old meter.new result }
-    ensures same { SameSearchers M.expression M.whole M.room searchers.old searchers.new }
+    ensures same { SameMatchers matchers.old matchers.new }
 {
     let early = request.options.leaves_early();
     let bare = request.writes_bare_lines();
     let mut selected: u64 = 0;
     'lines: loop {
-        let held = write_held(lines, searchers, request, bare, line_parts, out, meter)?;
+        let held = write_held(lines, matchers, request, bare, line_parts, out, meter)?;
         lines.pass(held.bytes, held.count);
         selected = selected.saturating_add(held.found);
         if (held.found > 0) & early {
@@ -76,7 +76,7 @@ fn search_lines<R: CountedRead, M: LineMatch, W: CountedWrite>(
         }
         let number = lines.number();
         let line = lines.line();
-        let found = search_line(searchers, request, number, line, line_parts, out, meter)?;
+        let found = search_line(matchers, request, number, line, line_parts, out, meter)?;
         selected = count_found(selected, found);
         if found & early {
             let end = FileEnd::Left;
@@ -86,10 +86,10 @@ fn search_lines<R: CountedRead, M: LineMatch, W: CountedWrite>(
 }
 
 /// Searches the lines of a reader, from the first on, and writes the rows that the options ask for.
-fn search_opened<R: CountedRead, M: LineMatch, W: CountedWrite>(
+fn search_opened<R: CountedRead, W: CountedWrite>(
     source: &SourceRequest,
     lines: &mut Lines<R>,
-    searchers: &mut Searchers<'_, M>,
+    matchers: &mut [Matcher],
     request: &FileRequest,
     line_parts: &mut LineParts,
     out: &mut W,
@@ -98,23 +98,23 @@ fn search_opened<R: CountedRead, M: LineMatch, W: CountedWrite>(
     requires none_ahead { lines.old.lines.ahead ≡ [] }
     requires still_open { lines.old.lines.stage ≡ Stage.Open }
     requires none_numbered { lines.old.number ≡ 0 }
-    requires whole { asks_whole searchers.old ≡ request.now.options.line_regexp }
-    ensures given { SearchGives (expressions_by M.expression searchers.old) request.now.options
+    requires alike { AreAlike request.now.options.line_regexp matchers.old }
+    ensures given { SearchGives (expressions_of matchers.old) request.now.options
         request.now.many source.now.shown (open_source request.now.name.now (R.remaining lines.old.lines.reader))
         (OneLeft (R.remaining lines.new.lines.reader))
         (R.failures lines.old.lines.reader) (R.failures lines.new.lines.reader)
         (writer W.contents W.failures out.old) (writer W.contents W.failures out.new)
         meter.old meter.new result }
-    ensures same { SameSearchers M.expression M.whole M.room searchers.old searchers.new }
+    ensures same { SameMatchers matchers.old matchers.new }
 {
     if request.options.only_counts() {
-        return count_lines(lines, searchers, request, out, meter);
+        return count_lines(lines, matchers, request, out, meter);
     }
     let Some(context) = request.options.shown_around() else {
-        return search_lines(lines, searchers, request, line_parts, out, meter);
+        return search_lines(lines, matchers, request, line_parts, out, meter);
     };
     let mut surroundings = Surroundings::new(source.search.alloc, context, source.shown);
-    search_around(&mut surroundings, lines, searchers, request, out, meter)
+    search_around(&mut surroundings, lines, matchers, request, out, meter)
 }
 
 /// Writes what follows the rows of a source's lines. If a message about the source is due, buffered
@@ -170,10 +170,10 @@ fn end_source<W: CountedWrite, N: CountedWrite>(
 
 /// Opens the next source, searches its lines and returns its reader; writes its output and its
 /// message.
-pub fn search_source<S: Sources, M: LineMatch, W: CountedWrite, N: CountedWrite>(
+pub fn search_source<S: Sources, W: CountedWrite, N: CountedWrite>(
     source: &SourceRequest,
     sources: &mut S,
-    searchers: &mut Searchers<'_, M>,
+    matchers: &mut [Matcher],
     line_parts: &mut LineParts,
     out: &mut W,
     messages: &mut N,
@@ -181,20 +181,19 @@ pub fn search_source<S: Sources, M: LineMatch, W: CountedWrite, N: CountedWrite>
 ) -> Result<FileFound, RunFault>
     requires place { source.now.place < length (S.listed sources.old) }
     requires in_order { S.stands_at sources.old source.now.place }
-    requires whole { asks_whole searchers.old ≡ source.now.search.now.options.line_regexp }
+    requires alike { AreAlike source.now.search.now.options.line_regexp matchers.old }
     ensures listed { S.listed sources.new ≡ S.listed sources.old }
     ensures next { S.stands_at sources.new (source.now.place + 1) }
     ensures same_loan { S.loan sources.new ≡ S.loan sources.old }
-    ensures given { SourceGives (expressions_by M.expression searchers.old)
+    ensures given { SourceGives (expressions_of matchers.old)
         source.now.search.now.options source.now.many source.now.shown
         (source_at (S.listed sources.old) source.now.place)
         (Returns S.returned_readers sources.old sources.new) source.now.place
         (devices (writer W.contents W.failures out.old) (writer N.contents N.failures messages.old)
         (S.failures sources.old) meter.old)
         (devices (writer W.contents W.failures out.new) (writer N.contents N.failures messages.new)
-        (S.failures sources.new) meter.new)
-        result }
-    ensures same { SameSearchers M.expression M.whole M.room searchers.old searchers.new }
+        (S.failures sources.new) meter.new) result }
+    ensures same { SameMatchers matchers.old matchers.new }
 {
     let place = source.place;
     let Some(reader) = sources.open(place) else {
@@ -215,7 +214,7 @@ pub fn search_source<S: Sources, M: LineMatch, W: CountedWrite, N: CountedWrite>
     };
     let request = source.of_file(sources.name(place));
     let found = search_opened(
-        source, &mut lines, searchers, &request, line_parts, out, meter,
+        source, &mut lines, matchers, &request, line_parts, out, meter,
     );
     let ended = end_source(&request, place, found, out, messages);
     sources.close(lines.into_reader());

@@ -6,8 +6,8 @@ ghost use Rattle.re_syntax.specs.Lines.{terminated};
 ghost use Rattle.re_search.specs.Searches.{AddsAtMost};
 ghost use Rattle.re_search.specs.Meters.{Steps};
 ghost use Rattle.re_search.specs.Working.Blocks.{IsBlock};
-ghost use Rattle.re_search.specs.Working.Searchers.{SameSearchers, asks_whole, expressions_by};
-ghost use Rattle.re_search.specs.Working.Searchers.{sought_by};
+ghost use Rattle.re_search.specs.Working.Matchers.{AreAlike, SameMatchers, expressions_of};
+ghost use Rattle.re_search.specs.Working.Sought.{sought_of};
 ghost use Rattle.grep_core.specs.Cost.{SearchesLines};
 ghost use Rattle.grep_core.specs.Run.{writer};
 ghost use Rattle.grep_core.specs.Working.OneLine.{IsBare};
@@ -20,22 +20,23 @@ use crate::search::line::{make_room, write_selected};
 use crate::search::searched_block::{SearchedBlock, SearchedLines};
 use crate::status::SearchFault;
 use grep_io::{CountedRead, CountedWrite, Lines, WriteFault, count_newlines, push_all};
-use re_search::{LineMatch, LineParts, Meter, Searchers};
+use re_search::{LineParts, Matcher, Meter, next_matched};
 
 /// Searches the lines that are held in one piece up to the first that some matcher matches. None is
 /// searched where that is not asked, and where not all of them can be numbered.
-pub fn next_held<'a, R: CountedRead, M: LineMatch>(
+pub fn next_held<'a, R: CountedRead>(
     lines: &'a Lines<R>,
-    searchers: &mut Searchers<'_, M>,
+    matchers: &mut [Matcher],
+    whole: bool,
     asked: bool,
     meter: &mut Meter,
 ) -> SearchedBlock<'a>
+    requires { AreAlike whole matchers.old }
     ensures divided { (before : List Text) × (all : List Text)
-        × IsDivided (sought_by M.expression searchers.old) result before all
-        × IsNextOf lines.now all }
+        × IsDivided (sought_of whole matchers.old) result before all × IsNextOf lines.now all }
     ensures none { asked ≡ false → result.count ≡ 0 }
-    ensures same { SameSearchers M.expression M.whole M.room searchers.old searchers.new }
-    ensures steps { AddsAtMost (length (expressions_by M.expression searchers.old) * result.bytes)
+    ensures same { SameMatchers matchers.old matchers.new }
+    ensures steps { AddsAtMost (length (expressions_of matchers.old) * result.bytes)
         meter.old meter.new }
 {
     let block = lines.ready();
@@ -48,7 +49,7 @@ pub fn next_held<'a, R: CountedRead, M: LineMatch>(
             count: 0,
         };
     }
-    let Some(at) = searchers.next_matched(block, meter) else {
+    let Some(at) = next_matched(matchers, whole, block, meter) else {
         let count = count_newlines(block);
         return SearchedBlock {
             before: block,
@@ -97,24 +98,26 @@ fn write_run<W: CountedWrite>(
 
 // Writes the matched lines of a block as they are, neighbouring ones at once, and returns how many
 // they are.
-fn write_matched<M: LineMatch, W: CountedWrite>(
+fn write_matched<W: CountedWrite>(
     block: &[u8],
-    searchers: &mut Searchers<'_, M>,
+    matchers: &mut [Matcher],
+    whole: bool,
     out: &mut W,
     meter: &mut Meter,
 ) -> Result<u64, WriteFault>
-    requires { IsBlock block.now }
-    ensures written { WritesMatched W.contents W.failures (sought_by M.expression searchers.old)
+    requires alike { AreAlike whole matchers.old }
+    requires block { IsBlock block.now }
+    ensures written { WritesMatched W.contents W.failures (sought_of whole matchers.old)
         block.now out.old out.new result }
-    ensures same { SameSearchers M.expression M.whole M.room searchers.old searchers.new }
-    ensures steps { AddsAtMost (length (expressions_by M.expression searchers.old) * length block.now)
+    ensures same { SameMatchers matchers.old matchers.new }
+    ensures steps { AddsAtMost (length (expressions_of matchers.old) * length block.now)
         meter.old meter.new }
 {
     let mut found: u64 = 0;
     let mut run = 0;
     let mut start = 0;
     'lines: loop {
-        let Some(at) = searchers.next_matched(&block[start..], meter) else {
+        let Some(at) = next_matched(matchers, whole, &block[start..], meter) else {
             push_all(out, &block[run..start])?;
             return Ok(found);
         };
@@ -128,36 +131,35 @@ fn write_matched<M: LineMatch, W: CountedWrite>(
 /// are before it. Its lines are not searched again. Under `-v` its lines before the matched one are
 /// selected, and are written as they are. Where there is no room for the parts of the matched line,
 /// nothing is written.
-pub fn write_searched<M: LineMatch, W: CountedWrite>(
+pub fn write_searched<W: CountedWrite>(
     stretch: &SearchedBlock,
-    searchers: &mut Searchers<'_, M>,
+    matchers: &mut [Matcher],
     request: &FileRequest,
     number: u64,
     line_parts: &mut LineParts,
     out: &mut W,
     meter: &mut Meter,
 ) -> Result<u64, SearchFault>
-    requires whole { asks_whole searchers.old ≡ request.now.options.line_regexp }
+    requires alike { AreAlike request.now.options.line_regexp matchers.old }
     requires bare { request.now.options.invert_match ≡ true → (stretch.now.count ≡ 0)
         ⊎ IsBare request.now.options request.now.many }
     requires few { number + stretch.now.count < 2 ^ 64 }
     ensures ok { (before : List Text) (all : List Text)
-        → IsDivided (sought_by M.expression searchers.old) stretch.now before all → IfOk result
-        (λ found. TakesLines (expressions_by M.expression searchers.old) request.now.options
+        → IsDivided (sought_of request.now.options.line_regexp matchers.old) stretch.now before all → IfOk result
+        (λ found. TakesLines (expressions_of matchers.old) request.now.options
         request.now.many request.now.name.now (number + 1) all
         (writer W.contents W.failures out.old) (writer W.contents W.failures out.new) found) }
     ensures err { (before : List Text) (all : List Text)
-        → IsDivided (sought_by M.expression searchers.old) stretch.now before all → IfErr result
-        (StopsLines (expressions_by M.expression searchers.old) request.now.options
+        → IsDivided (sought_of request.now.options.line_regexp matchers.old) stretch.now before all → IfErr result
+        (StopsLines (expressions_of matchers.old) request.now.options
         request.now.many request.now.name.now (number + 1) all
         (writer W.contents W.failures out.old) (writer W.contents W.failures out.new)) }
-    ensures same { SameSearchers M.expression M.whole M.room searchers.old searchers.new }
+    ensures same { SameMatchers matchers.old matchers.new }
     ensures steps { (before : List Text) (all : List Text)
-        → IsDivided (sought_by M.expression searchers.old) stretch.now before all
-        → (began : Steps) → AddsAtMost (length (expressions_by M.expression searchers.old)
-        * length (terminated all)) began meter.old
-        → SearchesLines request.now.options
-        (length (expressions_by M.expression searchers.old)) all began meter.new }
+        → IsDivided (sought_of request.now.options.line_regexp matchers.old) stretch.now before all
+        → (began : Steps) → AddsAtMost (length (expressions_of matchers.old)
+        * length (terminated all)) began meter.old → SearchesLines request.now.options
+        (length (expressions_of matchers.old)) all began meter.new }
 {
     if request.options.invert_match {
         push_all(out, stretch.before)?;
@@ -170,7 +172,7 @@ pub fn write_searched<M: LineMatch, W: CountedWrite>(
         return Err(SearchFault::Memory(number));
     }
     let last = number + stretch.count;
-    write_selected(searchers, request, last, line, line_parts, out, meter)?;
+    write_selected(matchers, request, last, line, line_parts, out, meter)?;
     Ok(1)
 }
 
@@ -178,31 +180,32 @@ pub fn write_searched<M: LineMatch, W: CountedWrite>(
 /// are the matched lines as they are, all lines of the piece are searched; else none after the first
 /// that is matched. `bare` says whether the rows are the lines as they are.
 #[inline(always)]
-pub fn write_held<R: CountedRead, M: LineMatch, W: CountedWrite>(
+pub fn write_held<R: CountedRead, W: CountedWrite>(
     lines: &Lines<R>,
-    searchers: &mut Searchers<'_, M>,
+    matchers: &mut [Matcher],
     request: &FileRequest,
     bare: bool,
     line_parts: &mut LineParts,
     out: &mut W,
     meter: &mut Meter,
 ) -> Result<SearchedLines, SearchFault>
-    requires whole { asks_whole searchers.old ≡ request.now.options.line_regexp }
+    requires alike { AreAlike request.now.options.line_regexp matchers.old }
     requires bare { IsTrue bare → IsBare request.now.options request.now.many }
-    ensures ok { IfOk result (TakesHeld (expressions_by M.expression searchers.old)
+    ensures ok { IfOk result (TakesHeld (expressions_of matchers.old)
         request.now.options request.now.many request.now.name.now lines.now
         (writer W.contents W.failures out.old) (writer W.contents W.failures out.new)
         meter.old meter.new) }
-    ensures err { IfErr result (StopsHeld (expressions_by M.expression searchers.old)
+    ensures err { IfErr result (StopsHeld (expressions_of matchers.old)
         request.now.options request.now.many request.now.name.now lines.now
         (writer W.contents W.failures out.old) (writer W.contents W.failures out.new)
         meter.old meter.new) }
-    ensures same { SameSearchers M.expression M.whole M.room searchers.old searchers.new }
+    ensures same { SameMatchers matchers.old matchers.new }
 {
     let invert = request.options.invert_match;
+    let whole = request.options.line_regexp;
     let block = lines.ready();
     if bare && !invert && lines.may_number(block.len()) {
-        let found = write_matched(block, searchers, out, meter)?;
+        let found = write_matched(block, matchers, whole, out, meter)?;
         return Ok(SearchedLines {
             bytes: block.len(),
             count: count_newlines(block),
@@ -210,9 +213,9 @@ pub fn write_held<R: CountedRead, M: LineMatch, W: CountedWrite>(
             goes_on: false,
         });
     }
-    let stretch = next_held(lines, searchers, !invert | bare, meter);
+    let stretch = next_held(lines, matchers, whole, !invert | bare, meter);
     let number = lines.number();
-    let found = write_searched(&stretch, searchers, request, number, line_parts, out, meter)?;
+    let found = write_searched(&stretch, matchers, request, number, line_parts, out, meter)?;
     Ok(SearchedLines {
         bytes: stretch.bytes,
         count: stretch.count,

@@ -1,7 +1,7 @@
 //! One line: whether it is selected, and what is written for it.
 ghost use Rattle.std.specs.Prelude.{◌≡◌, ◌<◌, ◌≤◌, length, IfErr, IfOk, OnErr};
 ghost use Rattle.re_search.specs.Searches.{AddsAtMost};
-ghost use Rattle.re_search.specs.Working.Searchers.{SameSearchers, asks_whole, expressions_by};
+ghost use Rattle.re_search.specs.Working.Matchers.{AreAlike, SameMatchers, expressions_of};
 ghost use Rattle.grep_core.specs.Output.{form, parts};
 ghost use Rattle.grep_core.specs.Run.{writer};
 ghost use Rattle.grep_core.specs.Cost.{line_cost, parts_cost, search_cost};
@@ -13,7 +13,7 @@ use crate::output::request::FileRequest;
 use crate::search::selection::is_selected;
 use crate::status::SearchFault;
 use grep_io::{CountedWrite, WriteFault};
-use re_search::{LineMatch, LineParts, Meter, Searchers};
+use re_search::{LineParts, Matcher, Meter, next_part};
 use std::alloc::AllocError;
 
 /// Makes room for the parts of a line, if they are written.
@@ -42,8 +42,8 @@ pub fn make_room(
 }
 
 /// Writes the parts of a line, each after the line's head.
-fn write_parts<M: LineMatch, W: CountedWrite>(
-    searchers: &mut Searchers<'_, M>,
+fn write_parts<W: CountedWrite>(
+    matchers: &mut [Matcher],
     request: &FileRequest,
     number: u64,
     line: &[u8],
@@ -51,25 +51,25 @@ fn write_parts<M: LineMatch, W: CountedWrite>(
     out: &mut W,
     meter: &mut Meter,
 ) -> Result<(), WriteFault>
-    requires whole { asks_whole searchers.old ≡ request.now.options.line_regexp }
+    requires alike { AreAlike request.now.options.line_regexp matchers.old }
     requires asked { form request.now.options ≡ parts }
     requires room { length line.now ≤ line_parts.old.room }
     ensures ok { IfOk result
-        (λ _. WritesSelected (expressions_by M.expression searchers.old) request.now.options request.now.many
+        (λ _. WritesSelected (expressions_of matchers.old) request.now.options request.now.many
         request.now.name.now number line.now (writer W.contents W.failures out.old)
         (writer W.contents W.failures out.new)) }
     ensures err { OnErr result
-        (BreaksSelected (expressions_by M.expression searchers.old) request.now.options request.now.many
+        (BreaksSelected (expressions_of matchers.old) request.now.options request.now.many
         request.now.name.now number line.now (writer W.contents W.failures out.old)
         (writer W.contents W.failures out.new)) }
-    ensures same { SameSearchers M.expression M.whole M.room searchers.old searchers.new }
+    ensures same { SameMatchers matchers.old matchers.new }
     ensures steps { AddsAtMost
-        (search_cost (length (expressions_by M.expression searchers.old)) line.now) meter.old
-        meter.new }
+        (search_cost (length (expressions_of matchers.old)) line.now) meter.old meter.new }
 {
     line_parts.begin();
+    let whole = request.options.line_regexp;
     let mut from = 0;
-    while let Some(part) = searchers.next_part(line, from, line_parts, meter) {
+    while let Some(part) = next_part(matchers, whole, line, from, line_parts, meter) {
         request.write_part(number, line, part, out, b"")?;
         from = part.end;
     }
@@ -77,8 +77,8 @@ fn write_parts<M: LineMatch, W: CountedWrite>(
 }
 
 /// Writes the rows of a selected line, by what the options ask for.
-pub fn write_selected<M: LineMatch, W: CountedWrite>(
-    searchers: &mut Searchers<'_, M>,
+pub fn write_selected<W: CountedWrite>(
+    matchers: &mut [Matcher],
     request: &FileRequest,
     number: u64,
     line: &[u8],
@@ -86,23 +86,23 @@ pub fn write_selected<M: LineMatch, W: CountedWrite>(
     out: &mut W,
     meter: &mut Meter,
 ) -> Result<(), WriteFault>
-    requires whole { asks_whole searchers.old ≡ request.now.options.line_regexp }
+    requires alike { AreAlike request.now.options.line_regexp matchers.old }
     requires room { form request.now.options ≡ parts → length line.now ≤ line_parts.old.room }
     ensures ok { IfOk result
-        (λ _. WritesSelected (expressions_by M.expression searchers.old) request.now.options request.now.many
+        (λ _. WritesSelected (expressions_of matchers.old) request.now.options request.now.many
         request.now.name.now number line.now (writer W.contents W.failures out.old)
         (writer W.contents W.failures out.new)) }
     ensures err { OnErr result
-        (BreaksSelected (expressions_by M.expression searchers.old) request.now.options request.now.many
+        (BreaksSelected (expressions_of matchers.old) request.now.options request.now.many
         request.now.name.now number line.now (writer W.contents W.failures out.old)
         (writer W.contents W.failures out.new)) }
-    ensures same { SameSearchers M.expression M.whole M.room searchers.old searchers.new }
+    ensures same { SameMatchers matchers.old matchers.new }
     ensures steps { AddsAtMost (parts_cost request.now.options
-        (length (expressions_by M.expression searchers.old)) line.now) meter.old meter.new }
+        (length (expressions_of matchers.old)) line.now) meter.old meter.new }
 {
     match request.options.form() {
         Form::Lines => request.write_text(number, line, out, b""),
-        Form::Parts => write_parts(searchers, request, number, line, line_parts, out, meter),
+        Form::Parts => write_parts(matchers, request, number, line, line_parts, out, meter),
         Form::Nothing => Ok(()),
         Form::Names => Ok(()),
         Form::Counts => Ok(()),
@@ -112,8 +112,8 @@ pub fn write_selected<M: LineMatch, W: CountedWrite>(
 
 /// Writes the rows of a line, if there are any, and returns whether it is selected. Where there is
 /// no room for its parts, nothing is written.
-pub fn search_line<M: LineMatch, W: CountedWrite>(
-    searchers: &mut Searchers<'_, M>,
+pub fn search_line<W: CountedWrite>(
+    matchers: &mut [Matcher],
     request: &FileRequest,
     number: u64,
     line: &[u8],
@@ -121,26 +121,26 @@ pub fn search_line<M: LineMatch, W: CountedWrite>(
     out: &mut W,
     meter: &mut Meter,
 ) -> Result<bool, SearchFault>
-    requires whole { asks_whole searchers.old ≡ request.now.options.line_regexp }
+    requires alike { AreAlike request.now.options.line_regexp matchers.old }
     requires first { 0 < number }
     ensures ok { IfOk result
-        (λ found. TakesLine (expressions_by M.expression searchers.old) request.now.options request.now.many
+        (λ found. TakesLine (expressions_of matchers.old) request.now.options request.now.many
         request.now.name.now number line.now (writer W.contents W.failures out.old)
         (writer W.contents W.failures out.new) found) }
     ensures err { IfErr result
-        (StopsLine (expressions_by M.expression searchers.old) request.now.options request.now.many
+        (StopsLine (expressions_of matchers.old) request.now.options request.now.many
         request.now.name.now number line.now (writer W.contents W.failures out.old)
         (writer W.contents W.failures out.new)) }
-    ensures same { SameSearchers M.expression M.whole M.room searchers.old searchers.new }
+    ensures same { SameMatchers matchers.old matchers.new }
     ensures steps { AddsAtMost (line_cost request.now.options
-        (length (expressions_by M.expression searchers.old)) line.now) meter.old meter.new }
+        (length (expressions_of matchers.old)) line.now) meter.old meter.new }
 {
-    if !is_selected(searchers, request.options, line, meter) {
+    if !is_selected(matchers, request.options, line, meter) {
         return Ok(false);
     }
     if make_room(request, line, line_parts).is_err() {
         return Err(SearchFault::Memory(number - 1));
     }
-    write_selected(searchers, request, number, line, line_parts, out, meter)?;
+    write_selected(matchers, request, number, line, line_parts, out, meter)?;
     Ok(true)
 }

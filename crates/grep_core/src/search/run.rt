@@ -1,6 +1,6 @@
 //! The one pass over all sources.
-ghost use Rattle.std.specs.Prelude.{◌≡◌, map};
-ghost use Rattle.re_search.specs.Searches.{AllAnswer, SameMatchers};
+ghost use Rattle.std.specs.Prelude.{◌≡◌};
+ghost use Rattle.re_search.specs.Working.Matchers.{AreAlike, SameMatchers, expressions_of};
 ghost use Rattle.grep_core.specs.Run.{writer, RunGives, devices};
 ghost use Rattle.grep_core.specs.Sources.{Returns};
 
@@ -10,7 +10,7 @@ use crate::search::requests::{SearchRequest, SourceRequest};
 use crate::sources::Sources;
 use crate::status::{FileFound, RunFault, Status};
 use grep_io::CountedWrite;
-use re_search::{LineMatch, LineParts, Meter, Searchers};
+use re_search::{LineParts, Matcher, Meter};
 
 /// One pass over all sources, in order, each opened at most once and read once from front to back
 /// (XCU grep). It writes the output and the messages that grep's definition gives for the files for
@@ -33,28 +33,25 @@ use re_search::{LineMatch, LineParts, Meter, Searchers};
 /// sources before that one are written then, and the rows of its first lines. These are the lines
 /// that were done, and no more than a buffer or a line was read after them. No failed read, open or
 /// write is tried again.
-pub fn search_all<S: Sources, M: LineMatch, W: CountedWrite, N: CountedWrite>(
+pub fn search_all<S: Sources, W: CountedWrite, N: CountedWrite>(
     request: &SearchRequest,
     sources: &mut S,
-    matchers: &mut [M],
+    matchers: &mut [Matcher],
     out: &mut W,
     messages: &mut N,
     meter: &mut Meter,
 ) -> Result<Status, RunFault>
     requires in_order { S.stands_at sources.old 0 }
-    requires whole { AllAnswer request.now.options.line_regexp (map M.whole matchers.old) }
+    requires alike { AreAlike request.now.options.line_regexp matchers.old }
     ensures same_loan { S.loan sources.new ≡ S.loan sources.old }
-    ensures run { RunGives (map M.expression matchers.old) request.now.options (S.listed sources.old)
+    ensures run { RunGives (expressions_of matchers.old) request.now.options (S.listed sources.old)
         (Returns S.returned_readers sources.old sources.new)
         (devices (writer W.contents W.failures out.old) (writer N.contents N.failures messages.old)
         (S.failures sources.old) meter.old)
         (devices (writer W.contents W.failures out.new) (writer N.contents N.failures messages.new)
-        (S.failures sources.new) meter.new)
-        result }
-    ensures same_matchers { SameMatchers M.expression M.whole M.room matchers.old matchers.new }
+        (S.failures sources.new) meter.new) result }
+    ensures same_matchers { SameMatchers matchers.old matchers.new }
 {
-    let whole = request.options.line_regexp;
-    let mut searchers = Searchers::new(matchers, whole);
     let mut line_parts = LineParts::new(request.alloc);
     let count = sources.count();
     let many = count >= 2;
@@ -70,7 +67,7 @@ pub fn search_all<S: Sources, M: LineMatch, W: CountedWrite, N: CountedWrite>(
         let found = match search_source(
             &source,
             sources,
-            &mut searchers,
+            matchers,
             &mut line_parts,
             out,
             messages,

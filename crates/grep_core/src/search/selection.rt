@@ -1,30 +1,28 @@
 //! Whether a line is selected by several matchers.
-ghost use Rattle.std.specs.Prelude.{◌≡◌, ◌↔◌, IsTrue, length, map};
+ghost use Rattle.std.specs.Prelude.{◌≡◌, ◌↔◌, IsTrue, length};
 ghost use Rattle.re_search.specs.Searches.{AddsAtMost};
-ghost use Rattle.re_search.specs.Working.Searchers.{SameSearchers, asks_whole, expressions_by};
+ghost use Rattle.re_search.specs.Working.Matchers.{AreAlike, SameMatchers, expressions_of};
 ghost use Rattle.grep_core.specs.Cost.{search_cost};
 ghost use Rattle.grep_core.specs.Files.{Selected};
 
 use crate::options::Options;
-use re_search::{LineMatch, Meter, Searchers};
+use re_search::{Matcher, Meter, is_matched};
 
 /// Whether grep selects the line: some matcher matches it, and under `-v` none does (XCU grep,
 /// DESCRIPTION and option `-v`).
 #[inline(always)]
-pub fn is_selected<M: LineMatch>(
-    searchers: &mut Searchers<'_, M>,
+pub fn is_selected(
+    matchers: &mut [Matcher],
     options: Options,
     line: &[u8],
     meter: &mut Meter,
 ) -> bool
-    requires whole { asks_whole searchers.old ≡ options.line_regexp }
-    ensures reported { IsTrue result ↔ Selected (expressions_by M.expression searchers.old) options
-        line.now }
-    ensures same { SameSearchers M.expression M.whole M.room searchers.old searchers.new }
+    requires alike { AreAlike options.line_regexp matchers.old }
+    ensures reported { IsTrue result ↔ Selected (expressions_of matchers.old) options line.now }
+    ensures same { SameMatchers matchers.old matchers.new }
     ensures steps { AddsAtMost
-        (search_cost (length (expressions_by M.expression searchers.old)) line.now) meter.old
-        meter.new }
+        (search_cost (length (expressions_of matchers.old)) line.now) meter.old meter.new }
 {
-    let matched = searchers.is_matched(line, meter);
+    let matched = is_matched(matchers, options.line_regexp, line, meter);
     options.selects(matched)
 }

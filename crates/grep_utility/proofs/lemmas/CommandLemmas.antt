@@ -1,5 +1,5 @@
 -- How the whole command ends, from what its steps did.
-use Rattle.grep_utility.proofs.Prelude.{◌≡◌, ℕ, nat_lt, ◌<◌, ◌≤◌, ◌-◌, ◌^◌, Bool, true, false, List, [], ◌∷◌, Ok, Err, MatchBool, MatchResult, ◌⊎◌, inl, inr, length, map, refl, sym, ap, ◌∙◌, subst, arith, Option, ltb-false, false≢true, the_type, FaultKind, Syntax, PatternFault, Text, Steps, Matcher, IsOutOfMemory, matched_expression, Expression, Options, IsSameChoice, Writer, Devices, count_more, UsageFault, ReportsLines, GivesUp, SearchEnds, RefusesPattern, SearchesNamed, ReturnedAfter, DoesForRequest, CommandGives, Folder, sources_named, searched, IsPrepared, IsDue, HasNumber, due_text, CommandFault, TooMany, Refused, most_patterns, IsFirstRefused, folder_after_all, GivePatterns, too_many_patterns, fault_text, usage_texts, Asked, read, OrMemory}
+use Rattle.grep_utility.proofs.Prelude.{◌≡◌, ℕ, nat_lt, ◌<◌, ◌≤◌, ◌-◌, ◌^◌, Bool, true, false, List, [], ◌∷◌, Ok, Err, MatchBool, MatchResult, ◌⊎◌, inl, inr, length, map, refl, sym, ap, ◌∙◌, subst, arith, Option, ltb-false, false≢true, the_type, FaultKind, Syntax, PatternFault, Text, Steps, Matcher, IsOutOfMemory, expressions_of, Expression, Options, IsSameChoice, Writer, Devices, count_more, UsageFault, ReportsLines, GivesUp, SearchEnds, RefusesPattern, SearchesNamed, ReturnedAfter, DoesForRequest, CommandGives, Folder, sources_named, searched, IsPrepared, IsDue, HasNumber, due_text, CommandFault, TooMany, Refused, most_patterns, IsFirstRefused, folder_after_all, GivePatterns, too_many_patterns, fault_text, usage_texts, Asked, read, OrMemory}
 use denote.Enum.Bare.{sameb}
 use Rattle.re_syntax.specs.declared.fault.FaultKind.TheVariants.{Memory}
 use Rattle.grep_core.specs.Reading.{Source as FileSource}
@@ -78,13 +78,13 @@ module _ (folder : Folder) (given : List (Option Text) → Type 0) (words : List
 
   -- the files were searched, of which this is known once the patterns were read
   pub ends_after : (mid : Folder) (matchers : List Matcher) → IsPrepared asked folder mid matchers → (beyond : List (Option Text) → Type 0) → ((left : List (Option Text)) → beyond left → ReturnedAfter asked.sources given left)
-      → (old new : Devices) (status : ℕ) → SearchEnds (map matched_expression matchers) asked.options (sources_named mid (searched asked.files)) beyond old new status → CommandGives folder given old new status words
+      → (old new : Devices) (status : ℕ) → SearchEnds (expressions_of matchers) asked.options (sources_named mid (searched asked.files)) beyond old new status → CommandGives folder given old new status words
   ends_after mid matchers p beyond join old new status h =
       let later = folder_after_all folder asked.sources in
       let rest = ReturnedAfter asked.sources given in
-      let there = subst (λ f. SearchEnds (map matched_expression matchers) asked.options (sources_named f (searched asked.files)) beyond old new status) p.used h in
-      let known = given_ends asked.options (sources_named later (searched asked.files)) beyond rest join old new status (map matched_expression matchers) there in
-      let meant = served asked.options (sources_named later (searched asked.files)) rest old new status (map matched_expression matchers) p.serve.es p.serve.same p.serve.fewer known in
+      let there = subst (λ f. SearchEnds (expressions_of matchers) asked.options (sources_named f (searched asked.files)) beyond old new status) p.used h in
+      let known = given_ends asked.options (sources_named later (searched asked.files)) beyond rest join old new status (expressions_of matchers) there in
+      let meant = served asked.options (sources_named later (searched asked.files)) rest old new status (expressions_of matchers) p.serve.es p.serve.same p.serve.fewer known in
       let searches : SearchesNamed asked later p.texts rest old new status = record { readable = p.serve.readable; es = p.serve.es; are_meant = p.serve.meant; ends = meant } in
       words_read old new status
       (inr (p.texts, p.are_texts, subst (λ b. MatchBool b (GivesUp old new (too_many_patterns ∷ []) 0 status) (RefusesPattern asked later p.texts rest old new status ⊎ SearchesNamed asked later p.texts rest old new status)) (sym p.few) (inr searches)))

@@ -1,5 +1,5 @@
 -- Patterns that are joined into choices, one more at a time.
-use Rattle.grep_utility.proofs.Prelude.{◌≡◌, ◌≤◌, inl, inr, All, List, [], ◌∷◌, ◌++◌, Bool, length, length-append, map, refl, sym, ap, ◌∙◌, subst, arith, map-append, length-map, append_assoc, append-nil, All-push, Syntax, Text, Expression, alt, Matcher, matched_expression, wants_whole, Options, Pattern, meant_by, ArePatterns, AreGrouped, ServeFor, IsSameChoice}
+use Rattle.grep_utility.proofs.Prelude.{◌≡◌, ◌≤◌, inl, inr, All, List, [], ◌∷◌, ◌++◌, Bool, length, length-append, map, refl, sym, ap, ◌∙◌, subst, arith, map-append, length-map, append_assoc, append-nil, All-push, Syntax, Text, Expression, alt, Matcher, matched_expression, expressions_of, wants_whole, Options, Pattern, meant_by, ArePatterns, AreGrouped, ServeFor, IsSameChoice}
 use Rattle.grep_core.proofs.lemmas.SameChoice.{alt-is_same}
 use Rattle.grep_utility.proofs.lemmas.ServingLemmas.{of_either, of_first, of_second, more_choices, patterns_meant}
 
@@ -19,7 +19,7 @@ module _ (whole : Bool) where
 
   module _ (es : List Expression) (matchers : List Matcher) (choice : List Expression) (g : AreGrouped whole es matchers choice) where
     abbrev ms : List Expression
-    ms = map matched_expression matchers
+    ms = expressions_of matchers
 
     -- one expression more joins the choice
     pub pattern_joins : (e : Expression) (new : List Expression) → new ≡ choice ++ e ∷ [] → AreGrouped whole (es ++ e ∷ []) matchers new
@@ -37,8 +37,8 @@ module _ (whole : Bool) where
       wholes = wholes_more matchers m new is g.wholes answers;
     }
       where
-        all : map matched_expression new ++ [] ≡ ms ++ alt choice ∷ []
-        all = append-nil (map matched_expression new) ∙ ap (map matched_expression) is ∙ map-append matched_expression matchers (m ∷ []) ∙ ap (λ e. ms ++ e ∷ []) means
+        all : expressions_of new ++ [] ≡ ms ++ alt choice ∷ []
+        all = append-nil (expressions_of new) ∙ ap expressions_of is ∙ map-append matched_expression matchers (m ∷ []) ∙ ap (λ e. ms ++ e ∷ []) means
 
         closed : IsSameChoice (ms ++ alt choice ∷ []) es
         closed line i j = (
@@ -55,10 +55,10 @@ module _ (whole : Bool) where
   }
     where
       ms : List Expression
-      ms = map matched_expression matchers
+      ms = expressions_of matchers
 
-      all : map matched_expression new ++ [] ≡ (ms ++ []) ++ e ∷ []
-      all = append-nil (map matched_expression new) ∙ ap (map matched_expression) is ∙ map-append matched_expression matchers (m ∷ []) ∙ ap (λ d. ms ++ d ∷ []) means ∙ ap (λ l. l ++ e ∷ []) (sym (append-nil ms))
+      all : expressions_of new ++ [] ≡ (ms ++ []) ++ e ∷ []
+      all = append-nil (expressions_of new) ∙ ap expressions_of is ∙ map-append matched_expression matchers (m ∷ []) ∙ ap (λ d. ms ++ d ∷ []) means ∙ ap (λ l. l ++ e ∷ []) (sym (append-nil ms))
 
 -- all patterns have their matchers
 pub groups_serve : (syntax : Syntax) (options : Options) (texts : List Text) (patterns : List Pattern) (matchers : List Matcher) → ArePatterns syntax options.ignore_case texts patterns →
@@ -68,7 +68,7 @@ groups_serve syntax options texts patterns matchers are g =
     record {
       es = map (meant_by options.ignore_case) patterns;
       meant = meant;
-      same = subst (λ ds. IsSameChoice ds (map (meant_by options.ignore_case) patterns)) (append-nil (map matched_expression matchers)) g.same;
+      same = subst (λ ds. IsSameChoice ds (map (meant_by options.ignore_case) patterns)) (append-nil (expressions_of matchers)) g.same;
       fewer = omega (arith, g.fewer, length-map matchers matched_expression);
       wholes = g.wholes;
       readable = readable;

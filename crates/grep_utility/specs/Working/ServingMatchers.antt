@@ -7,10 +7,10 @@ use Rattle.re_syntax.specs.Expression.{Expression}
 use Rattle.re_search.specs.declared.matcher.Matcher.{Matcher}
 use Rattle.re_search.specs.Reading.{IsReadable}
 use Rattle.re_search.specs.Working.Literals.{any_literal, literal_meaning}
-use Rattle.re_search.specs.Working.Matchers.{matched_expression, wants_whole}
+use Rattle.re_search.specs.Working.Matchers.{AreAlike, expressions_of, matched_expression}
+use Rattle.re_search.specs.Working.Matchers.{wants_whole}
 use Rattle.re_search.specs.declared.pattern.Pattern.{Pattern}
 use Rattle.re_search.specs.Working.Patterns.{meant_by, IsPattern}
-use Rattle.re_search.specs.Searches.{AllAnswer}
 use Rattle.grep_core.specs.declared.options.Options.{Options}
 use Rattle.grep_core.specs.Files.{AreMeant}
 use Rattle.grep_core.specs.Working.SameChoice.{IsSameChoice}
@@ -21,9 +21,9 @@ pub record ServeFor (syntax : Syntax) (options : Options) (texts : List Text)
     (matchers : List Matcher) : Type 0 where
   pub es : List Expression
   pub meant : AreMeant syntax options texts es
-  pub same : IsSameChoice (map matched_expression matchers) es
-  pub fewer : length (map matched_expression matchers) ≤ length es
-  pub wholes : AllAnswer options.line_regexp (map wants_whole matchers)
+  pub same : IsSameChoice (expressions_of matchers) es
+  pub fewer : length (expressions_of matchers) ≤ length es
+  pub wholes : AreAlike options.line_regexp matchers
   pub readable : All (IsReadable syntax options.ignore_case) texts
 
 -- what patterns are read as
@@ -34,9 +34,9 @@ ArePatterns syntax fold texts patterns = AllZip (IsPattern syntax fold) texts pa
 -- as these expressions, and no more than these
 pub record AreGrouped (whole : Bool) (es : List Expression) (matchers : List Matcher)
     (choice : List Expression) : Type 0 where
-  pub same : IsSameChoice (map matched_expression matchers ++ choice) es
+  pub same : IsSameChoice (expressions_of matchers ++ choice) es
   pub fewer : length matchers + length choice ≤ length es
-  pub wholes : AllAnswer whole (map wants_whole matchers)
+  pub wholes : AreAlike whole matchers
 
 -- the patterns are strings: they mean the same choice as these
 abbrev pub AreReadAs : Bool → List Pattern → List Text → Type 0

@@ -1,5 +1,5 @@
 -- One matcher more of a list: what is known of those that were asked, before it was and afterwards.
-use Rattle.re_search.proofs.Prelude.{◌≡◌, ℕ, ◌+◌, ◌*◌, ◌<◌, Bool, true, false, inl, inr, List, [], ◌∷◌, ◌++◌, length, map, take, get_or, refl, sym, ap, ◌∙◌, arith, add-one, set, take-suc, map-set_same, false≢true, get_or-map, length-map, Text, Expression, Matches, SomeMatches, DecidesMatchOfAll, AllAnswer}
+use Rattle.re_search.proofs.Prelude.{◌≡◌, ℕ, ◌+◌, ◌*◌, ◌<◌, Bool, inl, inr, List, [], ◌∷◌, ◌++◌, length, map, take, get_or, refl, sym, ap, ◌∙◌, arith, add-one, set, take-suc, map-set_same, get_or-map, length-map, Text, Expression, Matches, SomeMatches, Matcher, AreAlike, expressions_of, wants_whole}
 use Rattle.re_auto.specs.Meters.{Steps}
 use Rattle.re_match.proofs.lemmas.StepSums.{adds_up}
 use Rattle.re_auto.specs.Searches.{AddsAtMost}
@@ -25,26 +25,24 @@ module _ {A B : Type 0} (f : A → B) (old now : List A) (same : map f now ≡ m
       let value = f (get_or now i d) in
       ap (λ n. take n (map f old)) (add-one i) ∙ take-suc (map f old) i value (within h).1 ∙ ap (λ v. take i (map f old) ++ v ∷ []) (value_at h value)
 
--- a matcher's answer to whether the whole line has to be matched is the one that all give
-pub answer_of : (whole w : Bool) (wholes : List Bool) (i : ℕ) → i < length wholes → get_or wholes i w ≡ w → AllAnswer whole wholes → w ≡ whole
-answer_of whole w wholes i h at all = sym at ∙ all i w h
+module _ (ms : List Matcher) (whole : Bool) (alike : AreAlike whole ms) (line : Text) (i : ℕ) (e : Expression) (w : Bool) (h : i < length (map wants_whole ms)) (at : get_or (map wants_whole ms) i w ≡ w) where
+  -- the matcher at place i answers as all do to whether the whole line has to be matched
+  answer : w ≡ whole
+  answer = sym at ∙ alike i w h
 
-module _ (es : List Expression) (wholes : List Bool) (line : Text) (i : ℕ) (e : Expression) (w : Bool) (h : i < length wholes) (at : get_or wholes i w ≡ w) where
+  abbrev es : List Expression
+  es = expressions_of ms
+
   -- nor does one matcher more match
-  pub none_more : take (i + 1) es ≡ take i es ++ e ∷ [] → DecidesMatchOfAll (take i es) wholes line false → (Matches e line w → ⊥) → DecidesMatchOfAll (take (i + 1) es) wholes line false
-  none_more next reported not whole all =
-      let answer = answer_of whole w wholes i h at all in
-      let neither : SomeMatches (take i es ++ e ∷ []) line whole → ⊥ = λ some. elim (Any-append-cases (λ e. Matches e line whole) (take i es) (e ∷ []) some) [
-        | inl a ↦ false≢true ((reported whole all).1 a)
-        | inr b ↦ not (rw answer (Any-single (λ e. Matches e line whole) e b))
-      ] in
-      (λ no. absurd (false≢true no), λ some. absurd (neither (rw (← next) some)))
+  pub none_more : take (i + 1) es ≡ take i es ++ e ∷ [] → ¬ SomeMatches (take i es) line whole → ¬ Matches e line w → ¬ SomeMatches (take (i + 1) es) line whole
+  none_more next none not some = elim (Any-append-cases (λ e. Matches e line whole) (take i es) (e ∷ []) (rw (← next) some)) [
+    | inl a ↦ none a
+    | inr b ↦ not (rw answer (Any-single (λ e. Matches e line whole) e b))
+  ]
 
   -- where one matcher matches some do
-  pub one_matches : i < length es → get_or es i e ≡ e → Matches e line w → DecidesMatchOfAll es wholes line true
-  one_matches within same m whole all =
-      let answer = answer_of whole w wholes i h at all in
-      (λ _. (i, e, within, same, rw answer at m), λ _. refl)
+  pub one_matches : i < length es → get_or es i e ≡ e → Matches e line w → SomeMatches es line whole
+  one_matches within same m = (i, e, within, same, rw answer at m)
 
 -- the steps of one search more
 pub steps_more : (i n : ℕ) (old middle new : Steps) → AddsAtMost (i * n) old middle → AddsAtMost n middle new → AddsAtMost ((i + 1) * n) old new

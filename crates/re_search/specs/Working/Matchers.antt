@@ -1,23 +1,34 @@
 -- The expression of a matcher of any kind, the entries of its cache, and how its steps are counted.
-use Rattle.std.specs.Prelude.{ℕ, ◌+◌, Bool, true, false, List, [], length}
+use Rattle.std.specs.Prelude.{ℕ, ◌+◌, Bool, true, false, List, [], length, map}
 use Rattle.re_syntax.specs.Bytes.{Text}
 use Rattle.re_syntax.specs.Expression.{Expression}
 use Rattle.re_syntax.specs.Working.Trees.{expression_of}
 use Rattle.re_auto.specs.Meters.{Steps}
+use Rattle.re_auto.specs.Searches.{AllAnswer}
+use Rattle.re_auto.specs.Searches as searches
 use Rattle.re_search.specs.declared.matcher.Matcher.{Matcher}
 use Rattle.re_search.specs.declared.matcher.Matcher.TheVariants as m
 use Rattle.re_match.specs.Working.Strings.{matched_strings, CountsLook}
 use Rattle.re_match.specs.Working.CachedMatchers.{AnswersLine}
+use Rattle.re_match.specs.Working.Same.{SameMatcher}
 
 -- the expression that a matcher looks for
 abbrev pub matched_expression : Matcher → Expression
 matched_expression (m.Strings strings) = matched_strings strings
 matched_expression (m.Cached matcher) = expression_of matcher.value.tree
 
+-- the expressions that matchers look for
+abbrev pub expressions_of : List Matcher → List Expression
+expressions_of = map matched_expression
+
 -- whether the whole line has to be matched
 abbrev pub wants_whole : Matcher → Bool
 wants_whole (m.Strings strings) = strings.whole
 wants_whole (m.Cached matcher) = matcher.value.whole
+
+-- all give this answer to that
+abbrev pub AreAlike : Bool → List Matcher → Type 0
+AreAlike whole matchers = AllAnswer whole (map wants_whole matchers)
 
 -- whether it looks for a string
 abbrev pub is_fixed : Matcher → Bool
@@ -32,6 +43,14 @@ entries_of (m.Cached matcher) = matcher.value.cache.entries
 abbrev pub room_of : Matcher → ℕ
 room_of (m.Strings strings) = 0
 room_of (m.Cached matcher) = matcher.value.most
+
+-- no search changes its expression, whether it wants whole lines, and how many entries it may have
+abbrev pub IsSame : Matcher → Matcher → Type 0
+IsSame = SameMatcher matched_expression wants_whole room_of
+
+-- nor of each of several in the same order
+abbrev pub SameMatchers : List Matcher → List Matcher → Type 0
+SameMatchers = searches.SameMatchers matched_expression wants_whole room_of
 
 -- how the steps of a search are counted: for strings exactly, with a cache by what it knew
 abbrev pub CountsSteps : Text → Matcher → Steps → Matcher → Steps → Bool → Type 0

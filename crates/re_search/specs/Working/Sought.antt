@@ -5,11 +5,17 @@ use Rattle.re_syntax.specs.Expression.{Expression}
 use Rattle.re_trees.specs.declared.span.Span.{Span}
 use Rattle.re_auto.specs.Searches.{SomeMatches}
 use Rattle.re_runs.specs.Working.Blocks.{PassesAll, FindsNext, HoldsOfMany}
+use Rattle.re_search.specs.declared.matcher.Matcher.{Matcher}
+use Rattle.re_search.specs.Working.Matchers.{expressions_of}
 
 -- the expressions, and whether the whole line has to be matched
 pub record Sought : Type 0 where
   pub expressions : List Expression
   pub whole : Bool
+
+-- what matchers search for that all give this answer to whether the whole line has to be matched
+abbrev pub sought_of : Bool → List Matcher → Sought
+sought_of whole matchers = record { expressions = expressions_of matchers; whole = whole }
 
 -- some expression matches the line
 abbrev pub IsSought : Sought → Text → Type 0

@@ -1,3 +1,4 @@
+use Rattle.re_search.specs.Working.Matchers.{matched_expression, wants_whole}
 use Rattle.std.proofs.Common.{arith}
 use Rattle.std.proofs.lemmas.List.{length-map}
 use Rattle.re_meter.proofs.lemmas.Adding.{adds_none}
@@ -8,7 +9,7 @@ use Rattle.gaxtrel.proofs.PartLemmas.{none_yet, one_more, none_more, goes_on_by}
 use Rattle.gaxtrel.proofs.line_parts.put_parts.Goals as goal
 
 pub loop-part-init : goal.loop-part-init
-loop-part-init g c = record {
+loop-part-init c = record {
   found = none_yet _ _ _ _ c.requires.within;
   room = rw c.begin.ensures.room c.requires.room;
   right = c.begin.ensures.right _ _ _;
@@ -17,23 +18,23 @@ loop-part-init g c = record {
 }
 
 pub next_part-requires-clause-within : goal.next_part-requires-clause-within
-next_part-requires-clause-within g c = c.loop-part.invariant.found.on_line
+next_part-requires-clause-within c = c.loop-part.invariant.found.on_line
 
 pub next_part-requires-clause-alike : goal.next_part-requires-clause-alike
-next_part-requires-clause-alike g c = rw c.loop-part.invariant.same.same_wholes c.requires.alike
+next_part-requires-clause-alike c = rw c.loop-part.invariant.same.same_wholes c.requires.alike
 
 pub next_part-requires-clause-right : goal.next_part-requires-clause-right
-next_part-requires-clause-right g c = rw c.loop-part.invariant.same.same_expressions c.loop-part.invariant.right
+next_part-requires-clause-right c = rw c.loop-part.invariant.same.same_expressions c.loop-part.invariant.right
 
 pub loop-part-smaller : goal.loop-part-smaller
-loop-part-smaller g c =
+loop-part-smaller c =
     let found = c.in-Some.ensures.reported.found in
     omega (arith, found.not_empty, found.on_line, found.begins)
 
 pub loop-part-preserved : goal.loop-part-preserved
-loop-part-preserved g c =
+loop-part-preserved c =
     let i = c.loop-part.invariant in
-    let many = same_length g.M.LineMatch.whole c.loop-part.matchers c.args.matchers.now i.same.same_wholes in
+    let many = same_length wants_whole c.loop-part.matchers c.args.matchers.now i.same.same_wholes in
     record {
       found = one_more _ _ _ _ _ _ _ _ c.in-Some.part i.found (rw i.same.same_expressions at c.in-Some.ensures.reported) c.put_part.ensures.put c.put_part.ensures.full;
       room = rw c.next_part.ensures.room i.room;
@@ -43,15 +44,15 @@ loop-part-preserved g c =
     }
 
 pub returns-clause-put : goal.returns-clause-put
-returns-clause-put g c =
+returns-clause-put c =
     let i = c.loop-part.invariant in
     none_more _ _ _ _ _ _ _ i.found (rw i.same.same_expressions at c.in_default.ensures.reported)
 
 pub returns-clause-steps : goal.returns-clause-steps
-returns-clause-steps g c =
+returns-clause-steps c =
     let i = c.loop-part.invariant in
-    let many = same_length g.M.LineMatch.whole c.loop-part.matchers c.args.matchers.now i.same.same_wholes in
-    rw (length-map c.args.matchers.now g.M.LineMatch.expression) (all_parts _ _ _ _ _ c.next_part.ensures.seen (goes_on_by _ _ _ _ _ _ _ many c.next_part.ensures.steps i.steps))
+    let many = same_length wants_whole c.loop-part.matchers c.args.matchers.now i.same.same_wholes in
+    rw (length-map c.args.matchers.now matched_expression) (all_parts _ _ _ _ _ c.next_part.ensures.seen (goes_on_by _ _ _ _ _ _ _ many c.next_part.ensures.steps i.steps))
 
 pub returns-clause-same : goal.returns-clause-same
-returns-clause-same g c = same_over c.next_part.ensures.same_matchers c.loop-part.invariant.same
+returns-clause-same c = same_over c.next_part.ensures.same_matchers c.loop-part.invariant.same

@@ -4,36 +4,36 @@ use Rattle.re_search.proofs.lemmas.LinePartsLaws.{none_later, parts_after, passe
 use Rattle.re_search.proofs.line_parts.next_of_one.Goals as goal
 
 pub returns-in-Some-clause-reported : goal.returns-in-Some-clause-reported
-returns-in-Some-clause-reported g c =
+returns-in-Some-clause-reported c =
     let i = c.stretches.invariant in
     part_later _ _ _ c.args.from c.stretches.at i.low i.later _ _ (c.in-Some.ensures _ _ i.right)
 
 pub returns-in-Some-clause-right : goal.returns-in-Some-clause-right
-returns-in-Some-clause-right g c =
+returns-in-Some-clause-right c =
     let part = c.in-Some.ensures _ _ c.stretches.invariant.right in
     parts_after _ _ c.stretches.at c.in-Some.part.end _ (omega (arith, part.found.begins, part.found.not_empty)) c.stretches.invariant.right
 
 pub returns-then-at-line-clause-reported : goal.returns-then-at-line-clause-reported
-returns-then-at-line-clause-reported g c = λ k l f.
+returns-then-at-line-clause-reported c = λ k l f.
     let i = c.stretches.invariant in
     omega (arith, none_later _ _ _ c.args.from c.stretches.at i.later _ _ _ (c.in_default.ensures _ _ i.right) c.seen.ensures c.max-at.ensures k l f, f.not_empty, f.on_line, c.if-at-line.true)
 
 pub returns-in-Part-clause-reported : goal.returns-in-Part-clause-reported
-returns-in-Part-clause-reported g c =
+returns-in-Part-clause-reported c =
     let i = c.stretches.invariant in
     let later = none_later _ _ _ c.args.from c.stretches.at i.later _ _ _ (c.in_default.ensures _ _ i.right) c.seen.ensures c.max-at.ensures in
     part_later _ _ _ c.args.from c.max-at.result (omega (arith, i.low, c.max-at.ensures)) later _ _ (rw i.same.same_expression at c.in-Part.ensures.reported)
 
 pub returns-in-Part-clause-right : goal.returns-in-Part-clause-right
-returns-in-Part-clause-right g c = rw c.pass.ensures (passed_right _ _ c.in-Part.part.end c.in-Part.part.end _ (inl refl) c.in-Part.ensures.reported.found.on_line (omega arith))
+returns-in-Part-clause-right c = rw c.pass.ensures (passed_right _ _ c.in-Part.part.end c.in-Part.part.end _ (inl refl) c.in-Part.ensures.reported.found.on_line (omega arith))
 
 pub returns-in-Part-clause-steps : goal.returns-in-Part-clause-steps
-returns-in-Part-clause-steps g c = λ first before.
+returns-in-Part-clause-steps c = λ first before.
     let f = c.in-Part.ensures.reported.found in
     rw c.pass.ensures (stretch_steps c.stretches.parts.seen c.max-at.result c.in-Part.part.end first _ _ (omega (arith, c.max-at.ensures, c.seen.ensures)) (omega (arith, f.begins, f.not_empty)) (c.stretches.invariant.steps first before) c.in-Part.ensures.steps)
 
 pub stretches-preserved : goal.stretches-preserved
-stretches-preserved g c =
+stretches-preserved c =
     let i = c.stretches.invariant in
     let same = i.same in
     let next = c.in-In.ensures.same in
@@ -59,11 +59,11 @@ stretches-preserved g c =
     }
 
 pub returns-in-Nothing-clause-reported : goal.returns-in-Nothing-clause-reported
-returns-in-Nothing-clause-reported g c = λ k l f.
+returns-in-Nothing-clause-reported c = λ k l f.
     let i = c.stretches.invariant in
     let later = none_later _ _ _ c.args.from c.stretches.at i.later _ _ _ (c.in_default.ensures _ _ i.right) c.seen.ensures c.max-at.ensures in
     c.in-Nothing.ensures.reported k l (rw i.same.same_expression (from_place _ _ _ c.args.from c.max-at.result k l (later k l f) f))
 
 pub returns-in-Nothing-clause-steps : goal.returns-in-Nothing-clause-steps
-returns-in-Nothing-clause-steps g c = λ first before.
+returns-in-Nothing-clause-steps c = λ first before.
     rw c.pass-in-Nothing.ensures (stretch_steps c.stretches.parts.seen c.max-at.result (length c.args.line.now) first _ _ (omega (arith, c.max-at.ensures, c.seen.ensures)) (omega arith) (c.stretches.invariant.steps first before) c.in-Nothing.ensures.steps)

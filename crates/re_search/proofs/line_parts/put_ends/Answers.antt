@@ -1,4 +1,4 @@
-use Rattle.re_search.proofs.Prelude.{◌≡◌, ◌∙◌, ◌+◌, ◌-◌, map, take, arith, length, take_all, length-map, length-replicate, get_or-replicate, ap, refl, get_or}
+use Rattle.re_search.proofs.Prelude.{◌≡◌, ◌∙◌, ◌+◌, ◌-◌, take, arith, length, take_all, length-map, length-replicate, get_or-replicate, ap, refl, get_or, matched_expression, expressions_of}
 use Rattle.re_search.proofs.lemmas.OneMatcherMore.{one_more, steps_more}
 use Rattle.re_search.proofs.lemmas.KeptMatchers.{none_asked, one_kept}
 use Rattle.re_search.proofs.lemmas.LinePartsLaws.{no_ends, ends_more}
@@ -6,7 +6,7 @@ use Rattle.re_meter.proofs.lemmas.Adding.{adds_none, adds_within}
 use Rattle.re_search.proofs.line_parts.put_ends.Goals as goal
 
 pub loop-matcher-init : goal.loop-matcher-init
-loop-matcher-init g c = record {
+loop-matcher-init c = record {
   right = no_ends c.args.line.now c.args.ends.now (λ i lt. ap (λ l. get_or l i 0) c.requires.zeros ∙ get_or-replicate _ i 0 0 lt);
   same_matchers = none_asked;
   room = ap length c.requires.zeros ∙ length-replicate _ _;
@@ -15,8 +15,7 @@ loop-matcher-init g c = record {
 }
 
 pub loop-matcher-preserved : goal.loop-matcher-preserved
-loop-matcher-preserved g c =
-    let expression = g.M.LineMatch.expression in
+loop-matcher-preserved c =
     let old = c.args.matchers.now in
     let now = c.loop-matcher.matchers in
     let i = c.loop-matcher.matcher-index in
@@ -24,7 +23,7 @@ loop-matcher-preserved g c =
     let same = c.loop-matcher.invariant.same_matchers in
     record {
       right =
-          ends_more (map expression old) c.args.line.now i _ c.loop-matcher.ends c.add_ends.new.ends c.loop-matcher.invariant.room (one_more expression old now same.same_expressions i d c.loop-matcher-test.true)
+          ends_more (expressions_of old) c.args.line.now i _ c.loop-matcher.ends c.add_ends.new.ends c.loop-matcher.invariant.room (one_more matched_expression old now same.same_expressions i d c.loop-matcher-test.true)
           c.loop-matcher.invariant.right (rw c.rest_of.ensures at c.add_ends.ensures.added);
       same_matchers = one_kept same i d _ c.add_ends.ensures.same;
       room = c.add_ends.ensures.added.0 ∙ c.loop-matcher.invariant.room;
@@ -34,7 +33,7 @@ loop-matcher-preserved g c =
     }
 
 pub returns-clause-right : goal.returns-clause-right
-returns-clause-right g c =
-    let es = map g.M.LineMatch.expression c.args.matchers.now in
-    let all : take c.loop-matcher.matcher-index es ≡ es = take_all _ _ (omega (arith, length-map c.args.matchers.now g.M.LineMatch.expression)) in
+returns-clause-right c =
+    let es = expressions_of c.args.matchers.now in
+    let all : take c.loop-matcher.matcher-index es ≡ es = take_all _ _ (omega (arith, length-map c.args.matchers.now matched_expression)) in
     rw all at (c.loop-matcher.invariant.right)

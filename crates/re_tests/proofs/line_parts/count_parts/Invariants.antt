@@ -1,7 +1,6 @@
-use Rattle.std.proofs.Common.{false, ◌≤◌, ◌-◌, length, map}
-use Rattle.re_search.specs.Searches.{AllAnswer}
-use Rattle.re_search.specs.Working.Matchers.{matched_expression, wants_whole}
-use Rattle.re_search.specs.Working.Searchers.{sought_by}
+use Rattle.std.proofs.Common.{false, ◌≤◌, ◌-◌, length}
+use Rattle.re_search.specs.Working.Matchers.{AreAlike}
+use Rattle.re_search.specs.Working.Sought.{sought_of}
 use Rattle.re_search.specs.Working.LineParts.{ArePartsOf}
 use Rattle.re_tests.proofs.line_parts.count_parts.Given as goal
 
@@ -11,8 +10,9 @@ invariant-loop-part g l = record {
   within : l.from ≤ length l.line;
   few : l.count ≤ l.from;
   room : length l.line ≤ l.line_parts.room;
-  right : ArePartsOf (sought_by matched_expression l.searchers) l.line l.from l.line_parts;
-  others : AllAnswer false (map wants_whole l.others);
+  right : ArePartsOf (sought_of false l.matchers) l.line l.from l.line_parts;
+  matchers : AreAlike false l.matchers;
+  others : AreAlike false l.others;
 }
 
 abbrev pub decreases-loop-part : goal.decreases-loop-part

@@ -1,5 +1,5 @@
-use Rattle.grep_core.proofs.Prelude.{Decides, ◌≡◌, ◌+◌, ◌≤◌, ◌∙◌, [], ◌∷◌, ◌++◌, true, length, length-append, append_assoc, map, take, refl, sym, ap, subst, arith, if◌then◌else◌, terminated, SearchesLines, Selected, writer, IsOneLineAndFew, LastLines, Text, Waits, Numbered, HasHanded, next_shown, last_of, IsNextOf}
-use Rattle.re_search.proofs.lemmas.KeptMatchers.{unasked, asked_over, same_sought}
+use Rattle.grep_core.proofs.Prelude.{Decides, ◌≡◌, ◌+◌, ◌≤◌, ◌∙◌, [], ◌∷◌, ◌++◌, true, length, length-append, append_assoc, take, refl, sym, ap, subst, arith, if◌then◌else◌, terminated, SearchesLines, Selected, writer, IsOneLineAndFew, LastLines, Text, Waits, Numbered, HasHanded, next_shown, last_of, IsNextOf, expressions_of}
+use Rattle.re_search.proofs.lemmas.KeptMatchers.{none_asked, same_over, same_sought}
 use Rattle.grep_io.proofs.lemmas.WindowLemmas.{none_in_nothing, few_after}
 use Rattle.grep_core.proofs.lemmas.WaitingRows.{if_kept}
 use Rattle.grep_core.proofs.lemmas.CostLaws.{searched_bytes, searched_more_lines, searched_one_line, searched_once, unsearched_lines}
@@ -18,25 +18,25 @@ at_selected : (g : given.Over) (c : In-Some g)
     → (mid : Numbered g.row.R.Denot) × (s : FollowedOn c.lines.invariant.so_far mid (writer g.W.CountedWrite.contents g.W.CountedWrite.failures c.lines.out) c.lines.meter c.lines.selected c.wait.new.surroundings.progress c.wait.new.surroundings.recent.lines)
     × (c.lines.invariant.so_far.lines ++ c.next_held-stretch.ensures.divided.1 ≡ s.lines ++ c.in-Some.text.now ∷ [])
     × HasHanded g.R.CountedRead.remaining g.R.CountedRead.failures c.args.lines.now.lines.reader (passed_state c.next_held-stretch.ensures.divided.3 c.next_held-stretch.ensures.divided.2.free) (s.lines ++ c.in-Some.text.now ∷ [])
-    × SearchesLines c.args.request.now.options (length (map g.M.LineMatch.expression c.args.searchers.now.matchers.now)) (s.lines ++ c.in-Some.text.now ∷ []) c.args.meter.now c.next_held-stretch.new.meter
-    × Decides true (Selected (map g.M.LineMatch.expression c.args.searchers.now.matchers.now) c.args.request.now.options c.in-Some.text.now) × (1 ≤ c.next_held-stretch.result.count)
+    × SearchesLines c.args.request.now.options (length (expressions_of c.args.matchers.now)) (s.lines ++ c.in-Some.text.now ∷ []) c.args.meter.now c.next_held-stretch.new.meter
+    × Decides true (Selected (expressions_of c.args.matchers.now) c.args.request.now.options c.in-Some.text.now) × (1 ≤ c.next_held-stretch.result.count)
 at_selected g c =
     let w = c.args.request.now in
-    let es = map g.M.LineMatch.expression c.args.searchers.now.matchers.now in
+    let es = expressions_of c.args.matchers.now in
     let reader = c.args.lines.now.lines.reader in
     let i = c.lines.invariant in
     let held = c.next_held-stretch.ensures in
     let (before, all, d, n) = held.divided in
-    let spent = searched_bytes w.options (length es) all c.lines.meter c.next_held-stretch.new.meter (stretch_spent es _ _ _ i.same.same_matchers.same_expressions d held.steps) in
+    let spent = searched_bytes w.options (length es) all c.lines.meter c.next_held-stretch.new.meter (stretch_spent es _ _ _ i.same.same_expressions d held.steps) in
     let count = c.next_held-stretch.result.count in
     let forward = asked_forward c.lines.surroundings.progress.left w.options.invert_match count held.none in
     let kept = divided_kept (sym (same_sought i.same)) d in
-    let unselected = unselected_before es w.options c.args.searchers.now.whole c.requires.whole count forward before (before_within d) kept.none in
+    let unselected = unselected_before es w.options count forward before (before_within d) kept.none in
     let waits = subst (λ ls. Waits ls c.lines.surroundings.progress c.wait.new.surroundings.progress c.lines.surroundings.recent c.wait.new.surroundings.recent) (before_lines d) (if_kept c.wait.result c.is_err.result c.is_err.ensures.value c.if-is_err.false c.wait.ensures) in
     let line = c.in-Some.text.now in
     let (holds, is) = rw c.in-Some.is at kept.next in
     let some : 1 ≤ count = omega (arith, d.counted, ap length is, length-append before (line ∷ [])) in
-    let reported = decided_yes (selected_matched es w.options c.args.searchers.now.whole c.requires.whole (plain_if w.options.invert_match count forward some) line holds) in
+    let reported = decided_yes (selected_matched es w.options (plain_if w.options.invert_match count forward some) line holds) in
     let first = next_first c.lines.lines before (line ∷ []) (subst (IsNextOf c.lines.lines) is n) in
     let (s, are) = followed_waiting i.limit i.so_far (handed_with first (before_free d) i.so_far.handed) unselected waits (unsearched_lines w.options (length es) before c.lines.meter) in
     let same : i.so_far.lines ++ all ≡ s.lines ++ line ∷ [] = ap (λ ls. i.so_far.lines ++ ls) is ∙ sym (append_assoc i.so_far.lines before (line ∷ [])) ∙ ap (λ ls. ls ++ line ∷ []) (sym are) in
@@ -48,16 +48,16 @@ at_selected g c =
 held_searched : (g : given.Over) (c : After-pass-in-lines g) → FollowedOn c.lines.invariant.so_far c.pass-in-lines.new.self (writer g.W.CountedWrite.contents g.W.CountedWrite.failures c.lines.out) c.next_held-stretch.new.meter c.lines.selected c.wait.new.surroundings.progress c.wait.new.surroundings.recent.lines
 held_searched g c =
     let w = c.args.request.now in
-    let es = map g.M.LineMatch.expression c.args.searchers.now.matchers.now in
+    let es = expressions_of c.args.matchers.now in
     let reader = c.args.lines.now.lines.reader in
     let i = c.lines.invariant in
     let held = c.next_held-stretch.ensures in
     let (before, all, d, n) = held.divided in
-    let spent = searched_bytes w.options (length es) all c.lines.meter c.next_held-stretch.new.meter (stretch_spent es _ _ _ i.same.same_matchers.same_expressions d held.steps) in
+    let spent = searched_bytes w.options (length es) all c.lines.meter c.next_held-stretch.new.meter (stretch_spent es _ _ _ i.same.same_expressions d held.steps) in
     let count = c.next_held-stretch.result.count in
     let forward = asked_forward c.lines.surroundings.progress.left w.options.invert_match count held.none in
     let kept = divided_kept (sym (same_sought i.same)) d in
-    let unselected = unselected_before es w.options c.args.searchers.now.whole c.requires.whole count forward before (before_within d) kept.none in
+    let unselected = unselected_before es w.options count forward before (before_within d) kept.none in
     let waits = subst (λ ls. Waits ls c.lines.surroundings.progress c.wait.new.surroundings.progress c.lines.surroundings.recent c.wait.new.surroundings.recent) (before_lines d) (if_kept c.wait.result c.is_err.result c.is_err.ensures.value c.if-is_err.false c.wait.ensures) in
     let is : all ≡ before = rw c.in_default.is at d.next in
     let now = c.pass-in-lines.new.self in
@@ -81,7 +81,7 @@ lines-init g c = record {
   so_far = rw c.requires.none_done (followed_none c.requires.is_asked refl c.requires.none_ahead c.requires.still_open c.requires.none_numbered (ap (λ (h : LastLines). h.lines) c.requires.none_after));
   limit = ap (λ (h : LastLines). h.limit) c.requires.none_after;
   few_held = subst IsOneLineAndFew (sym c.requires.none_ahead) none_in_nothing;
-  same = unasked;
+  same = none_asked;
 }
 
 pub wait-requires : goal.wait-requires
@@ -102,11 +102,11 @@ pass-requires g c =
 
 pub returns-then-is_err-clause-given : goal.returns-then-is_err-clause-given
 returns-then-is_err-clause-given g c =
-    let es = map g.M.LineMatch.expression c.args.searchers.now.matchers.now in
+    let es = expressions_of c.args.matchers.now in
     let i = c.lines.invariant in
     let held = c.next_held-stretch.ensures in
     let (before, all, d, n) = held.divided in
-    let spent = searched_bytes c.args.request.now.options (length es) all c.lines.meter c.next_held-stretch.new.meter (stretch_spent es _ _ _ i.same.same_matchers.same_expressions d held.steps) in
+    let spent = searched_bytes c.args.request.now.options (length es) all c.lines.meter c.next_held-stretch.new.meter (stretch_spent es _ _ _ i.same.same_expressions d held.steps) in
     followed_unkept i.so_far all refl i.few_held (handed_with n d.free i.so_far.handed) spent (sym c.number.ensures)
 
 pub show_line-requires : goal.show_line-requires
@@ -141,7 +141,7 @@ lines-preserved-in-Some g c =
       so_far = rw shown.goes_on (followed_line s line next is_number reported all_spent shown.wrote c.count_found-selected.ensures (shown.holds ∙ ap (λ n. if (next_shown c.wait.new.surroundings.progress true).itself then [] else last_of n (c.wait.new.surroundings.recent.lines ++ line ∷ [])) limit));
       limit = shown.same_limit ∙ limit;
       few_held = few_after (take c.next_held-stretch.result.bytes c.lines.lines.lines.ahead) now.lines.ahead (subst IsOneLineAndFew c.pass.ensures.ahead i.few_held);
-      same = asked_over c.next_held-stretch.ensures.same i.same;
+      same = same_over c.next_held-stretch.ensures.same i.same;
     }
 
 pub lines-smaller-in-Some : goal.lines-smaller-in-Some
@@ -174,10 +174,10 @@ pub returns-in_err-show_line-2-clause-given : goal.returns-in_err-show_line-2-cl
 returns-in_err-show_line-2-clause-given g c =
     let (s, next, few) = next_line g (goal.at.returns-in_err-show_line-2-clause-given g c).In-Ok-None c.line-text.result.now c.line-text.ensures in
     let line = c.line-text.result.now in
-    let es = map g.M.LineMatch.expression c.args.searchers.now.matchers.now in
+    let es = expressions_of c.args.matchers.now in
     let i = c.lines.invariant in
     let held = c.next_held-stretch.ensures in
-    let same = (asked_over held.same i.same).same_matchers.same_expressions in
+    let same = (same_over held.same i.same).same_expressions in
     let reported = rw same at c.is_selected-found.ensures.reported in
     let once = searched_once c.args.request.now.options (length es) line _ _ (rw same at c.is_selected-found.ensures.steps) in
     let all_spent = searched_one_line c.args.request.now.options (length es) s.lines line _ _ _ s.steps once in
@@ -201,10 +201,10 @@ pub lines-preserved : goal.lines-preserved
 lines-preserved g c =
     let (s, next, few) = next_line g (goal.at.lines-preserved g c).In-Ok-None c.line-text.result.now c.line-text.ensures in
     let line = c.line-text.result.now in
-    let es = map g.M.LineMatch.expression c.args.searchers.now.matchers.now in
+    let es = expressions_of c.args.matchers.now in
     let i = c.lines.invariant in
     let held = c.next_held-stretch.ensures in
-    let same = (asked_over held.same i.same).same_matchers.same_expressions in
+    let same = (same_over held.same i.same).same_expressions in
     let reported = rw same at c.is_selected-found.ensures.reported in
     let once = searched_once c.args.request.now.options (length es) line _ _ (rw same at c.is_selected-found.ensures.steps) in
     let all_spent = searched_one_line c.args.request.now.options (length es) s.lines line _ _ _ s.steps once in
@@ -216,7 +216,7 @@ lines-preserved g c =
       so_far = rw shown.goes_on (followed_line s line next c.number-number.ensures reported all_spent shown.wrote c.count_found-selected-in-lines.ensures (shown.holds ∙ ap (λ n. if (next_shown c.wait.new.surroundings.progress c.is_selected-found.result).itself then [] else last_of n (c.wait.new.surroundings.recent.lines ++ line ∷ [])) limit));
       limit = shown.same_limit ∙ limit;
       few_held = few;
-      same = asked_over c.is_selected-found.ensures.same (asked_over held.same i.same);
+      same = same_over c.is_selected-found.ensures.same (same_over held.same i.same);
     }
 
 pub returns-in-Ok-Some-clause-given : goal.returns-in-Ok-Some-clause-given
@@ -224,11 +224,11 @@ returns-in-Ok-Some-clause-given g c =
     let w = c.args.request.now in
     let reader = c.args.lines.now.lines.reader in
     let p = held_searched g (goal.at.returns-in-Ok-Some-clause-given g c).After-pass-in-lines in
-    ends_as g.R.CountedRead.remaining g.R.CountedRead.failures g.W.CountedWrite.contents g.W.CountedWrite.failures (map g.M.LineMatch.expression c.args.searchers.now.matchers.now) w.options w.many c.args.surroundings.now.progress.shown w.name.now reader c.take_next.new.lines _ c.take_next.new.out _ _ c.lines.out p.lines c.lines.selected (writes p) (λ early. never_early p early) p.steps c.in-Ok-Some.end ((rw c.in-Ok-Some.field-0-is at c.in-Ok-Some.ensures) reader p.lines p.handed)
+    ends_as g.R.CountedRead.remaining g.R.CountedRead.failures g.W.CountedWrite.contents g.W.CountedWrite.failures (expressions_of c.args.matchers.now) w.options w.many c.args.surroundings.now.progress.shown w.name.now reader c.take_next.new.lines _ c.take_next.new.out _ _ c.lines.out p.lines c.lines.selected (writes p) (λ early. never_early p early) p.steps c.in-Ok-Some.end ((rw c.in-Ok-Some.field-0-is at c.in-Ok-Some.ensures) reader p.lines p.handed)
 
 pub returns-in-Err-clause-given : goal.returns-in-Err-clause-given
 returns-in-Err-clause-given g c =
     let w = c.args.request.now in
     let reader = c.args.lines.now.lines.reader in
     let p = held_searched g (goal.at.returns-in-Err-clause-given g c).After-pass-in-lines in
-    stops_as g.R.CountedRead.remaining g.R.CountedRead.failures g.W.CountedWrite.contents g.W.CountedWrite.failures (map g.M.LineMatch.expression c.args.searchers.now.matchers.now) w.options w.many c.args.surroundings.now.progress.shown w.name.now reader c.take_next.new.lines _ c.take_next.new.out _ _ c.lines.out p.lines c.lines.selected (writes p) (λ early. never_early p early) p.steps c.in-Err.fault (c.in-Err.ensures reader p.lines p.handed)
+    stops_as g.R.CountedRead.remaining g.R.CountedRead.failures g.W.CountedWrite.contents g.W.CountedWrite.failures (expressions_of c.args.matchers.now) w.options w.many c.args.surroundings.now.progress.shown w.name.now reader c.take_next.new.lines _ c.take_next.new.out _ _ c.lines.out p.lines c.lines.selected (writes p) (λ early. never_early p early) p.steps c.in-Err.fault (c.in-Err.ensures reader p.lines p.handed)

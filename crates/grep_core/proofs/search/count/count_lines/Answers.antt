@@ -1,5 +1,5 @@
-use Rattle.grep_core.proofs.Prelude.{◌∙◌, [], false, length, map, refl, arith, lines_of, sought_by, IsSought, writer}
-use Rattle.re_search.proofs.lemmas.KeptMatchers.{unasked, asked_over}
+use Rattle.grep_core.proofs.Prelude.{◌∙◌, [], false, length, refl, arith, lines_of, sought_of, IsSought, writer, expressions_of}
+use Rattle.re_search.proofs.lemmas.KeptMatchers.{none_asked, same_over, still_alike}
 use Rattle.grep_core.proofs.lemmas.WrittenLemmas.{TakesAll-written}
 use Rattle.grep_core.proofs.lemmas.FileOutput.{rows_none}
 use Rattle.grep_core.proofs.lemmas.CostLaws.{searched_once}
@@ -15,8 +15,8 @@ use Rattle.grep_core.proofs.search.count.count_lines.Goals.{After-saturating_add
 counted : (g : given.Over) (c : After-saturating_add-selected g) → SearchedOn c.lines.invariant.so_far c.pass.new.self (writer g.W.CountedWrite.contents g.W.CountedWrite.failures c.lines.out) c.count_matched-matched.new.meter c.saturating_add-selected.result
 counted g c =
     let i = c.lines.invariant in
-    let found_in = rw (i.same.same_whole ∙ c.requires.whole, i.same.same_matchers.same_expressions) at c.count_matched-matched.ensures.reported in
-    let spent_on = rw i.same.same_matchers.same_expressions at c.count_matched-matched.ensures.steps in
+    let found_in = rw i.same.same_expressions at c.count_matched-matched.ensures.reported in
+    let spent_on = rw i.same.same_expressions at c.count_matched-matched.ensures.steps in
     searched_counted c.ready_lines-block.ensures c.pass.ensures.passed i.so_far c.requires.is_asked _ found_in spent_on c.count_selected.ensures c.saturating_add-selected.ensures
 
 -- and buffered output was sent
@@ -29,24 +29,24 @@ sent g c p =
 pub lines-init : goal.lines-init
 lines-init g c = record {
   so_far = searched_none (written_plain _ _ _ _ _ _ (counts_plain c.args.request.now.options c.requires.is_asked) [] [] (rows_none _ _ _ _ _)) refl c.requires.none_ahead c.requires.still_open c.requires.none_numbered;
-  same = unasked;
+  same = none_asked;
 }
 
 pub lines-preserved : goal.lines-preserved
 lines-preserved g c =
     let w = c.args.request.now in
-    let es = map g.M.LineMatch.expression c.args.searchers.now.matchers.now in
+    let es = expressions_of c.args.matchers.now in
     let i = c.lines.invariant in
     let taken = rw c.in-Ok-None.field-0-is at c.in-Ok-None.ensures in
     let s = sent g (goal.at.lines-preserved g c).In-Ok-None (counted g (goal.at.lines-preserved g c).After-saturating_add-selected) in
-    let kept = asked_over c.count_matched-matched.ensures.same i.same in
-    let reported = rw kept.same_matchers.same_expressions at c.is_selected-found.ensures.reported in
-    let spent = searched_once w.options (length es) c.line.result.now _ _ (rw kept.same_matchers.same_expressions at c.is_selected-found.ensures.steps) in
+    let kept = same_over c.count_matched-matched.ensures.same_matchers i.same in
+    let reported = rw kept.same_expressions at c.is_selected-found.ensures.reported in
+    let spent = searched_once w.options (length es) c.line.result.now _ _ (rw kept.same_expressions at c.is_selected-found.ensures.steps) in
     record {
       so_far =
           searched_line s (taken c.args.lines.now.lines.reader s.lines s.handed).0 c.line.ensures refl (counts_plain w.options c.requires.is_asked) (line_only_counted es w.options w.many w.name.now _ c.line.result.now _ c.requires.is_asked c.is_selected-found.result reported) spent c.count_found-selected.ensures
           (λ early. absurd (counts_late w.options c.requires.is_asked early));
-      same = asked_over c.is_selected-found.ensures.same kept;
+      same = same_over c.is_selected-found.ensures.same kept;
     }
 
 pub count_found-selected-requires : goal.count_found-selected-requires
@@ -66,7 +66,7 @@ lines-smaller g c =
 pub returns-in-Ok-Some-clause-given : goal.returns-in-Ok-Some-clause-given
 returns-in-Ok-Some-clause-given g c =
     let w = c.args.request.now in
-    let es = map g.M.LineMatch.expression c.args.searchers.now.matchers.now in
+    let es = expressions_of c.args.matchers.now in
     let p = counted g (goal.at.returns-in-Ok-Some-clause-given g c).After-saturating_add-selected in
     ends_as g.R.CountedRead.remaining g.R.CountedRead.failures g.W.CountedWrite.contents g.W.CountedWrite.failures es w.options w.many false w.name.now c.args.lines.now.lines.reader c.take_next.new.lines _ c.take_next.new.out _ _ c.lines.out p.lines c.saturating_add-selected.result p.wrote p.none_early p.steps c.in-Ok-Some.end
     ((rw c.in-Ok-Some.field-0-is at c.in-Ok-Some.ensures) c.args.lines.now.lines.reader p.lines p.handed)
@@ -74,27 +74,27 @@ returns-in-Ok-Some-clause-given g c =
 pub returns-in-Err-clause-given : goal.returns-in-Err-clause-given
 returns-in-Err-clause-given g c =
     let w = c.args.request.now in
-    let es = map g.M.LineMatch.expression c.args.searchers.now.matchers.now in
+    let es = expressions_of c.args.matchers.now in
     let p = counted g (goal.at.returns-in-Err-clause-given g c).After-saturating_add-selected in
     stops_as g.R.CountedRead.remaining g.R.CountedRead.failures g.W.CountedWrite.contents g.W.CountedWrite.failures es w.options w.many false w.name.now c.args.lines.now.lines.reader c.take_next.new.lines _ c.take_next.new.out _ _ c.lines.out p.lines c.saturating_add-selected.result p.wrote p.none_early p.steps c.in-Err.fault
     (c.in-Err.ensures c.args.lines.now.lines.reader p.lines p.handed)
 
-pub count_matched-matched-requires : goal.count_matched-matched-requires
-count_matched-matched-requires g c = c.ready_lines-block.ensures.whole
+pub count_matched-matched-requires-clause-block : goal.count_matched-matched-requires-clause-block
+count_matched-matched-requires-clause-block g c = c.ready_lines-block.ensures.whole
 
 pub pass-requires : goal.pass-requires
 pass-requires g c = (c.ready_lines-block.result.bytes.now, refl, c.ready_lines-block.ensures)
 
 pub count_selected-requires : goal.count_selected-requires
 count_selected-requires g c =
-    let within = many_within (IsSought (sought_by g.M.LineMatch.expression c.lines.searchers)) (lines_of c.ready_lines-block.result.bytes.now) c.count_matched-matched.result c.count_matched-matched.ensures.reported in
+    let within = many_within (IsSought (sought_of c.args.request.now.options.line_regexp c.lines.matchers)) (lines_of c.ready_lines-block.result.bytes.now) c.count_matched-matched.result c.count_matched-matched.ensures.reported in
     omega (arith, within, c.ready_lines-block.ensures.counted)
 
 pub is_selected-found-requires : goal.is_selected-found-requires
-is_selected-found-requires g c = record { whole = c.count_matched-matched.ensures.same.same_whole ∙ c.lines.invariant.same.same_whole ∙ c.requires.whole }
+is_selected-found-requires g c = record { alike = still_alike (same_over c.count_matched-matched.ensures.same_matchers c.lines.invariant.same) c.requires.alike }
 
 pub returns-in-Ok-Some-clause-same : goal.returns-in-Ok-Some-clause-same
-returns-in-Ok-Some-clause-same g c = asked_over c.count_matched-matched.ensures.same c.lines.invariant.same
+returns-in-Ok-Some-clause-same g c = same_over c.count_matched-matched.ensures.same_matchers c.lines.invariant.same
 
 pub returns-in-Err-clause-same : goal.returns-in-Err-clause-same
-returns-in-Err-clause-same g c = asked_over c.count_matched-matched.ensures.same c.lines.invariant.same
+returns-in-Err-clause-same g c = same_over c.count_matched-matched.ensures.same_matchers c.lines.invariant.same

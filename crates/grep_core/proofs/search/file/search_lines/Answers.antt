@@ -1,6 +1,6 @@
-use Rattle.grep_core.proofs.Prelude.{◌∙◌, [], false, map, take, refl, sym, subst, arith, writer, IsOneLineAndFew, leaves_early}
+use Rattle.grep_core.proofs.Prelude.{◌∙◌, [], false, take, refl, sym, subst, arith, writer, IsOneLineAndFew, leaves_early, expressions_of}
 use Rattle.grep_io.proofs.lemmas.WindowLemmas.{none_in_nothing, few_after}
-use Rattle.re_search.proofs.lemmas.KeptMatchers.{unasked, asked_over}
+use Rattle.re_search.proofs.lemmas.KeptMatchers.{none_asked, same_over, still_alike}
 use Rattle.grep_core.proofs.lemmas.WrittenLemmas.{TakesAll-written}
 use Rattle.grep_core.proofs.lemmas.FileOutput.{rows_none}
 use Rattle.grep_core.proofs.lemmas.PassedLines.{are_ahead, handed_with, handed_passed}
@@ -14,7 +14,7 @@ use Rattle.grep_core.proofs.search.file.search_lines.Goals.{Else-held-early, In-
 among : (g : given.Over) (c : Else-held-early g) → SearchedOn c.lines.invariant.so_far c.pass.new.self (writer g.W.CountedWrite.contents g.W.CountedWrite.failures c.write_held.new.out) c.write_held.new.meter c.saturating_add-selected.result
 among g c =
     let i = c.lines.invariant in
-    let h = rw i.same.same_matchers.same_expressions at c.in_ok-held.ensures.ok in
+    let h = rw i.same.same_expressions at c.in_ok-held.ensures.ok in
     let none = goes_on_with c.in_ok-held.held.found c.leaves_early-early.result (leaves_early c.args.request.now.options) i.is_early c.if-held-early.false in
     searched_among i.so_far h.all (handed_passed h.next h.free i.so_far.handed h.width c.pass.ensures.passed) c.requires.plain h.spent h.took c.saturating_add-selected.ensures none
 
@@ -29,13 +29,13 @@ sent g c p =
 pub lines-init : goal.lines-init
 lines-init g c = record {
   so_far = searched_none (written_plain _ _ _ _ _ _ c.requires.plain [] [] (rows_none _ _ _ _ _)) refl c.requires.none_ahead c.requires.still_open c.requires.none_numbered;
-  same = unasked;
+  same = none_asked;
   few_held = subst IsOneLineAndFew (sym c.requires.none_ahead) none_in_nothing;
   is_early = c.leaves_early-early.ensures;
 }
 
 pub write_held-requires : goal.write_held-requires
-write_held-requires g c = record { whole = c.lines.invariant.same.same_whole ∙ c.requires.whole; bare = c.writes_bare_lines-bare.ensures }
+write_held-requires g c = record { alike = still_alike c.lines.invariant.same c.requires.alike; bare = c.writes_bare_lines-bare.ensures }
 
 pub pass-requires : goal.pass-requires
 pass-requires g c =
@@ -45,16 +45,16 @@ pass-requires g c =
 pub returns-in_err-held-clause-given : goal.returns-in_err-held-clause-given
 returns-in_err-held-clause-given g c =
     let w = c.args.request.now in
-    let es = map g.M.LineMatch.expression c.args.searchers.now.matchers.now in
+    let es = expressions_of c.args.matchers.now in
     let i = c.lines.invariant in
-    let h = rw i.same.same_matchers.same_expressions at c.in_err-held.ensures.err in
+    let h = rw i.same.same_expressions at c.in_err-held.ensures.err in
     given_up g.R.CountedRead.remaining g.R.CountedRead.failures g.W.CountedWrite.contents g.W.CountedWrite.failures es w.options w.many false w.name.now c.args.lines.now.lines.reader c.lines.lines _ c.write_held.new.out _ _ _ c.from_residual.result c.from_residual.ensures.1
     (stops_in_lines i.so_far h.all (handed_with h.next h.free i.so_far.handed) c.requires.plain h.spent refl i.few_held _ _ h.stops)
 
 pub returns-then-held-early-clause-given : goal.returns-then-held-early-clause-given
 returns-then-held-early-clause-given g c =
     let i = c.lines.invariant in
-    let h = rw i.same.same_matchers.same_expressions at c.in_ok-held.ensures.ok in
+    let h = rw i.same.same_expressions at c.in_ok-held.ensures.ok in
     let (some, early) = leaves_with c.in_ok-held.held.found c.leaves_early-early.result c.if-held-early.true in
     leaves_among i.so_far h.all (handed_passed h.next h.free i.so_far.handed h.width c.pass.ensures.passed) c.requires.plain h.spent h.took c.saturating_add-selected.ensures some (sym i.is_early ∙ early)
 
@@ -63,7 +63,7 @@ lines-preserved-then-held g c =
     let i = c.lines.invariant in
     record {
       so_far = among g (goal.at.lines-preserved-then-held g c).Else-held-early;
-      same = asked_over c.write_held.ensures.same i.same;
+      same = same_over c.write_held.ensures.same i.same;
       few_held = few_after (take c.in_ok-held.held.bytes c.lines.lines.lines.ahead) c.pass.new.self.lines.ahead (subst IsOneLineAndFew c.pass.ensures.ahead i.few_held);
       is_early = i.is_early;
     }
@@ -81,7 +81,7 @@ search_line-requires g c =
     let taken = rw c.in-Ok-None.field-0-is at c.in-Ok-None.ensures in
     let s = sent g (goal.at.search_line-requires g c).In-Ok-None (among g (goal.at.search_line-requires g c).Else-held-early) in
     record {
-      whole = c.write_held.ensures.same.same_whole ∙ c.lines.invariant.same.same_whole ∙ c.requires.whole;
+      alike = still_alike (same_over c.write_held.ensures.same c.lines.invariant.same) c.requires.alike;
       first = omega (arith, c.number-number.ensures, is_next s (taken reader s.lines s.handed).0);
     }
 
@@ -109,14 +109,14 @@ lines-preserved g c =
     let i = c.lines.invariant in
     let taken = rw c.in-Ok-None.field-0-is at c.in-Ok-None.ensures in
     let s = sent g (goal.at.lines-preserved g c).In-Ok-None (among g (goal.at.lines-preserved g c).Else-held-early) in
-    let asked = asked_over c.write_held.ensures.same i.same in
-    let took_line = rw asked.same_matchers.same_expressions at c.in_ok-found.ensures.ok in
-    let spent_line = rw asked.same_matchers.same_expressions at c.in_ok-found.ensures.steps in
+    let asked = same_over c.write_held.ensures.same i.same in
+    let took_line = rw asked.same_expressions at c.in_ok-found.ensures.ok in
+    let spent_line = rw asked.same_expressions at c.in_ok-found.ensures.steps in
     let found = c.in_ok-found.found in
     record {
       so_far =
           searched_line s (taken reader s.lines s.handed).0 c.line-line.ensures c.number-number.ensures c.requires.plain took_line spent_line c.count_found-selected.ensures (goes_on found _ _ i.is_early c.if-found-early.false);
-      same = asked_over c.in_ok-found.ensures.same asked;
+      same = same_over c.in_ok-found.ensures.same asked;
       few_held = (taken reader s.lines s.handed).1;
       is_early = i.is_early;
     }
@@ -127,22 +127,22 @@ returns-then-found-early-clause-given g c =
     let i = c.lines.invariant in
     let taken = rw c.in-Ok-None.field-0-is at c.in-Ok-None.ensures in
     let s = sent g (goal.at.returns-then-found-early-clause-given g c).In-Ok-None (among g (goal.at.returns-then-found-early-clause-given g c).Else-held-early) in
-    let asked = asked_over c.write_held.ensures.same i.same in
-    let took_line = rw asked.same_matchers.same_expressions at c.in_ok-found.ensures.ok in
-    let spent_line = rw asked.same_matchers.same_expressions at c.in_ok-found.ensures.steps in
+    let asked = same_over c.write_held.ensures.same i.same in
+    let took_line = rw asked.same_expressions at c.in_ok-found.ensures.ok in
+    let spent_line = rw asked.same_expressions at c.in_ok-found.ensures.steps in
     leaves_at s (taken reader s.lines s.handed).0 c.line-line.ensures c.number-number.ensures c.requires.plain took_line spent_line c.count_found-selected.ensures i.is_early c.if-found-early.true
 
 pub returns-in_err-found-clause-given : goal.returns-in_err-found-clause-given
 returns-in_err-found-clause-given g c =
     let w = c.args.request.now in
-    let es = map g.M.LineMatch.expression c.args.searchers.now.matchers.now in
+    let es = expressions_of c.args.matchers.now in
     let reader = c.args.lines.now.lines.reader in
     let i = c.lines.invariant in
     let taken = rw c.in-Ok-None.field-0-is at c.in-Ok-None.ensures in
     let s = sent g (goal.at.returns-in_err-found-clause-given g c).In-Ok-None (among g (goal.at.returns-in_err-found-clause-given g c).Else-held-early) in
-    let asked = asked_over c.write_held.ensures.same i.same in
-    let broke_line = rw asked.same_matchers.same_expressions at c.in_err-found.ensures.err in
-    let spent_line = rw asked.same_matchers.same_expressions at c.in_err-found.ensures.steps in
+    let asked = same_over c.write_held.ensures.same i.same in
+    let broke_line = rw asked.same_expressions at c.in_err-found.ensures.err in
+    let spent_line = rw asked.same_expressions at c.in_err-found.ensures.steps in
     let (next, few, went, before) = taken reader s.lines s.handed in
     given_up g.R.CountedRead.remaining g.R.CountedRead.failures g.W.CountedWrite.contents g.W.CountedWrite.failures es w.options w.many false w.name.now reader c.take_next.new.lines _ c.search_line.new.out _ _ _ c.from_residual-in_err-found.result c.from_residual-in_err-found.ensures.1
     (stops_at s next c.line-line.ensures c.number-number.ensures c.requires.plain (before w.name.now) _ _ broke_line spent_line)
@@ -150,7 +150,7 @@ returns-in_err-found-clause-given g c =
 pub returns-in-Ok-Some-clause-given : goal.returns-in-Ok-Some-clause-given
 returns-in-Ok-Some-clause-given g c =
     let w = c.args.request.now in
-    let es = map g.M.LineMatch.expression c.args.searchers.now.matchers.now in
+    let es = expressions_of c.args.matchers.now in
     let reader = c.args.lines.now.lines.reader in
     let p = among g (goal.at.returns-in-Ok-Some-clause-given g c).Else-held-early in
     ends_as g.R.CountedRead.remaining g.R.CountedRead.failures g.W.CountedWrite.contents g.W.CountedWrite.failures es w.options w.many false w.name.now reader c.take_next.new.lines _ c.take_next.new.out _ _ c.write_held.new.out p.lines c.saturating_add-selected.result p.wrote p.none_early p.steps c.in-Ok-Some.end
@@ -159,7 +159,7 @@ returns-in-Ok-Some-clause-given g c =
 pub returns-in-Err-clause-given : goal.returns-in-Err-clause-given
 returns-in-Err-clause-given g c =
     let w = c.args.request.now in
-    let es = map g.M.LineMatch.expression c.args.searchers.now.matchers.now in
+    let es = expressions_of c.args.matchers.now in
     let reader = c.args.lines.now.lines.reader in
     let p = among g (goal.at.returns-in-Err-clause-given g c).Else-held-early in
     stops_as g.R.CountedRead.remaining g.R.CountedRead.failures g.W.CountedWrite.contents g.W.CountedWrite.failures es w.options w.many false w.name.now reader c.take_next.new.lines _ c.take_next.new.out _ _ c.write_held.new.out p.lines c.saturating_add-selected.result p.wrote p.none_early p.steps c.in-Err.fault

@@ -1,4 +1,4 @@
-use Rattle.grep_core.proofs.Prelude.{◌+◌, [], ◌∷◌, map, Ok, refl, sym, ap, subst, ◌∙◌, Bor, Text, Numbered, Options, Missing, writer, devices, count_more, source_at, Returns}
+use Rattle.grep_core.proofs.Prelude.{◌+◌, [], ◌∷◌, Ok, refl, sym, ap, subst, ◌∙◌, Bor, Text, Numbered, Options, Missing, writer, devices, count_more, source_at, Returns, expressions_of, AreAlike}
 use Rattle.grep_core.proofs.lemmas.SourceLaws.{gives_both}
 use Rattle.grep_core.proofs.lemmas.OpenedLemmas.{source_missing, source_unread, given_in}
 use Rattle.grep_core.proofs.lemmas.SummaryLemmas.{source_ended_as}
@@ -6,7 +6,7 @@ use Rattle.grep_core.proofs.search.file.search_source.Goals as goal
 
 pub returns-in_default-clause-given : goal.returns-in_default-clause-given
 returns-in_default-clause-given g c =
-    let es = map g.M.LineMatch.expression c.args.searchers.now.matchers.now in
+    let es = expressions_of c.args.matchers.now in
     let w = c.args.source.now in
     let source = source_at (g.S.Sources.listed c.args.sources.now) w.place in
     let request = c.of_file-missing.result in
@@ -19,7 +19,7 @@ returns-in_default-clause-given g c =
 
 pub returns-in-Err-clause-given : goal.returns-in-Err-clause-given
 returns-in-Err-clause-given g c =
-    let es = map g.M.LineMatch.expression c.args.searchers.now.matchers.now in
+    let es = expressions_of c.args.matchers.now in
     let source = source_at (g.S.Sources.listed c.args.sources.now) c.args.source.now.place in
     let opened = c.in-Some.ensures.given in
     let counted = c.close.ensures.counted ∙ (λ i. count_more (opened.3 i) (g.S.Reader.CountedRead.failures (c.in-Err.ensures.err i))) ∙ ap (count_more (g.S.Sources.failures c.args.sources.now)) opened.2 in (
@@ -30,7 +30,7 @@ returns-in-Err-clause-given g c =
 
 pub returns-clause-given : goal.returns-clause-given
 returns-clause-given g c =
-    let es = map g.M.LineMatch.expression c.args.searchers.now.matchers.now in
+    let es = expressions_of c.args.matchers.now in
     let w = c.args.source.now in
     let source = source_at (g.S.Sources.listed c.args.sources.now) w.place in
     let opened = c.in-Some.ensures.given in
@@ -56,8 +56,8 @@ returns-clause-same_loan g c = c.close-2.ensures.same_loan ∙ c.open.ensures.sa
 pub returns-clause-next : goal.returns-clause-next
 returns-clause-next g c = c.close-2.ensures.same_place (c.args.source.now.place + 1) c.open.ensures.next
 
-pub search_opened-found-requires-clause-whole : goal.search_opened-found-requires-clause-whole
-search_opened-found-requires-clause-whole g c = c.requires.whole ∙ sym (ap (λ (o : Options). o.line_regexp) c.of_file-request.ensures.options)
+pub search_opened-found-requires-clause-alike : goal.search_opened-found-requires-clause-alike
+search_opened-found-requires-clause-alike g c = subst (λ (o : Options). AreAlike o.line_regexp c.args.matchers.now) (sym c.of_file-request.ensures.options) c.requires.alike
 
 pub search_opened-found-requires-clause-still_open : goal.search_opened-found-requires-clause-still_open
 search_opened-found-requires-clause-still_open g c = ap (λ (n : Numbered _). n.lines.stage) c.in-Ok.ensures.ok

@@ -1,4 +1,4 @@
-use Rattle.grep_core.proofs.Prelude.{◌≡◌, ◌+◌, ◌∷◌, ◌++◌, List, [], length, take, refl, sym, ap, ◌∙◌, subst, arith, append_assoc, length-append, All-nil, Text, lines_of, terminated, HasNoNewline, sought_by, Sought, IsSought}
+use Rattle.grep_core.proofs.Prelude.{◌≡◌, ◌+◌, ◌∷◌, ◌++◌, List, [], length, take, refl, sym, ap, ◌∙◌, subst, arith, append_assoc, length-append, All-nil, Text, lines_of, terminated, HasNoNewline, sought_of, Sought, IsSought}
 use Rattle.re_search.proofs.lemmas.NextLines.{block_lines, free_lines}
 use Rattle.grep_io.proofs.lemmas.PassedLemmas.{count_block, count_lines}
 use Rattle.grep_core.proofs.lemmas.SearchedBlockLemmas.{lines_within, first_bytes, before_bytes, line_bytes, end_bytes, free_up_to, free_before}
@@ -6,7 +6,7 @@ use Rattle.grep_core.proofs.search.held.next_held.Goals as goal
 
 pub returns-then-not-may_number-clause-divided : goal.returns-then-not-may_number-clause-divided
 returns-then-not-may_number-clause-divided g c =
-    let s : Sought = sought_by g.M.LineMatch.expression c.args.searchers.now in (
+    let s : Sought = sought_of c.args.whole c.args.matchers.now in (
       [],
       [],
       record { free = All-nil HasNoNewline; bytes = refl; many = refl; width = refl; counted = refl; none = All-nil (λ line. ¬ IsSought s line); next = refl },
@@ -30,7 +30,7 @@ returns-in_default-clause-divided g c =
 
 pub overflow_add-result-2 : goal.overflow_add-result-2
 overflow_add-result-2 g c =
-    let s : Sought = sought_by g.M.LineMatch.expression c.args.searchers.now in
+    let s : Sought = sought_of c.args.whole c.args.matchers.now in
     let block = c.ready-block.result.now in
     let whole = c.ready-block.ensures.block in
     let at = c.in-Some.at in
@@ -43,7 +43,7 @@ overflow_add-result-2 g c =
 
 pub returns-clause-divided : goal.returns-clause-divided
 returns-clause-divided g c =
-    let s : Sought = sought_by g.M.LineMatch.expression c.args.searchers.now in
+    let s : Sought = sought_of c.args.whole c.args.matchers.now in
     let block = c.ready-block.result.now in
     let whole = c.ready-block.ensures.block in
     let at = c.in-Some.at in

@@ -1,7 +1,7 @@
-use Rattle.grep_core.proofs.Prelude.{◌≡◌, ◌∙◌, map, arith, asks_whole}
+use Rattle.grep_core.proofs.Prelude.{arith, expressions_of}
 use Rattle.re_meter.proofs.lemmas.Adding.{adds_none}
 use Rattle.re_search.proofs.lemmas.LinePartsLaws.{all_parts}
-use Rattle.re_search.proofs.lemmas.KeptMatchers.{unasked, asked_over, same_sought}
+use Rattle.re_search.proofs.lemmas.KeptMatchers.{none_asked, same_over, as_many, still_alike}
 use Rattle.grep_core.proofs.lemmas.OneLineLemmas.{err_with}
 use Rattle.grep_core.proofs.lemmas.PassLemmas.{TakesAll-line, TakesFront-line}
 use Rattle.grep_core.proofs.lemmas.PartsLemmas.{parts_none, parts_next, parts_done, parts_broken}
@@ -13,14 +13,17 @@ loop-part-init g c = record {
   room = rw c.begin.ensures.room c.requires.room;
   right = c.begin.ensures.right _ _ 0;
   steps = adds_none _ _ _;
-  same = unasked;
+  same = none_asked;
 }
 
 pub next_part-requires-clause-within : goal.next_part-requires-clause-within
 next_part-requires-clause-within g c = c.loop-part.invariant.parts.on_line
 
+pub next_part-requires-clause-alike : goal.next_part-requires-clause-alike
+next_part-requires-clause-alike g c = still_alike c.loop-part.invariant.same c.requires.alike
+
 pub next_part-requires-clause-right : goal.next_part-requires-clause-right
-next_part-requires-clause-right g c = rw (same_sought c.loop-part.invariant.same) c.loop-part.invariant.right
+next_part-requires-clause-right g c = rw c.loop-part.invariant.same.same_expressions c.loop-part.invariant.right
 
 pub write_part-requires : goal.write_part-requires
 write_part-requires g c =
@@ -35,11 +38,10 @@ loop-part-smaller g c =
 pub returns-in_err-write_part-clause-err : goal.returns-in_err-write_part-clause-err
 returns-in_err-write_part-clause-err g c =
     let w = c.args.request.now in
-    let es = map g.M.LineMatch.expression c.args.searchers.now.matchers.now in
+    let es = expressions_of c.args.matchers.now in
     let same = c.loop-part.invariant.same in
-    let whole : asks_whole c.loop-part.searchers ≡ w.options.line_regexp = same.same_whole ∙ c.requires.whole in
     let part = c.in-Some.part in
-    let reported = rw (whole, same.same_matchers.same_expressions) at c.in-Some.ensures.reported in
+    let reported = rw same.same_expressions at c.in-Some.ensures.reported in
     let out = c.in_err-write_part.ensures in
     err_with c.from_residual.result (parts_broken es w.options w.many w.name.now c.args.number c.args.line.now c.requires.asked c.loop-part.from part.start part.end _ _ _ c.loop-part.invariant.parts reported
     (TakesFront-line g.W.CountedWrite.contents g.W.CountedWrite.failures c.loop-part.out c.write_part.new.out _ out)
@@ -48,45 +50,43 @@ returns-in_err-write_part-clause-err g c =
 pub loop-part-preserved : goal.loop-part-preserved
 loop-part-preserved g c =
     let w = c.args.request.now in
-    let es = map g.M.LineMatch.expression c.args.searchers.now.matchers.now in
+    let es = expressions_of c.args.matchers.now in
     let same = c.loop-part.invariant.same in
-    let whole : asks_whole c.loop-part.searchers ≡ w.options.line_regexp = same.same_whole ∙ c.requires.whole in
     let part = c.in-Some.part in
-    let reported = rw (whole, same.same_matchers.same_expressions) at c.in-Some.ensures.reported in
-    let steps = rw same.same_matchers.same_expressions at c.in-Some.ensures.steps in
+    let reported = rw same.same_expressions at c.in-Some.ensures.reported in
+    let steps = rw (as_many same) at c.in-Some.ensures.steps in
     record {
       parts =
           parts_next es w.options w.many w.name.now c.args.number c.args.line.now c.loop-part.from part.start part.end _ _ _ c.loop-part.invariant.parts reported
           (TakesAll-line g.W.CountedWrite.contents g.W.CountedWrite.failures c.loop-part.out c.write_part.new.out _ c.in_ok-write_part.ensures);
       room = rw c.in-Some.ensures.room c.loop-part.invariant.room;
-      right = rw (same_sought same) at c.in-Some.ensures.right;
+      right = rw same.same_expressions at c.in-Some.ensures.right;
       steps = steps c.args.meter.now c.loop-part.invariant.steps;
-      same = asked_over c.in-Some.ensures.same same;
+      same = same_over c.in-Some.ensures.same_matchers same;
     }
 
 pub returns-clause-ok : goal.returns-clause-ok
 returns-clause-ok g c =
     let w = c.args.request.now in
-    let es = map g.M.LineMatch.expression c.args.searchers.now.matchers.now in
+    let es = expressions_of c.args.matchers.now in
     let same = c.loop-part.invariant.same in
-    let whole : asks_whole c.loop-part.searchers ≡ w.options.line_regexp = same.same_whole ∙ c.requires.whole in
-    let reported = rw (whole, same.same_matchers.same_expressions) at c.in_default.ensures.reported in
+    let reported = rw same.same_expressions at c.in_default.ensures.reported in
     parts_done es w.options w.many w.name.now c.args.number c.args.line.now c.requires.asked c.loop-part.from _ _ c.loop-part.invariant.parts reported
 
 pub returns-in_err-write_part-clause-same : goal.returns-in_err-write_part-clause-same
-returns-in_err-write_part-clause-same g c = asked_over c.in-Some.ensures.same c.loop-part.invariant.same
+returns-in_err-write_part-clause-same g c = same_over c.in-Some.ensures.same_matchers c.loop-part.invariant.same
 
 pub returns-clause-same : goal.returns-clause-same
-returns-clause-same g c = asked_over c.in_default.ensures.same c.loop-part.invariant.same
+returns-clause-same g c = same_over c.in_default.ensures.same_matchers c.loop-part.invariant.same
 
 pub returns-in_err-write_part-clause-steps : goal.returns-in_err-write_part-clause-steps
 returns-in_err-write_part-clause-steps g c =
     let i = c.loop-part.invariant in
-    let steps = rw i.same.same_matchers.same_expressions at c.in-Some.ensures.steps in
+    let steps = rw (as_many i.same) at c.in-Some.ensures.steps in
     all_parts _ _ _ c.args.meter.now c.next_part.new.meter c.in-Some.ensures.seen (steps c.args.meter.now i.steps)
 
 pub returns-clause-steps : goal.returns-clause-steps
 returns-clause-steps g c =
     let i = c.loop-part.invariant in
-    let steps = rw i.same.same_matchers.same_expressions at c.in_default.ensures.steps in
+    let steps = rw (as_many i.same) at c.in_default.ensures.steps in
     all_parts _ _ _ c.args.meter.now c.next_part.new.meter c.in_default.ensures.seen (steps c.args.meter.now i.steps)

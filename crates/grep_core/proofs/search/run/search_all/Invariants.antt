@@ -1,11 +1,11 @@
-use Rattle.grep_core.proofs.Prelude.{◌≡◌, ◌≤◌, length, map, take, SameSearchers, writer, Returns}
+use Rattle.grep_core.proofs.Prelude.{◌≡◌, ◌≤◌, length, map, take, SameMatchers, writer, Returns, expressions_of}
 use Rattle.grep_core.proofs.lemmas.RunLaws.{RunSoFar}
 use Rattle.grep_core.proofs.search.run.search_all.Given as goal
 
 -- the first k sources were run
 abbrev pub invariant-loop-k : goal.invariant-loop-k
 invariant-loop-k g l = record {
-  so_far : RunSoFar (map g.M.LineMatch.expression l.fn.matchers) l.request.options l.many (take l.k (g.S.Sources.listed l.fn.sources)) (Returns g.S.Sources.returned_readers l.fn.sources l.sources)
+  so_far : RunSoFar (expressions_of l.fn.matchers) l.request.options l.many (take l.k (g.S.Sources.listed l.fn.sources)) (Returns g.S.Sources.returned_readers l.fn.sources l.sources)
       (record {
         out = writer g.W.CountedWrite.contents g.W.CountedWrite.failures l.fn.out;
         messages = writer g.N.CountedWrite.contents g.N.CountedWrite.failures l.fn.messages;
@@ -22,5 +22,5 @@ invariant-loop-k g l = record {
   within : l.k ≤ length (g.S.Sources.listed l.fn.sources);
   in_order : g.S.Sources.stands_at l.sources l.k;
   same_loan : g.S.Sources.loan l.sources ≡ g.S.Sources.loan l.fn.sources;
-  same : SameSearchers g.M.LineMatch.expression g.M.LineMatch.whole g.M.LineMatch.room l.initial.searchers l.searchers;
+  same : SameMatchers l.fn.matchers l.matchers;
 }

@@ -1,13 +1,13 @@
-use Rattle.re_search.proofs.Prelude.{◌≡◌, ◌∙◌, false, inr, arith, ap, subst, sym, AreAllEnds, LineEnds, Window, with_items_is, map, length}
+use Rattle.re_search.proofs.Prelude.{◌≡◌, ◌∙◌, false, inr, arith, ap, subst, sym, AreAllEnds, sought_of, LineEnds, Window, with_items_is, length}
 use Rattle.re_search.proofs.lemmas.LinePartsLaws.{all_known}
 use Rattle.re_search.proofs.line_parts.LineParts.look_over.Goals as goal
 
 pub returns-clause-right : goal.returns-clause-right
-returns-clause-right g c = λ from.
+returns-clause-right c = λ from.
     let opened = c.self.view_is ∙ c.open.ensures in
     let seen : c.self.inside.seen ≡ length c.args.line.now = omega (arith, ap (λ (p : LineEnds). p.seen) opened, ap (λ (w : Window). w.end) c.rest_of.ensures) in
     let items = with_items_is c.self.inside.ends c.put_ends.new.ends (c.put_ends.ensures.room ∙ c.deref_mut.ensures.len) in
-    let are = subst (AreAllEnds (record { expressions = map g.M.LineMatch.expression c.args.matchers.now; whole = false }) c.args.line.now) (sym items) c.put_ends.ensures.right in
+    let are = subst (AreAllEnds (sought_of false c.args.matchers.now) c.args.line.now) (sym items) c.put_ends.ensures.right in
     record {
       on_line = omega (arith, seen);
       at_once = inr (inr seen);

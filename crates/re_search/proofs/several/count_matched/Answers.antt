@@ -1,0 +1,38 @@
+use Rattle.re_search.proofs.Prelude.{◌≡◌, ◌+◌, None, Some, length, drop, slice_set, refl, ap, subst, arith, length-drop, take_rest, lines_of, expressions_of, sought_of, Sought, IsSought, FindsSought, SameMatchers}
+use Rattle.re_search.proofs.lemmas.KeptMatchers.{none_asked, one_kept, same_over, same_sought}
+use Rattle.re_search.proofs.lemmas.OneMatcher.{sought_alone}
+use Rattle.re_runs.proofs.lemmas.CountedBlocks.{counts_same}
+use Rattle.re_runs.proofs.lemmas.NextLines.{CountsTo, counts_next, counts_all}
+use Rattle.re_search.proofs.lemmas.SearchedBlocks.{adds_on_by}
+use Rattle.re_search.proofs.several.count_matched.Goals as goal
+
+pub returns-in_default-clause-reported : goal.returns-in_default-clause-reported
+returns-in_default-clause-reported c =
+    let i = c.lines.invariant in
+    let s : Sought = sought_of c.args.whole c.args.matchers.now in
+    counts_all (IsSought s) c.args.block.now c.lines.rest.now c.lines.count i.counts
+    (subst (λ q. FindsSought q (lines_of c.lines.rest.now) None) (same_sought i.same) c.in_default.ensures.reported)
+
+pub lines-preserved : goal.lines-preserved
+lines-preserved c =
+    let i = c.lines.invariant in
+    let s : Sought = sought_of c.args.whole c.args.matchers.now in
+    let block = c.args.block.now in
+    let rest = c.lines.rest.now in
+    let at = c.in-Some.at in
+    let within = c.in-Some.ensures.within in
+    let found = subst (λ q. FindsSought q (lines_of rest) (Some at)) (same_sought i.same) c.in-Some.ensures.reported in
+    let next : CountsTo (IsSought s) block (drop (at.end + 1) rest) (c.lines.count + 1) = counts_next (IsSought s) block rest c.lines.count at within.1 i.counts found in
+    let n = length (expressions_of c.args.matchers.now) in
+    let many : length (expressions_of c.lines.matchers) ≡ n = ap length i.same.same_expressions in
+    rw take_rest
+    record {
+      counts = next;
+      same = same_over c.next_matched.ensures.same_matchers i.same;
+      steps = adds_on_by n (length block) (length rest) (length (drop (at.end + 1) rest)) at.end _ _ _ (omega (arith, i.counts.few)) within.1 (length-drop (at.end + 1) rest) i.steps (rw many at c.in-Some.ensures.steps);
+    }
+
+pub returns-then-matchers-eq1-clause-reported : goal.returns-then-matchers-eq1-clause-reported
+returns-then-matchers-eq1-clause-reported c =
+    let alone = sought_alone c.args.matchers.now c.index-matchers-0.result c.args.whole c.if-matchers-eq1.true c.requires.alike in
+    counts_same _ _ (λ line. (alone line).0) (λ line. (alone line).1) (lines_of c.args.block.now) c.count_matched.result c.count_matched.ensures.reported
