@@ -1,21 +1,21 @@
 -- What is kept stays right after a call; a syntax has its number.
-use Rattle.std.proofs.Common.{◌≡◌, ◌∙◌, ℕ, Bool, List, ◌++◌, length, map, take, refl, sym, ap, subst, arith}
+use Rattle.std.proofs.Common.{◌≡◌, ◌∙◌, ℕ, Bool, List, ◌++◌, length, take, refl, sym, ap, subst, arith}
 use Rattle.std.proofs.Math.Seq.{take-append_seam}
 use Rattle.grep_core.proofs.lemmas.CostLaws.{same_length}
-use Rattle.re_auto.specs.Searches.{AllAnswer}
 use Rattle.re_search.specs.declared.matcher.Matcher.{Matcher}
-use Rattle.re_search.specs.Working.Matchers.{SameMatchers, wants_whole}
+use Rattle.re_search.specs.Working.Matchers.{AreAlike, AreSame, wants_whole}
+use Rattle.re_search.proofs.lemmas.KeptMatchers.{still_alike}
 use Rattle.re_syntax.specs.declared.syntax.Syntax.{Syntax}
 use Rattle.re_syntax.specs.declared.syntax.Syntax.TheVariants.{Basic, Extended, Fixed}
 use Rattle.gaxtrel.specs.Calls.{syntax_number}
 
 -- after a call on the matchers of a vector those that it keeps still agree on whether the whole line has to be matched
-pub still_right : {whole : Bool} (before now after rest : List Matcher) (len : ℕ) → SameMatchers now after → now ≡ before → length now ≡ len
-    → AllAnswer whole (map wants_whole before) → AllAnswer whole (map wants_whole (take len (after ++ rest)))
+pub still_right : {whole : Bool} (before now after rest : List Matcher) (len : ℕ) → AreSame now after → now ≡ before → length now ≡ len
+    → AreAlike whole before → AreAlike whole (take len (after ++ rest))
 still_right {whole} before now after rest len same was long alike =
     let all : length after ≡ len = same_length wants_whole after now same.same_wholes ∙ long in
     let is : take len (after ++ rest) ≡ after = ap (λ n. take n (after ++ rest)) (sym all) ∙ take-append_seam after rest in
-    subst (AllAnswer whole) (sym (ap (map wants_whole) is ∙ same.same_wholes ∙ ap (map wants_whole) was)) alike
+    subst (AreAlike whole) (sym is) (still_alike same (subst (AreAlike whole) (sym was) alike))
 
 -- ---- numbers of syntaxes
 

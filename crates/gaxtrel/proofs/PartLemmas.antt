@@ -1,11 +1,10 @@
 -- The parts of a line, one more at a time, over an array.
-use Rattle.std.proofs.Common.{◌≡◌, ◌∙◌, ℕ, ◌+◌, ◌*◌, ◌<◌, ◌≤◌, List, [], ◌∷◌, ◌++◌, inl, inr, length, set, refl, sym, ap, subst, arith, append-nil, append_assoc, suc}
+use Rattle.std.proofs.Common.{◌≡◌, ◌∙◌, ℕ, ◌+◌, ◌<◌, ◌≤◌, List, [], ◌∷◌, ◌++◌, inl, inr, length, set, refl, sym, ap, subst, arith, append-nil, append_assoc, suc}
 use Rattle.std.proofs.lemmas.Bool.{cases_lt}
 use Rattle.std.proofs.lemmas.List.{length_push}
 use Rattle.re_syntax.specs.Bytes.{Text}
 use Rattle.re_syntax.specs.Parts.{IsFound, IsPart, ArePartsFrom}
 use Rattle.re_trees.specs.declared.span.Span.{Span}
-use Rattle.re_meter.specs.Meters.{Steps, AddsAtMost}
 use Rattle.re_search.specs.Working.Sought.{Sought}
 use Rattle.gaxtrel.specs.declared.part.GaxtrelPart.{GaxtrelPart}
 use Rattle.gaxtrel.specs.Calls.{PutsParts, part_at, put_over}
@@ -29,10 +28,6 @@ put_past [] place [] full = refl
 put_past [] place (part ∷ old) full = absurd (let no : ⊥ = omega (arith, full) in no)
 put_past (d ∷ done) place [] full = refl
 put_past (d ∷ done) place (part ∷ old) full = ap (λ l. part_at d ∷ l) (put_past done place old (omega (arith, full)))
-
--- one turn of as many matchers
-pub goes_on_by : (m n before after : ℕ) (first old new : Steps) → m ≡ n → ((begun : Steps) → AddsAtMost (m * before) begun old → AddsAtMost (m * after) begun new) → AddsAtMost (n * before) first old → AddsAtMost (n * after) first new
-goes_on_by m n before after first old new many turn = subst (λ k. AddsAtMost (k * before) first old → AddsAtMost (k * after) first new) many (turn first)
 
 module _ (sought : Sought) (line : Text) where
   -- `count` parts were found from a place on, and were written over an array

@@ -2,7 +2,7 @@
 ghost use Rattle.std.specs.Prelude.{◌≤◌, length};
 ghost use Rattle.re_meter.specs.Meters.{AddsAtMost};
 ghost use Rattle.gaxtrel.specs.Calls.{PutsParts, line_cost};
-ghost use Rattle.re_search.specs.Working.Matchers.{AreAlike, SameMatchers, expressions_of};
+ghost use Rattle.re_search.specs.Working.Matchers.{AreAlike, AreSame, expressions_of};
 ghost use Rattle.re_search.specs.Working.Sought.{sought_of};
 
 use crate::part::{GaxtrelPart, put_part};
@@ -23,7 +23,7 @@ pub(crate) fn put_parts(
     requires alike { AreAlike whole matchers.old }
     ensures put { PutsParts (sought_of whole matchers.old)
         line.now from parts.old parts.new result }
-    ensures same { SameMatchers matchers.old matchers.new }
+    ensures same { AreSame matchers.old matchers.new }
     ensures steps { AddsAtMost (line_cost (length (expressions_of matchers.old)) line.now)
         meter.old meter.new }
 {

@@ -3,7 +3,7 @@ ghost use Rattle.std.specs.Prelude.{◌*◌, ◌≤◌, IfSome, length};
 ghost use Rattle.re_syntax.specs.Lines.{lines_of};
 ghost use Rattle.re_meter.specs.Meters.{AddsAtMost};
 ghost use Rattle.re_search.specs.Working.Sought.{CountsSought, FindsSought, sought_of};
-ghost use Rattle.re_search.specs.Working.Matchers.{AreAlike, SameMatchers, expressions_of};
+ghost use Rattle.re_search.specs.Working.Matchers.{AreAlike, AreSame, expressions_of};
 ghost use Rattle.gaxtrel.specs.Calls.{bytes_to_next, line_cost};
 
 use re_runs::line_start;
@@ -19,7 +19,7 @@ pub(crate) fn next_in_text(
     requires { AreAlike whole matchers.old }
     ensures reported { FindsSought (sought_of whole matchers.old) (lines_of text.now) result }
     ensures within { IfSome result (λ at. (at.start ≤ at.end) × (at.end ≤ length text.now)) }
-    ensures same { SameMatchers matchers.old matchers.new }
+    ensures same { AreSame matchers.old matchers.new }
     ensures steps { AddsAtMost
         (length (expressions_of matchers.old) * bytes_to_next text.now result) meter.old meter.new }
 {
@@ -49,7 +49,7 @@ pub(crate) fn count_in_text(
 ) -> u64
     requires { AreAlike whole matchers.old }
     ensures reported { CountsSought (sought_of whole matchers.old) (lines_of text.now) result }
-    ensures same { SameMatchers matchers.old matchers.new }
+    ensures same { AreSame matchers.old matchers.new }
     ensures steps { AddsAtMost (line_cost (length (expressions_of matchers.old)) text.now)
         meter.old meter.new }
 {

@@ -1,11 +1,8 @@
-use Rattle.re_search.specs.Working.Matchers.{matched_expression, wants_whole}
 use Rattle.std.proofs.Common.{arith}
-use Rattle.std.proofs.lemmas.List.{length-map}
 use Rattle.re_meter.proofs.lemmas.Adding.{adds_none}
-use Rattle.re_search.proofs.lemmas.KeptMatchers.{none_asked, same_over}
+use Rattle.re_search.proofs.lemmas.KeptMatchers.{as_many, none_asked, same_over, still_alike}
 use Rattle.re_search.proofs.lemmas.LinePartsLaws.{all_parts}
-use Rattle.grep_core.proofs.lemmas.CostLaws.{same_length}
-use Rattle.gaxtrel.proofs.PartLemmas.{none_yet, one_more, none_more, goes_on_by}
+use Rattle.gaxtrel.proofs.PartLemmas.{none_yet, one_more, none_more}
 use Rattle.gaxtrel.proofs.line_parts.put_parts.Goals as goal
 
 pub loop-part-init : goal.loop-part-init
@@ -21,7 +18,7 @@ pub next_part-requires-clause-within : goal.next_part-requires-clause-within
 next_part-requires-clause-within c = c.loop-part.invariant.found.on_line
 
 pub next_part-requires-clause-alike : goal.next_part-requires-clause-alike
-next_part-requires-clause-alike c = rw c.loop-part.invariant.same.same_wholes c.requires.alike
+next_part-requires-clause-alike c = still_alike c.loop-part.invariant.same c.requires.alike
 
 pub next_part-requires-clause-right : goal.next_part-requires-clause-right
 next_part-requires-clause-right c = rw c.loop-part.invariant.same.same_expressions c.loop-part.invariant.right
@@ -34,13 +31,12 @@ loop-part-smaller c =
 pub loop-part-preserved : goal.loop-part-preserved
 loop-part-preserved c =
     let i = c.loop-part.invariant in
-    let many = same_length wants_whole c.loop-part.matchers c.args.matchers.now i.same.same_wholes in
     record {
       found = one_more _ _ _ _ _ _ _ _ c.in-Some.part i.found (rw i.same.same_expressions at c.in-Some.ensures.reported) c.put_part.ensures.put c.put_part.ensures.full;
       room = rw c.next_part.ensures.room i.room;
       right = rw i.same.same_expressions at c.in-Some.ensures.right;
       same = same_over c.next_part.ensures.same_matchers i.same;
-      steps = goes_on_by _ _ _ _ _ _ _ many c.next_part.ensures.steps i.steps;
+      steps = (rw (as_many i.same) at c.in-Some.ensures.steps) c.args.meter.now i.steps;
     }
 
 pub returns-clause-put : goal.returns-clause-put
@@ -51,8 +47,7 @@ returns-clause-put c =
 pub returns-clause-steps : goal.returns-clause-steps
 returns-clause-steps c =
     let i = c.loop-part.invariant in
-    let many = same_length wants_whole c.loop-part.matchers c.args.matchers.now i.same.same_wholes in
-    rw (length-map c.args.matchers.now matched_expression) (all_parts _ _ _ _ _ c.next_part.ensures.seen (goes_on_by _ _ _ _ _ _ _ many c.next_part.ensures.steps i.steps))
+    all_parts _ _ _ _ _ c.in_default.ensures.seen ((rw (as_many i.same) at c.in_default.ensures.steps) c.args.meter.now i.steps)
 
 pub returns-clause-same : goal.returns-clause-same
 returns-clause-same c = same_over c.next_part.ensures.same_matchers c.loop-part.invariant.same

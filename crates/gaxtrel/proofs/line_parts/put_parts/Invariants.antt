@@ -1,7 +1,7 @@
-use Rattle.std.proofs.Common.{◌*◌, ◌-◌, ◌≤◌, length, map}
+use Rattle.std.proofs.Common.{◌*◌, ◌-◌, ◌≤◌, length}
 use Rattle.re_search.specs.Working.Sought.{sought_of}
 use Rattle.re_meter.specs.Meters.{AddsAtMost}
-use Rattle.re_search.specs.Working.Matchers.{SameMatchers}
+use Rattle.re_search.specs.Working.Matchers.{AreSame, expressions_of}
 use Rattle.re_search.specs.Working.LineParts.{ArePartsOf, spent}
 use Rattle.gaxtrel.proofs.PartLemmas.{PartsSoFar}
 use Rattle.gaxtrel.proofs.line_parts.put_parts.Given as goal
@@ -12,8 +12,8 @@ invariant-loop-part l = record {
   found : PartsSoFar (sought_of l.whole l.fn.matchers) l.line l.from l.at l.count l.fn.parts l.parts;
   room : length l.line ≤ l.learned.room;
   right : ArePartsOf (sought_of l.whole l.fn.matchers) l.line l.at l.learned;
-  same : SameMatchers l.fn.matchers l.matchers;
-  steps : AddsAtMost (length l.fn.matchers * spent l.learned.seen) l.fn.meter l.meter;
+  same : AreSame l.fn.matchers l.matchers;
+  steps : AddsAtMost (length (expressions_of l.fn.matchers) * spent l.learned.seen) l.fn.meter l.meter;
 }
 
 abbrev pub decreases-loop-part : goal.decreases-loop-part

@@ -1,4 +1,4 @@
-use Rattle.std.proofs.Common.{◌∙◌, None, Some, map, ap, arith}
+use Rattle.std.proofs.Common.{◌∙◌, None, Some, ap, arith}
 use Rattle.re_search.specs.Working.Sought.{sought_of}
 use Rattle.std.proofs.lemmas.List.{take_rest}
 use Rattle.gaxtrel.specs.Kept.{sought_in}
@@ -17,10 +17,10 @@ returns-then-from-text-clause-reported c = none_past _ c.args.text.now c.args.fr
 
 pub returns-in_default-clause-reported : goal.returns-in_default-clause-reported
 returns-in_default-clause-reported c =
-    let same = ap (λ ms. sought_of c.self.inside.whole ms) c.deref_mut.ensures.value ∙ ap sought_in c.self.view_is in
+    let same = ap (sought_of c.self.inside.whole) c.deref_mut.ensures.value ∙ ap sought_in c.self.view_is in
     line_found _ _ _ _ _ None _ _ same (take_rest c.args.text.now c.args.from) c.in_default.ensures.reported c.in_default.ensures.steps
 
 pub returns-clause-reported : goal.returns-clause-reported
 returns-clause-reported c =
-    let same = ap (λ ms. sought_of c.self.inside.whole ms) c.deref_mut.ensures.value ∙ ap sought_in c.self.view_is in
+    let same = ap (sought_of c.self.inside.whole) c.deref_mut.ensures.value ∙ ap sought_in c.self.view_is in
     line_found _ _ _ _ _ (Some c.in-Some.at) _ _ same (take_rest c.args.text.now c.args.from) c.in-Some.ensures.reported c.in-Some.ensures.steps

@@ -1,14 +1,13 @@
-use Rattle.std.proofs.Common.{All, map, refl, subst}
+use Rattle.std.proofs.Common.{All, refl, subst}
 use Rattle.std.specs.List.{AllZip}
 use Rattle.re_syntax.specs.Lines.{lines_of}
 use Rattle.re_syntax.specs.Spelled.{IsMeant}
-use Rattle.re_auto.specs.Searches.{AllAnswer}
 use Rattle.re_search.specs.Reading.{IsReadable}
-use Rattle.re_search.specs.Working.Matchers.{wants_whole}
+use Rattle.re_search.specs.Working.Matchers.{AreAlike}
 use Rattle.gaxtrel.proofs.patterns.Patterns.of_lines.Goals as goal
 
 pub invariant_of-result : goal.invariant_of-result
-invariant_of-result c = subst (λ w. AllAnswer w (map wants_whole c.in-Ok.matchers.items)) c.reading-options.ensures.whole c.in-Ok.ensures.ok.wholes
+invariant_of-result c = subst (λ w. AreAlike w c.in-Ok.matchers.items) c.reading-options.ensures.whole c.in-Ok.ensures.ok.wholes
 
 pub returns-clause-made : goal.returns-clause-made
 returns-clause-made c =
