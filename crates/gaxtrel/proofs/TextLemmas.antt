@@ -1,11 +1,10 @@
 -- The lines of a text are those of its whole lines and then the last one, if that lacks its newline.
-use Rattle.std.proofs.Common.{◌≡◌, ◌∙◌, ℕ, ◌+◌, ◌-◌, ◌*◌, ◌<◌, ◌≤◌, Bool, List, [], ◌∷◌, ◌++◌, All, Option, Some, None, inl, inr, length, map, take, drop, refl, sym, ap, subst, arith, mul-le-mul_left, append_assoc, length-append, length-drop}
+use Rattle.std.proofs.Common.{◌≡◌, ◌∙◌, ℕ, ◌+◌, ◌-◌, ◌*◌, ◌<◌, ◌≤◌, List, [], ◌∷◌, ◌++◌, All, Option, Some, None, inl, inr, length, take, drop, refl, sym, ap, subst, arith, mul-le-mul_left, append_assoc, length-append, length-drop}
 use Rattle.std.specs.Bool.{⊤}
 use Rattle.std.proofs.Math.Seq.{take-append_seam}
 use Rattle.std.proofs.lemmas.List.{drop_all, length-take-le, take_rest}
 use Rattle.std.proofs.lemmas.List.Elements.{All-append, All-cons, All-nil}
 use Rattle.re_syntax.specs.Bytes.{Text}
-use Rattle.re_syntax.specs.Expression.{Expression}
 use Rattle.re_syntax.specs.Lines.{HasNoNewline, newline, terminated, lines_of}
 use Rattle.re_trees.specs.declared.span.Span.{Span}
 use Rattle.re_syntax.proofs.lemmas.LinesLaws.{lines_of-last, lines_of-terminated}

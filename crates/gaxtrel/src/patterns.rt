@@ -1,6 +1,6 @@
 //! The matchers of patterns, which are asked together.
 ghost use Rattle.std.specs.Prelude.{◌≡◌, ◌↔◌, ◌⊎◌, [], ◌∷◌, List, IsTrue, IfOk, IfErr};
-ghost use Rattle.std.specs.Prelude.{All, length, map};
+ghost use Rattle.std.specs.Prelude.{All, length};
 ghost use Rattle.std.specs.List.{AllZip};
 ghost use Rattle.re_syntax.specs.Expression.{Expression};
 ghost use Rattle.re_syntax.specs.Lines.{lines_of};

@@ -48,7 +48,7 @@ pub use Rattle.re_meter.specs.Meters.{AddsAtMost}
 pub use Rattle.re_search.specs.Reading.{IsOutOfMemory, IsReadable, IsRefusedFor, IsSmallFor}
 pub use Rattle.re_search.specs.Working.Blocks.{HoldsOfMany, IsBlock, IsNext}
 pub use Rattle.re_search.specs.Working.LineParts.{ArePartsOf, spent}
-pub use Rattle.re_search.specs.Working.Matchers.{AreAlike, SameMatchers, expressions_of, matched_expression, wants_whole}
+pub use Rattle.re_search.specs.Working.Matchers.{AreAlike, AreSame, expressions_of, matched_expression, wants_whole}
 pub use Rattle.re_search.specs.Working.Sought.{IsSought, Sought, sought_of}
 pub use Rattle.re_search.specs.declared.matcher.Matcher.{Matcher}
 pub use Rattle.re_syntax.specs.Bytes.{Text}

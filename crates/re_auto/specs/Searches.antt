@@ -1,5 +1,5 @@
 -- What a search of a line finds, and how much work it takes.
-use Rattle.std.specs.Prelude.{◌≡◌, ℕ, ◌↔◌, Bool, List, Option, MatchOption, All, Any, IsTrue, map}
+use Rattle.std.specs.Prelude.{◌≡◌, ℕ, Bool, List, Option, MatchOption, All, Any}
 use Rattle.re_trees.specs.Bytes.{Text}
 use Rattle.re_trees.specs.Expression.{Expression}
 use Rattle.re_trees.specs.Holds.{Matches}
@@ -21,11 +21,3 @@ SomeMatches es line whole = Any (λ e. Matches e line whole) es
 -- each matcher gives this answer to whether the whole line has to be matched (XCU grep, option -x)
 abbrev pub AllAnswer : Bool → List Bool → Type 0
 AllAnswer whole wholes = All (λ w. w ≡ whole) wholes
-
--- the same matchers in the same order: each has its expression as before, asks for whole lines or
--- not as before, and may keep as much as before
-pub record SameMatchers {M : Type 0} (expression : M → Expression) (whole : M → Bool)
-    (room : M → ℕ) (old new : List M) : Type 0 where
-  pub same_expressions : map expression new ≡ map expression old
-  pub same_wholes : map whole new ≡ map whole old
-  pub same_rooms : map room new ≡ map room old

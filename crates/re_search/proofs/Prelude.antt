@@ -8,7 +8,7 @@ pub use Rattle.re_match.specs.declared.ahead.Ahead.TheVariants.{In}
 pub use Rattle.re_meter.specs.Meters.{AddsUpTo}
 pub use Rattle.re_search.specs.Reading.{IsReadable, IsRefusedFor, IsSmallFor}
 pub use Rattle.re_search.specs.Working.LineParts.{AreAllEnds, AreEnds, AreEndsIn, ArePartsOf, FindsBefore, LineEnds, spent}
-pub use Rattle.re_search.specs.Working.Matchers.{AreAlike, IsSame, SameMatchers, expressions_of, matched_expression, room_of, wants_whole}
+pub use Rattle.re_search.specs.Working.Matchers.{AreAlike, IsSame, AreSame, expressions_of, matched_expression, room_of, wants_whole}
 pub use Rattle.re_search.specs.Working.Patterns.{IsPattern, meaning, meant_by, pattern_expression}
 pub use Rattle.re_search.specs.Working.Sought.{FindsSought, IsSought, PassesUnsought, Sought, sought_of}
 pub use Rattle.re_search.specs.Working.Strings.{AddsEach, string_expression}

@@ -9,7 +9,7 @@ ghost use Rattle.re_meter.specs.Meters.{AddsUpTo};
 ghost use Rattle.re_match.specs.Working.Aheads.{IsWindowOf, past};
 ghost use Rattle.re_search.specs.Working.LineParts.{AreAllEnds, AreEnds, AreEndsIn, ArePartsOf};
 ghost use Rattle.re_search.specs.Working.LineParts.{FindsBefore, spent};
-ghost use Rattle.re_search.specs.Working.Matchers.{AreAlike, IsSame, SameMatchers};
+ghost use Rattle.re_search.specs.Working.Matchers.{AreAlike, IsSame, AreSame};
 ghost use Rattle.re_search.specs.Working.Matchers.{expressions_of, matched_expression};
 ghost use Rattle.re_search.specs.Working.Sought.{Sought, sought_of};
 
@@ -157,7 +157,7 @@ impl LineParts {
             line.now from self.new }
         ensures seen { self.new.seen ≡ length line.now }
         ensures room { self.new.room ≡ self.old.room }
-        ensures same_matchers { SameMatchers matchers.old matchers.new }
+        ensures same_matchers { AreSame matchers.old matchers.new }
         ensures steps { AddsAtMost (length matchers.old * (length line.now + 1)) meter.old meter.new }
     {
         self.open(line, rest_of(line, 0));
@@ -166,9 +166,9 @@ impl LineParts {
 }
 
 /// The next part of the line: the leftmost-longest of the stretches that are not empty, begin at
-/// `from` or later and are matched by some matcher (XBD 9.1). `whole` is what all matchers answer to
-/// whether the whole line has to be matched, and `parts` is what the parts before were searched with.
-/// All parts of a line take at most one step for each matcher and byte, and one more for each
+/// `from` or later and are matched by some matcher (XBD 9.1). `whole` is what all matchers answer
+/// to whether the whole line has to be matched, and `parts` is what the parts before were searched
+/// with. All parts of a line take at most one step for each matcher and byte, and one more for each
 /// matcher, and pass at most as many bytes, however many they are. Nothing is allocated.
 pub fn next_part(
     matchers: &mut [Matcher],
@@ -183,7 +183,7 @@ pub fn next_part(
     requires room { length line.now ≤ parts.old.room }
     requires right { ArePartsOf (sought_of whole matchers.old) line.now from parts.old }
     ensures reported { FindsPart (expressions_of matchers.old) line.now whole from result }
-    ensures same_matchers { SameMatchers matchers.old matchers.new }
+    ensures same_matchers { AreSame matchers.old matchers.new }
     ensures right { IfSome result
         (λ part. ArePartsOf (sought_of whole matchers.old) line.now part.end parts.new) }
     ensures room { parts.new.room ≡ parts.old.room }
@@ -217,7 +217,7 @@ fn next_whole(
     requires alike { AreAlike true matchers.old }
     requires right { ArePartsOf (sought_of true matchers.old) line.now from parts.old }
     ensures reported { FindsPart (expressions_of matchers.old) line.now true from result }
-    ensures same_matchers { SameMatchers matchers.old matchers.new }
+    ensures same_matchers { AreSame matchers.old matchers.new }
     ensures right { IfSome result
         (λ part. ArePartsOf (sought_of true matchers.old) line.now part.end parts.new) }
     ensures room { parts.new.room ≡ parts.old.room }
@@ -324,7 +324,7 @@ fn put_ends(
     requires zeros { ends.old ≡ replicate (length line.now) 0 }
     requires spare { length line.now ≤ vec_capacity spare.old }
     ensures right { AreAllEnds (sought_of false matchers.old) line.now ends.new }
-    ensures same_matchers { SameMatchers matchers.old matchers.new }
+    ensures same_matchers { AreSame matchers.old matchers.new }
     ensures room { length ends.new ≡ length ends.old }
     ensures spare { vec_capacity spare.old ≤ vec_capacity spare.new }
     ensures steps { AddsAtMost (length matchers.old * (length line.now + 1)) meter.old meter.new }

@@ -1,13 +1,13 @@
 //! Several matchers over one line (XCU grep: a line is selected where any of the patterns matches
 //! it).
-ghost use Rattle.std.specs.Prelude.{ℕ, Bool, true, List, ◌+◌, ◌-◌, ◌*◌, ◌<◌, ◌≤◌, ◌++◌, ◌↔◌, length};
-ghost use Rattle.std.specs.Prelude.{IfSome, IsTrue};
+ghost use Rattle.std.specs.Prelude.{ℕ, Bool, true, List, ◌+◌, ◌-◌, ◌*◌, ◌<◌, ◌≤◌, ◌++◌, ◌↔◌};
+ghost use Rattle.std.specs.Prelude.{IfSome, IsTrue, length};
 ghost use Rattle.re_syntax.specs.Bytes.{Text};
 ghost use Rattle.re_syntax.specs.Expression.{Expression};
 ghost use Rattle.re_syntax.specs.Lines.{lines_of};
 ghost use Rattle.re_auto.specs.Searches.{AddsAtMost, FindsPart};
 ghost use Rattle.re_runs.specs.Working.Blocks.{IsBlock, next_cost};
-ghost use Rattle.re_search.specs.Working.Matchers.{AreAlike, SameMatchers, expressions_of};
+ghost use Rattle.re_search.specs.Working.Matchers.{AreAlike, AreSame, expressions_of};
 ghost use Rattle.re_search.specs.Working.Sought.{CountsSought, FindsSought, IsSought, sought_of};
 
 use crate::matcher::Matcher;
@@ -17,10 +17,10 @@ use re_runs::line_end;
 use re_syntax::Span;
 
 /// The next part of the line: the leftmost-longest of the stretches that are not empty, begin at
-/// `from` or later and are matched by some matcher (XBD 9.1). `whole` is what all matchers answer to
-/// whether the whole line has to be matched. Called with 0 and then with the end of each part, it returns
-/// all parts of the line. It takes at most one step for each matcher and byte from `from` on, and
-/// one more for each matcher, and passes at most as many bytes.
+/// `from` or later and are matched by some matcher (XBD 9.1). `whole` is what all matchers answer
+/// to whether the whole line has to be matched. Called with 0 and then with the end of each part,
+/// it returns all parts of the line. It takes at most one step for each matcher and byte from
+/// `from` on, and one more for each matcher, and passes at most as many bytes.
 pub fn parts(
     matchers: &mut [Matcher],
     whole: bool,
@@ -31,7 +31,7 @@ pub fn parts(
     requires within { from ≤ length line.now }
     requires alike { AreAlike whole matchers.old }
     ensures reported { FindsPart (expressions_of matchers.old) line.now whole from result }
-    ensures same_matchers { SameMatchers matchers.old matchers.new }
+    ensures same_matchers { AreSame matchers.old matchers.new }
     ensures steps { AddsAtMost (length matchers.old * (length line.now - from + 1)) meter.old
         meter.new }
 {
@@ -46,8 +46,8 @@ pub fn parts(
     best
 }
 
-/// The line, if the part is to begin there, and some matcher matches it. All have to answer that the
-/// whole line has to be matched.
+/// The line, if the part is to begin there, and some matcher matches it. All have to answer that
+/// the whole line has to be matched.
 pub fn line_part(
     matchers: &mut [Matcher],
     line: &[u8],
@@ -56,7 +56,7 @@ pub fn line_part(
 ) -> Option<Span>
     requires { AreAlike true matchers.old }
     ensures reported { FindsPart (expressions_of matchers.old) line.now true from result }
-    ensures same_matchers { SameMatchers matchers.old matchers.new }
+    ensures same_matchers { AreSame matchers.old matchers.new }
     ensures steps { AddsAtMost (length matchers.old * (length line.now - from + 1)) meter.old
         meter.new }
 {
@@ -94,12 +94,12 @@ fn better(best: Option<Span>, found: Option<Span>) -> Option<Span>
 }
 
 /// Whether some matcher matches the line. `whole` is what all matchers answer to whether the whole
-/// line has to be matched. None is asked after the first that matches. It takes at most one step for
-/// each matcher and byte, and one more for each matcher, and passes at most as many bytes.
+/// line has to be matched. None is asked after the first that matches. It takes at most one step
+/// for each matcher and byte, and one more for each matcher, and passes at most as many bytes.
 pub fn is_matched(matchers: &mut [Matcher], _whole: bool, line: &[u8], meter: &mut Meter) -> bool
     requires alike { AreAlike _whole matchers.old }
     ensures reported { IsTrue result ↔ IsSought (sought_of _whole matchers.old) line.now }
-    ensures same_matchers { SameMatchers matchers.old matchers.new }
+    ensures same_matchers { AreSame matchers.old matchers.new }
     ensures steps { AddsAtMost (length (expressions_of matchers.old) * (length line.now + 1))
         meter.old meter.new }
 {
@@ -112,10 +112,10 @@ pub fn is_matched(matchers: &mut [Matcher], _whole: bool, line: &[u8], meter: &m
 }
 
 /// The first line of a block of whole lines that some matcher matches, by its place without its
-/// newline. `whole` is what all matchers answer to whether the whole line has to be matched. It takes
-/// at most one step for each matcher and byte up to that newline, and one more for each matcher, and
-/// passes at most as many bytes. If no line is matched, it takes at most one step for each matcher
-/// and byte of the block, and passes at most as many bytes.
+/// newline. `whole` is what all matchers answer to whether the whole line has to be matched. It
+/// takes at most one step for each matcher and byte up to that newline, and one more for each
+/// matcher, and passes at most as many bytes. If no line is matched, it takes at most one step for
+/// each matcher and byte of the block, and passes at most as many bytes.
 pub fn next_matched(
     matchers: &mut [Matcher],
     whole: bool,
@@ -126,7 +126,7 @@ pub fn next_matched(
     requires block { IsBlock block.now }
     ensures reported { FindsSought (sought_of whole matchers.old) (lines_of block.now) result }
     ensures within { IfSome result (λ at. (at.start ≤ at.end) × (at.end < length block.now)) }
-    ensures same_matchers { SameMatchers matchers.old matchers.new }
+    ensures same_matchers { AreSame matchers.old matchers.new }
     ensures steps { AddsAtMost (length (expressions_of matchers.old) * next_cost block.now result)
         meter.old meter.new }
 {
@@ -136,9 +136,9 @@ pub fn next_matched(
     next_by_lines(matchers, whole, block, meter)
 }
 
-/// How many lines of a block of whole lines some matcher matches. `whole` is what all matchers answer
-/// to whether the whole line has to be matched. It takes at most one step for each matcher and byte,
-/// and passes at most as many bytes.
+/// How many lines of a block of whole lines some matcher matches. `whole` is what all matchers
+/// answer to whether the whole line has to be matched. It takes at most one step for each matcher
+/// and byte, and passes at most as many bytes.
 pub fn count_matched(
     matchers: &mut [Matcher],
     whole: bool,
@@ -148,7 +148,7 @@ pub fn count_matched(
     requires alike { AreAlike whole matchers.old }
     requires block { IsBlock block.now }
     ensures reported { CountsSought (sought_of whole matchers.old) (lines_of block.now) result }
-    ensures same_matchers { SameMatchers matchers.old matchers.new }
+    ensures same_matchers { AreSame matchers.old matchers.new }
     ensures steps { AddsAtMost (length (expressions_of matchers.old) * length block.now) meter.old
         meter.new }
 {
@@ -177,7 +177,7 @@ fn next_by_lines(
     requires block { IsBlock block.now }
     ensures reported { FindsSought (sought_of whole matchers.old) (lines_of block.now) result }
     ensures within { IfSome result (λ at. (at.start ≤ at.end) × (at.end < length block.now)) }
-    ensures same_matchers { SameMatchers matchers.old matchers.new }
+    ensures same_matchers { AreSame matchers.old matchers.new }
     ensures steps { AddsAtMost (length (expressions_of matchers.old) * next_cost block.now result)
         meter.old meter.new }
 {

@@ -1,5 +1,5 @@
 -- The matchers of patterns.
-use Rattle.std.specs.Prelude.{◌≡◌, List, length, map, All}
+use Rattle.std.specs.Prelude.{◌≡◌, List, length, All}
 use Rattle.re_syntax.specs.declared.syntax.Syntax.{Syntax}
 use Rattle.re_syntax.specs.Bytes.{Text}
 use Rattle.re_search.specs.declared.matcher.Matcher.{Matcher}

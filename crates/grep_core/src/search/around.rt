@@ -2,7 +2,7 @@
 ghost use Rattle.std.specs.Prelude.{◌≡◌, ◌⊎◌, ◌-◌, ◌≤◌, [], ◌∷◌, ◌++◌, length, Err, IfOk};
 ghost use Rattle.std.specs.Prelude.{if◌then◌else◌};
 ghost use Rattle.re_syntax.specs.Lines.{lines_of};
-ghost use Rattle.re_search.specs.Working.Matchers.{AreAlike, SameMatchers, expressions_of};
+ghost use Rattle.re_search.specs.Working.Matchers.{AreAlike, AreSame, expressions_of};
 ghost use Rattle.re_search.specs.Working.Blocks.{IsBlock};
 ghost use Rattle.grep_core.specs.Around.{group_separator};
 ghost use Rattle.grep_core.specs.Row.{output_line};
@@ -209,7 +209,7 @@ pub fn search_around<R: CountedRead, W: CountedWrite>(
         (R.failures lines.old.lines.reader) (R.failures lines.new.lines.reader)
         (writer W.contents W.failures out.old) (writer W.contents W.failures out.new)
         meter.old meter.new result }
-    ensures same { SameMatchers matchers.old matchers.new }
+    ensures same { AreSame matchers.old matchers.new }
 {
     let mut selected: u64 = 0;
     'lines: loop {

@@ -1,6 +1,6 @@
 //! The search of one source, whose selected lines are only counted.
 ghost use Rattle.std.specs.Prelude.{◌≡◌, ◌-◌, ◌≤◌, [], Err, false, if◌then◌else◌};
-ghost use Rattle.re_search.specs.Working.Matchers.{AreAlike, SameMatchers, expressions_of};
+ghost use Rattle.re_search.specs.Working.Matchers.{AreAlike, AreSame, expressions_of};
 ghost use Rattle.grep_core.specs.Output.{counts, form};
 ghost use Rattle.grep_io.specs.Reading.{open_source, OneLeft};
 ghost use Rattle.grep_core.specs.Run.{writer};
@@ -47,7 +47,7 @@ pub fn count_lines<R: CountedRead, W: CountedWrite>(
         (R.failures lines.old.lines.reader) (R.failures lines.new.lines.reader)
         (writer W.contents W.failures out.old) (writer W.contents W.failures out.new)
         meter.old meter.new result }
-    ensures same { SameMatchers matchers.old matchers.new }
+    ensures same { AreSame matchers.old matchers.new }
 {
     let options = &request.options;
     let mut selected: u64 = 0;

@@ -1,7 +1,7 @@
 //! The search of one source.
 ghost use Rattle.std.specs.Prelude.{◌≡◌, ◌+◌, ◌-◌, ◌^◌, ◌<◌, [], length, Err};
 ghost use Rattle.std.specs.Prelude.{false, if◌then◌else◌};
-ghost use Rattle.re_search.specs.Working.Matchers.{AreAlike, SameMatchers, expressions_of};
+ghost use Rattle.re_search.specs.Working.Matchers.{AreAlike, AreSame, expressions_of};
 ghost use Rattle.grep_core.specs.Output.{form, written};
 ghost use Rattle.grep_io.specs.Reading.{open_source, OneLeft};
 ghost use Rattle.grep_io.specs.Written.{Writes};
@@ -53,7 +53,7 @@ fn search_lines<R: CountedRead, W: CountedWrite>(
         (R.failures lines.old.lines.reader) (R.failures lines.new.lines.reader)
         (writer W.contents W.failures out.old) (writer W.contents W.failures out.new)
         meter.old meter.new result }
-    ensures same { SameMatchers matchers.old matchers.new }
+    ensures same { AreSame matchers.old matchers.new }
 {
     let early = request.options.leaves_early();
     let bare = request.writes_bare_lines();
@@ -105,7 +105,7 @@ fn search_opened<R: CountedRead, W: CountedWrite>(
         (R.failures lines.old.lines.reader) (R.failures lines.new.lines.reader)
         (writer W.contents W.failures out.old) (writer W.contents W.failures out.new)
         meter.old meter.new result }
-    ensures same { SameMatchers matchers.old matchers.new }
+    ensures same { AreSame matchers.old matchers.new }
 {
     if request.options.only_counts() {
         return count_lines(lines, matchers, request, out, meter);
@@ -193,7 +193,7 @@ pub fn search_source<S: Sources, W: CountedWrite, N: CountedWrite>(
         (S.failures sources.old) meter.old)
         (devices (writer W.contents W.failures out.new) (writer N.contents N.failures messages.new)
         (S.failures sources.new) meter.new) result }
-    ensures same { SameMatchers matchers.old matchers.new }
+    ensures same { AreSame matchers.old matchers.new }
 {
     let place = source.place;
     let Some(reader) = sources.open(place) else {

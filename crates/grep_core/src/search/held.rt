@@ -6,7 +6,7 @@ ghost use Rattle.re_syntax.specs.Lines.{terminated};
 ghost use Rattle.re_search.specs.Searches.{AddsAtMost};
 ghost use Rattle.re_search.specs.Meters.{Steps};
 ghost use Rattle.re_search.specs.Working.Blocks.{IsBlock};
-ghost use Rattle.re_search.specs.Working.Matchers.{AreAlike, SameMatchers, expressions_of};
+ghost use Rattle.re_search.specs.Working.Matchers.{AreAlike, AreSame, expressions_of};
 ghost use Rattle.re_search.specs.Working.Sought.{sought_of};
 ghost use Rattle.grep_core.specs.Cost.{SearchesLines};
 ghost use Rattle.grep_core.specs.Run.{writer};
@@ -35,7 +35,7 @@ pub fn next_held<'a, R: CountedRead>(
     ensures divided { (before : List Text) × (all : List Text)
         × IsDivided (sought_of whole matchers.old) result before all × IsNextOf lines.now all }
     ensures none { asked ≡ false → result.count ≡ 0 }
-    ensures same { SameMatchers matchers.old matchers.new }
+    ensures same { AreSame matchers.old matchers.new }
     ensures steps { AddsAtMost (length (expressions_of matchers.old) * result.bytes)
         meter.old meter.new }
 {
@@ -109,7 +109,7 @@ fn write_matched<W: CountedWrite>(
     requires block { IsBlock block.now }
     ensures written { WritesMatched W.contents W.failures (sought_of whole matchers.old)
         block.now out.old out.new result }
-    ensures same { SameMatchers matchers.old matchers.new }
+    ensures same { AreSame matchers.old matchers.new }
     ensures steps { AddsAtMost (length (expressions_of matchers.old) * length block.now)
         meter.old meter.new }
 {
@@ -154,7 +154,7 @@ pub fn write_searched<W: CountedWrite>(
         (StopsLines (expressions_of matchers.old) request.now.options
         request.now.many request.now.name.now (number + 1) all
         (writer W.contents W.failures out.old) (writer W.contents W.failures out.new)) }
-    ensures same { SameMatchers matchers.old matchers.new }
+    ensures same { AreSame matchers.old matchers.new }
     ensures steps { (before : List Text) (all : List Text)
         → IsDivided (sought_of request.now.options.line_regexp matchers.old) stretch.now before all
         → (began : Steps) → AddsAtMost (length (expressions_of matchers.old)
@@ -199,7 +199,7 @@ pub fn write_held<R: CountedRead, W: CountedWrite>(
         request.now.options request.now.many request.now.name.now lines.now
         (writer W.contents W.failures out.old) (writer W.contents W.failures out.new)
         meter.old meter.new) }
-    ensures same { SameMatchers matchers.old matchers.new }
+    ensures same { AreSame matchers.old matchers.new }
 {
     let invert = request.options.invert_match;
     let whole = request.options.line_regexp;

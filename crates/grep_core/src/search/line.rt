@@ -1,7 +1,7 @@
 //! One line: whether it is selected, and what is written for it.
 ghost use Rattle.std.specs.Prelude.{◌≡◌, ◌<◌, ◌≤◌, length, IfErr, IfOk, OnErr};
 ghost use Rattle.re_search.specs.Searches.{AddsAtMost};
-ghost use Rattle.re_search.specs.Working.Matchers.{AreAlike, SameMatchers, expressions_of};
+ghost use Rattle.re_search.specs.Working.Matchers.{AreAlike, AreSame, expressions_of};
 ghost use Rattle.grep_core.specs.Output.{form, parts};
 ghost use Rattle.grep_core.specs.Run.{writer};
 ghost use Rattle.grep_core.specs.Cost.{line_cost, parts_cost, search_cost};
@@ -62,7 +62,7 @@ fn write_parts<W: CountedWrite>(
         (BreaksSelected (expressions_of matchers.old) request.now.options request.now.many
         request.now.name.now number line.now (writer W.contents W.failures out.old)
         (writer W.contents W.failures out.new)) }
-    ensures same { SameMatchers matchers.old matchers.new }
+    ensures same { AreSame matchers.old matchers.new }
     ensures steps { AddsAtMost
         (search_cost (length (expressions_of matchers.old)) line.now) meter.old meter.new }
 {
@@ -96,7 +96,7 @@ pub fn write_selected<W: CountedWrite>(
         (BreaksSelected (expressions_of matchers.old) request.now.options request.now.many
         request.now.name.now number line.now (writer W.contents W.failures out.old)
         (writer W.contents W.failures out.new)) }
-    ensures same { SameMatchers matchers.old matchers.new }
+    ensures same { AreSame matchers.old matchers.new }
     ensures steps { AddsAtMost (parts_cost request.now.options
         (length (expressions_of matchers.old)) line.now) meter.old meter.new }
 {
@@ -131,7 +131,7 @@ pub fn search_line<W: CountedWrite>(
         (StopsLine (expressions_of matchers.old) request.now.options request.now.many
         request.now.name.now number line.now (writer W.contents W.failures out.old)
         (writer W.contents W.failures out.new)) }
-    ensures same { SameMatchers matchers.old matchers.new }
+    ensures same { AreSame matchers.old matchers.new }
     ensures steps { AddsAtMost (line_cost request.now.options
         (length (expressions_of matchers.old)) line.now) meter.old meter.new }
 {

@@ -1,6 +1,6 @@
 //! The one pass over all sources.
 ghost use Rattle.std.specs.Prelude.{◌≡◌};
-ghost use Rattle.re_search.specs.Working.Matchers.{AreAlike, SameMatchers, expressions_of};
+ghost use Rattle.re_search.specs.Working.Matchers.{AreAlike, AreSame, expressions_of};
 ghost use Rattle.grep_core.specs.Run.{writer, RunGives, devices};
 ghost use Rattle.grep_core.specs.Sources.{Returns};
 
@@ -50,7 +50,7 @@ pub fn search_all<S: Sources, W: CountedWrite, N: CountedWrite>(
         (S.failures sources.old) meter.old)
         (devices (writer W.contents W.failures out.new) (writer N.contents N.failures messages.new)
         (S.failures sources.new) meter.new) result }
-    ensures same_matchers { SameMatchers matchers.old matchers.new }
+    ensures same_matchers { AreSame matchers.old matchers.new }
 {
     let mut line_parts = LineParts::new(request.alloc);
     let count = sources.count();

@@ -1,7 +1,7 @@
 //! Whether a line is selected by several matchers.
-ghost use Rattle.std.specs.Prelude.{◌≡◌, ◌↔◌, IsTrue, length};
+ghost use Rattle.std.specs.Prelude.{◌↔◌, IsTrue, length};
 ghost use Rattle.re_search.specs.Searches.{AddsAtMost};
-ghost use Rattle.re_search.specs.Working.Matchers.{AreAlike, SameMatchers, expressions_of};
+ghost use Rattle.re_search.specs.Working.Matchers.{AreAlike, AreSame, expressions_of};
 ghost use Rattle.grep_core.specs.Cost.{search_cost};
 ghost use Rattle.grep_core.specs.Files.{Selected};
 
@@ -19,7 +19,7 @@ pub fn is_selected(
 ) -> bool
     requires alike { AreAlike options.line_regexp matchers.old }
     ensures reported { IsTrue result ↔ Selected (expressions_of matchers.old) options line.now }
-    ensures same { SameMatchers matchers.old matchers.new }
+    ensures same { AreSame matchers.old matchers.new }
     ensures steps { AddsAtMost
         (search_cost (length (expressions_of matchers.old)) line.now) meter.old meter.new }
 {

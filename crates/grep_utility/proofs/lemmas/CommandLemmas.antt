@@ -1,5 +1,5 @@
 -- How the whole command ends, from what its steps did.
-use Rattle.grep_utility.proofs.Prelude.{◌≡◌, ℕ, nat_lt, ◌<◌, ◌≤◌, ◌-◌, ◌^◌, Bool, true, false, List, [], ◌∷◌, Ok, Err, MatchBool, MatchResult, ◌⊎◌, inl, inr, length, map, refl, sym, ap, ◌∙◌, subst, arith, Option, ltb-false, false≢true, the_type, FaultKind, Syntax, PatternFault, Text, Steps, Matcher, IsOutOfMemory, expressions_of, Expression, Options, IsSameChoice, Writer, Devices, count_more, UsageFault, ReportsLines, GivesUp, SearchEnds, RefusesPattern, SearchesNamed, ReturnedAfter, DoesForRequest, CommandGives, Folder, sources_named, searched, IsPrepared, IsDue, HasNumber, due_text, CommandFault, TooMany, Refused, most_patterns, IsFirstRefused, folder_after_all, GivePatterns, too_many_patterns, fault_text, usage_texts, Asked, read, OrMemory}
+use Rattle.grep_utility.proofs.Prelude.{◌≡◌, ℕ, nat_lt, ◌<◌, ◌≤◌, ◌-◌, ◌^◌, Bool, true, false, List, [], ◌∷◌, Ok, Err, MatchBool, MatchResult, ◌⊎◌, inl, inr, length, refl, sym, ap, ◌∙◌, subst, arith, Option, ltb-false, false≢true, the_type, FaultKind, Syntax, PatternFault, Text, Steps, Matcher, IsOutOfMemory, expressions_of, Expression, Options, IsSameChoice, Writer, Devices, count_more, UsageFault, ReportsLines, GivesUp, SearchEnds, RefusesPattern, SearchesNamed, ReturnedAfter, DoesForRequest, CommandGives, Folder, sources_named, searched, IsPrepared, IsDue, HasNumber, due_text, CommandFault, TooMany, Refused, most_patterns, IsFirstRefused, folder_after_all, GivePatterns, too_many_patterns, fault_text, usage_texts, Asked, read, OrMemory}
 use denote.Enum.Bare.{sameb}
 use Rattle.re_syntax.specs.declared.fault.FaultKind.TheVariants.{Memory}
 use Rattle.grep_core.specs.Reading.{Source as FileSource}

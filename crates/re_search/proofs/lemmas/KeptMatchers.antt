@@ -1,27 +1,30 @@
 -- Matchers that are the same as before: where none was asked, over two calls, and where one of them was asked.
-use Rattle.re_search.proofs.Prelude.{◌≡◌, ℕ, List, get_or, refl, ◌∙◌, set, Matcher, matched_expression, wants_whole, room_of, IsSame, SameMatchers, Bool, sought_of, AllAnswer, AreAlike, expressions_of, ap, length, length-map, subst, sym}
+use Rattle.re_search.proofs.Prelude.{◌≡◌, ℕ, List, get_or, refl, ◌∙◌, set, Matcher, matched_expression, wants_whole, room_of, IsSame, AreSame, Bool, sought_of, AllAnswer, AreAlike, expressions_of, ap, length, length-map, subst, sym}
 use Rattle.re_search.proofs.lemmas.OneMatcherMore.{same_after}
-pub use Rattle.re_match.proofs.lemmas.SameLaws.{same_twice}
 
 -- a list has the same matchers as itself
-pub none_asked : {ms : List Matcher} → SameMatchers ms ms
+pub none_asked : {ms : List Matcher} → AreSame ms ms
 none_asked = record { same_expressions = refl; same_wholes = refl; same_rooms = refl }
 
 -- what is the same after each of two calls is so after both
-pub same_over : {old middle new : List Matcher} → SameMatchers middle new → SameMatchers old middle → SameMatchers old new
+pub same_over : {old middle new : List Matcher} → AreSame middle new → AreSame old middle → AreSame old new
 same_over later first = record { same_expressions = later.same_expressions ∙ first.same_expressions; same_wholes = later.same_wholes ∙ first.same_wholes; same_rooms = later.same_rooms ∙ first.same_rooms }
 
 -- they are so still where the matcher at place i is replaced by one that is the same
-pub one_kept : {old now : List Matcher} → SameMatchers old now → (i : ℕ) (d n : Matcher) → IsSame (get_or now i d) n → SameMatchers old (set now i n)
-one_kept same i d n kept = record { same_expressions = same_after matched_expression _ _ same.same_expressions i d n kept.same_expression; same_wholes = same_after wants_whole _ _ same.same_wholes i d n kept.same_whole; same_rooms = same_after room_of _ _ same.same_rooms i d n kept.same_room }
+pub one_asked : {old now : List Matcher} → AreSame old now → (i : ℕ) (d n : Matcher) → matched_expression n ≡ matched_expression (get_or now i d) → wants_whole n ≡ wants_whole (get_or now i d) → room_of n ≡ room_of (get_or now i d) → AreSame old (set now i n)
+one_asked same i d n e w r = record { same_expressions = same_after matched_expression _ _ same.same_expressions i d n e; same_wholes = same_after wants_whole _ _ same.same_wholes i d n w; same_rooms = same_after room_of _ _ same.same_rooms i d n r }
+
+-- the same with the three in one
+pub one_kept : {old now : List Matcher} → AreSame old now → (i : ℕ) (d n : Matcher) → IsSame (get_or now i d) n → AreSame old (set now i n)
+one_kept same i d n kept = one_asked same i d n kept.same_expression kept.same_whole kept.same_room
 
 -- they search for the same
-pub same_sought : {whole : Bool} {old new : List Matcher} → SameMatchers old new → sought_of whole new ≡ sought_of whole old
+pub same_sought : {whole : Bool} {old new : List Matcher} → AreSame old new → sought_of whole new ≡ sought_of whole old
 same_sought {whole} same = λ i. record { expressions = same.same_expressions i; whole = whole }
 
 -- they are as many, and agree as before on whether the whole line has to be matched
-pub as_many : {old new : List Matcher} → SameMatchers old new → length new ≡ length (expressions_of old)
+pub as_many : {old new : List Matcher} → AreSame old new → length new ≡ length (expressions_of old)
 as_many {old} {new} same = sym (length-map new matched_expression) ∙ ap length same.same_expressions
 
-pub still_alike : {whole : Bool} {old new : List Matcher} → SameMatchers old new → AreAlike whole old → AreAlike whole new
+pub still_alike : {whole : Bool} {old new : List Matcher} → AreSame old new → AreAlike whole old → AreAlike whole new
 still_alike {whole} same alike = subst (AllAnswer whole) (sym same.same_wholes) alike

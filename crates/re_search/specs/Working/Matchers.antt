@@ -1,11 +1,10 @@
 -- The expression of a matcher of any kind, the entries of its cache, and how its steps are counted.
-use Rattle.std.specs.Prelude.{ℕ, ◌+◌, Bool, true, false, List, [], length, map}
+use Rattle.std.specs.Prelude.{◌≡◌, ℕ, ◌+◌, Bool, true, false, List, [], length, map}
 use Rattle.re_syntax.specs.Bytes.{Text}
 use Rattle.re_syntax.specs.Expression.{Expression}
 use Rattle.re_syntax.specs.Working.Trees.{expression_of}
 use Rattle.re_auto.specs.Meters.{Steps}
 use Rattle.re_auto.specs.Searches.{AllAnswer}
-use Rattle.re_auto.specs.Searches as searches
 use Rattle.re_search.specs.declared.matcher.Matcher.{Matcher}
 use Rattle.re_search.specs.declared.matcher.Matcher.TheVariants as m
 use Rattle.re_match.specs.Working.Strings.{matched_strings, CountsLook}
@@ -49,8 +48,10 @@ abbrev pub IsSame : Matcher → Matcher → Type 0
 IsSame = SameMatcher matched_expression wants_whole room_of
 
 -- nor of each of several in the same order
-abbrev pub SameMatchers : List Matcher → List Matcher → Type 0
-SameMatchers = searches.SameMatchers matched_expression wants_whole room_of
+pub record AreSame (old new : List Matcher) : Type 0 where
+  pub same_expressions : expressions_of new ≡ expressions_of old
+  pub same_wholes : map wants_whole new ≡ map wants_whole old
+  pub same_rooms : map room_of new ≡ map room_of old
 
 -- how the steps of a search are counted: for strings exactly, with a cache by what it knew
 abbrev pub CountsSteps : Text → Matcher → Steps → Matcher → Steps → Bool → Type 0

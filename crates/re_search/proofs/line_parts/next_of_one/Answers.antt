@@ -1,4 +1,5 @@
 use Rattle.re_search.proofs.Prelude.{◌∙◌, inl, refl, arith, length}
+use Rattle.re_match.proofs.lemmas.SameLaws.{same_twice}
 use Rattle.re_match.proofs.lemmas.WindowLaws.{from_place, part_later}
 use Rattle.re_search.proofs.lemmas.LinePartsLaws.{none_later, parts_after, passed_right, stretch_steps, window_ends, window_known, window_steps}
 use Rattle.re_search.proofs.line_parts.next_of_one.Goals as goal
@@ -49,11 +50,7 @@ stretches-preserved c =
         are_ends = window_known _ _ c.max-at.result c.in-In.window (omega arith) is _ c.look_at.ensures.seen (rw (next.same_expression, same.same_expression) at c.look_at.ensures.right);
       };
       room = c.look_at.ensures.room ∙ i.room;
-      same = record {
-        same_expression = c.look_at.ensures.same.same_expression ∙ next.same_expression ∙ same.same_expression;
-        same_whole = c.look_at.ensures.same.same_whole ∙ next.same_whole ∙ same.same_whole;
-        same_room = c.look_at.ensures.same.same_room ∙ next.same_room ∙ same.same_room;
-      };
+      same = same_twice c.look_at.ensures.same (same_twice next same);
       steps = λ first before.
           rw c.look_at.ensures.seen (window_steps c.stretches.parts.seen c.max-at.result c.in-In.window.start c.in-In.window.end _ first _ _ _ (omega (arith, c.max-at.ensures, c.seen.ensures)) on.1 is.0.0 is.1.0 (omega (arith, on.0)) (i.steps first before) c.in-In.ensures.steps c.look_at.ensures.steps);
     }

@@ -1,4 +1,4 @@
-use Rattle.re_search.proofs.Prelude.{◌≡◌, ◌+◌, None, Some, length, drop, slice_set, refl, ap, subst, arith, length-drop, take_rest, lines_of, expressions_of, sought_of, Sought, IsSought, FindsSought, SameMatchers}
+use Rattle.re_search.proofs.Prelude.{◌≡◌, ◌+◌, None, Some, length, drop, ap, subst, arith, length-drop, take_rest, lines_of, expressions_of, sought_of, Sought, IsSought, FindsSought}
 use Rattle.re_search.proofs.lemmas.KeptMatchers.{none_asked, one_kept, same_over, same_sought}
 use Rattle.re_search.proofs.lemmas.OneMatcher.{sought_alone}
 use Rattle.re_runs.proofs.lemmas.CountedBlocks.{counts_same}

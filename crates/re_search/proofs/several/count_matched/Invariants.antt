@@ -1,4 +1,4 @@
-use Rattle.re_search.proofs.Prelude.{◌*◌, ◌-◌, length, SameMatchers, expressions_of, sought_of, IsSought}
+use Rattle.re_search.proofs.Prelude.{◌*◌, ◌-◌, length, AreSame, expressions_of, sought_of, IsSought}
 use Rattle.re_auto.specs.Searches.{AddsAtMost}
 use Rattle.re_runs.proofs.lemmas.NextLines.{CountsTo}
 use Rattle.re_search.proofs.several.count_matched.Given as goal
@@ -7,7 +7,7 @@ use Rattle.re_search.proofs.several.count_matched.Given as goal
 abbrev pub invariant-lines : goal.invariant-lines
 invariant-lines l = record {
   counts : CountsTo (IsSought (sought_of l.whole l.fn.matchers)) l.block l.rest l.count;
-  same : SameMatchers l.fn.matchers l.matchers;
+  same : AreSame l.fn.matchers l.matchers;
   steps : AddsAtMost (length (expressions_of l.fn.matchers) * (length l.block - length l.rest)) l.fn.meter l.meter;
 }
 

@@ -1,4 +1,4 @@
-use Rattle.re_search.proofs.Prelude.{◌*◌, ◌-◌, ◌≤◌, length, SameMatchers, expressions_of, sought_of, PassesUnsought}
+use Rattle.re_search.proofs.Prelude.{◌*◌, ◌-◌, ◌≤◌, length, AreSame, expressions_of, sought_of, PassesUnsought}
 use Rattle.re_auto.specs.Searches.{AddsAtMost}
 use Rattle.re_search.proofs.several.next_by_lines.Given as goal
 
@@ -7,7 +7,7 @@ abbrev pub invariant-lines : goal.invariant-lines
 invariant-lines l = record {
   within : l.start ≤ length l.block;
   passed : PassesUnsought (sought_of l.whole l.fn.matchers) l.block l.start;
-  same : SameMatchers l.fn.matchers l.matchers;
+  same : AreSame l.fn.matchers l.matchers;
   steps : AddsAtMost (length (expressions_of l.fn.matchers) * l.start) l.fn.meter l.meter;
 }
 

@@ -1,4 +1,4 @@
-use Rattle.re_search.proofs.Prelude.{slice_set, refl, lines_of, SameMatchers}
+use Rattle.re_search.proofs.Prelude.{lines_of}
 use Rattle.re_search.proofs.lemmas.KeptMatchers.{none_asked, one_kept}
 use Rattle.re_search.proofs.lemmas.OneMatcher.{sought_alone}
 use Rattle.re_runs.proofs.lemmas.NextLines.{finds_same}

@@ -1,4 +1,4 @@
-use Rattle.grep_core.proofs.Prelude.{◌≡◌, ◌-◌, ◌^◌, SameMatchers, IsOneLineAndFew, writer, expressions_of}
+use Rattle.grep_core.proofs.Prelude.{◌≡◌, ◌-◌, ◌^◌, AreSame, IsOneLineAndFew, writer, expressions_of}
 use Rattle.grep_core.proofs.lemmas.AroundSearch.{FollowedSoFar}
 use Rattle.grep_core.proofs.search.around.search_around.Given as goal
 
@@ -18,7 +18,7 @@ invariant-lines g l = record {
   }) l.lines (writer g.W.CountedWrite.contents g.W.CountedWrite.failures l.fn.out) (writer g.W.CountedWrite.contents g.W.CountedWrite.failures l.out) l.fn.meter l.meter l.selected l.surroundings.progress l.surroundings.recent.lines;
   limit : l.surroundings.recent.limit ≡ l.fn.surroundings.progress.context.before;
   few_held : IsOneLineAndFew l.lines.lines.ahead;
-  same : SameMatchers l.fn.matchers l.matchers;
+  same : AreSame l.fn.matchers l.matchers;
 }
 
 abbrev pub decreases-lines : goal.decreases-lines

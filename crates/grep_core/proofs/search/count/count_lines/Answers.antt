@@ -1,4 +1,4 @@
-use Rattle.grep_core.proofs.Prelude.{◌∙◌, [], false, length, refl, arith, lines_of, sought_of, IsSought, writer, expressions_of}
+use Rattle.grep_core.proofs.Prelude.{[], false, length, refl, arith, lines_of, sought_of, IsSought, writer, expressions_of}
 use Rattle.re_search.proofs.lemmas.KeptMatchers.{none_asked, same_over, still_alike}
 use Rattle.grep_core.proofs.lemmas.WrittenLemmas.{TakesAll-written}
 use Rattle.grep_core.proofs.lemmas.FileOutput.{rows_none}

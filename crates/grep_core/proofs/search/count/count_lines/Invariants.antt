@@ -1,4 +1,4 @@
-use Rattle.grep_core.proofs.Prelude.{◌-◌, ◌^◌, false, SameMatchers, writer, expressions_of}
+use Rattle.grep_core.proofs.Prelude.{◌-◌, ◌^◌, false, AreSame, writer, expressions_of}
 use Rattle.grep_core.proofs.lemmas.LinesLemmas.{SearchedSoFar}
 use Rattle.grep_core.proofs.search.count.count_lines.Given as goal
 
@@ -7,7 +7,7 @@ abbrev pub invariant-lines : goal.invariant-lines
 invariant-lines g l = record {
   so_far : SearchedSoFar g.R.CountedRead.remaining g.R.CountedRead.failures (expressions_of l.fn.matchers) l.request.options l.request.many false l.request.name.now
       l.fn.lines.lines.reader l.lines (writer g.W.CountedWrite.contents g.W.CountedWrite.failures l.fn.out) (writer g.W.CountedWrite.contents g.W.CountedWrite.failures l.out) l.fn.meter l.meter l.selected;
-  same : SameMatchers l.fn.matchers l.matchers;
+  same : AreSame l.fn.matchers l.matchers;
 }
 
 abbrev pub decreases-lines : goal.decreases-lines

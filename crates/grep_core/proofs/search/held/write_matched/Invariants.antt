@@ -1,4 +1,4 @@
-use Rattle.grep_core.proofs.Prelude.{◌*◌, ◌-◌, length, Text, SameMatchers, expressions_of, sought_of, IsSought, GoesOut}
+use Rattle.grep_core.proofs.Prelude.{◌*◌, ◌-◌, length, Text, AreSame, expressions_of, sought_of, IsSought, GoesOut}
 use Rattle.re_search.specs.Searches.{AddsAtMost}
 use Rattle.grep_core.proofs.lemmas.MatchedLemmas.{RunsTo}
 use Rattle.grep_core.proofs.search.held.write_matched.Given as goal
@@ -7,7 +7,7 @@ use Rattle.grep_core.proofs.search.held.write_matched.Given as goal
 abbrev pub invariant-lines : goal.invariant-lines
 invariant-lines g l = record {
   writes : (sent : Text) × RunsTo (IsSought (sought_of l.whole l.fn.matchers)) l.block l.run l.start l.found sent × GoesOut g.W.CountedWrite.contents g.W.CountedWrite.failures l.fn.out l.out sent;
-  same : SameMatchers l.fn.matchers l.matchers;
+  same : AreSame l.fn.matchers l.matchers;
   steps : AddsAtMost (length (expressions_of l.fn.matchers) * l.start) l.fn.meter l.meter;
 }
 

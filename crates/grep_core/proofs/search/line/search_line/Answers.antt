@@ -1,4 +1,4 @@
-use Rattle.grep_core.proofs.Prelude.{◌∙◌, length, StopsLine, expressions_of}
+use Rattle.grep_core.proofs.Prelude.{length, StopsLine, expressions_of}
 use Rattle.re_search.proofs.lemmas.KeptMatchers.{same_over, still_alike}
 use Rattle.grep_core.proofs.lemmas.CostLaws.{line_asked, searched_once}
 use Rattle.grep_core.proofs.lemmas.OneLineLemmas.{unwritten, line_broken, line_passed, line_selected}

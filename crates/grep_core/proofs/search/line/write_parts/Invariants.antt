@@ -1,4 +1,4 @@
-use Rattle.grep_core.proofs.Prelude.{◌-◌, ◌*◌, ◌≤◌, length, AddsAtMost, SameMatchers, sought_of, ArePartsOf, spent, writer, expressions_of}
+use Rattle.grep_core.proofs.Prelude.{◌-◌, ◌*◌, ◌≤◌, length, AddsAtMost, AreSame, sought_of, ArePartsOf, spent, writer, expressions_of}
 use Rattle.grep_core.proofs.lemmas.PartsLemmas.{PartsSoFar}
 use Rattle.grep_core.proofs.search.line.write_parts.Given as goal
 
@@ -10,7 +10,7 @@ invariant-loop-part g l = record {
   room : length l.line ≤ l.line_parts.room;
   right : ArePartsOf (sought_of l.request.options.line_regexp l.fn.matchers) l.line l.from l.line_parts;
   steps : AddsAtMost (length (expressions_of l.fn.matchers) * spent l.line_parts.seen) l.fn.meter l.meter;
-  same : SameMatchers l.fn.matchers l.matchers;
+  same : AreSame l.fn.matchers l.matchers;
 }
 
 abbrev pub decreases-loop-part : goal.decreases-loop-part

@@ -1,4 +1,4 @@
-use Rattle.grep_core.proofs.Prelude.{◌<◌, ◌≤◌, nat_le, length, map, refl, ap, ◌∙◌, arith, expressions_of}
+use Rattle.grep_core.proofs.Prelude.{◌<◌, ◌≤◌, nat_le, length, refl, ap, ◌∙◌, arith, expressions_of}
 use Rattle.re_search.proofs.lemmas.KeptMatchers.{none_asked, same_over}
 use Rattle.grep_core.proofs.lemmas.SourceLaws.{gives_none, gives_both}
 use Rattle.grep_core.proofs.lemmas.RunLaws.{run_none, run_further, run_ends_at, run_given_up, run_ends}

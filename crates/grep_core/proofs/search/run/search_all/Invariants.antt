@@ -1,4 +1,4 @@
-use Rattle.grep_core.proofs.Prelude.{◌≡◌, ◌≤◌, length, map, take, SameMatchers, writer, Returns, expressions_of}
+use Rattle.grep_core.proofs.Prelude.{◌≡◌, ◌≤◌, length, take, AreSame, writer, Returns, expressions_of}
 use Rattle.grep_core.proofs.lemmas.RunLaws.{RunSoFar}
 use Rattle.grep_core.proofs.search.run.search_all.Given as goal
 
@@ -22,5 +22,5 @@ invariant-loop-k g l = record {
   within : l.k ≤ length (g.S.Sources.listed l.fn.sources);
   in_order : g.S.Sources.stands_at l.sources l.k;
   same_loan : g.S.Sources.loan l.sources ≡ g.S.Sources.loan l.fn.sources;
-  same : SameMatchers l.fn.matchers l.matchers;
+  same : AreSame l.fn.matchers l.matchers;
 }
