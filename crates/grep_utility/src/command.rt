@@ -1,4 +1,6 @@
 //! The whole command (XCU grep).
+ghost use Rattle.std.specs.Prelude.{◌≡◌, List};
+ghost use Rattle.re_search.specs.declared.matcher.Matcher.{Matcher};
 ghost use Rattle.re_search.specs.Working.Matchers.{AreAlike, expressions_of};
 ghost use Rattle.grep_core.specs.Run.{writer, devices};
 ghost use Rattle.grep_core.specs.Sources.{Returns};
@@ -12,21 +14,67 @@ use crate::operands::Operands;
 use crate::prepare::{Task, prepare};
 use crate::texts::FAILED;
 use crate::words::read_words;
-use grep_core::{CountedWrite, SearchRequest, search_all};
+use grep_core::{CountedWrite, SearchRequest, Sources, search_all};
 use re_search::{Matcher, Meter};
 use std::alloc::Global;
+
+/// Several matchers. A call that names [`Matcher`], which holds what is `'static`, can't be proved
+/// where a type argument has a lifetime, as that of [`Operands`].
+trait Matchers {
+    /// The matchers.
+    ghost items: { Self → List Matcher };
+
+    /// Lends them.
+    fn lend(&mut self) -> &mut [Matcher]
+        ensures { result.now ≡ items self.old };
+}
+
+impl Matchers for Vec<Matcher> {
+    ghost items = { λ matchers. matchers.items };
+
+    fn lend(&mut self) -> &mut [Matcher] {
+        self
+    }
+}
+
+/// Searches sources, and returns the exit status.
+fn search_sources<S: Sources, L: Matchers, W: CountedWrite, N: CountedWrite>(
+    task: &Task<'_>,
+    matchers: &mut L,
+    sources: &mut S,
+    out: &mut W,
+    messages: &mut N,
+    meter: &mut Meter,
+) -> u8
+    requires in_order { S.stands_at sources.old 0 }
+    requires alike { AreAlike task.now.request.now.options.line_regexp (L.items matchers.old) }
+    ensures same_loan { S.loan sources.new ≡ S.loan sources.old }
+    ensures ends { SearchEnds (expressions_of (L.items matchers.old)) task.now.request.now.options
+        (S.listed sources.old) (Returns S.returned_readers sources.old sources.new)
+        (devices (writer W.contents W.failures out.old) (writer N.contents N.failures messages.old)
+        (S.failures sources.old) meter.old)
+        (devices (writer W.contents W.failures out.new) (writer N.contents N.failures messages.new)
+        (S.failures sources.new) meter.new) result }
+{
+    let search = SearchRequest {
+        alloc: task.alloc,
+        options: task.request.options,
+    };
+    let found = search_all(&search, sources, matchers.lend(), out, messages, meter);
+    end_search(messages, found)
+}
 
 /// Searches the files of a request, and returns the exit status.
 fn search_request<F: Files, W: CountedWrite, N: CountedWrite>(
     task: &Task<'_>,
-    matchers: &mut [Matcher],
+    matchers: &mut Vec<Matcher>,
     files: &mut F,
     out: &mut W,
     messages: &mut N,
     meter: &mut Meter,
 ) -> u8
-    requires alike { AreAlike task.now.request.now.options.line_regexp matchers.old }
-    ensures { SearchEnds (expressions_of matchers.old) task.now.request.now.options
+    requires alike { AreAlike task.now.request.now.options.line_regexp matchers.old.items }
+    ensures { SearchEnds (expressions_of matchers.old.items) task.now.request.now.options
         (sources_named (F.folder files.old) (searched (texts_of task.now.request.now.files.items)))
         (Returns F.returned_readers files.old files.new)
         (devices (writer W.contents W.failures out.old) (writer N.contents N.failures messages.old)
@@ -34,15 +82,11 @@ fn search_request<F: Files, W: CountedWrite, N: CountedWrite>(
         (devices (writer W.contents W.failures out.new) (writer N.contents N.failures messages.new)
         (F.failures files.new) meter.new) result }
 {
-    let search = SearchRequest {
-        alloc: task.alloc,
-        options: task.request.options,
-    };
-    files.begin_search(&search.options);
+    files.begin_search(&task.request.options);
     let mut operands = Operands::new(&mut *files, &task.request.files);
-    let found = search_all(&search, &mut operands, matchers, out, messages, meter);
+    let status = search_sources(task, matchers, &mut operands, out, messages, meter);
     let _files = operands.into_files();
-    end_search(messages, found)
+    status
 }
 
 /// The whole command (XCU grep), with the words that follow its name: writes standard output and

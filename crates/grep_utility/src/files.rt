@@ -22,10 +22,6 @@ pub trait Files {
     /// What the returned readers had left, in order: any history of them that a caller keeps.
     ghost returned_readers: { Self → List (Option (List ℕ)) → Type 0 } = { λ _ _. ⊤ };
 
-    /// Which loan they are that are a `&mut`, by the name of its referent's value in proofs. It is
-    /// the same for all that are none.
-    ghost loan: { Self → ℕ } = { λ _. 0 };
-
     /// A reader of standard input; none of its reads has failed. From the second call on there is
     /// nothing to read.
     fn standard(&mut self) -> Self::Reader
@@ -34,8 +30,7 @@ pub trait Files {
         ensures fresh { Self.Reader.failures result ≡ 0 }
         ensures readable { Self.Reader.may_be_read result }
         ensures counted { failures self.new ≡ failures self.old }
-        ensures none_back { Returns returned_readers self.old self.new [] }
-        ensures same_loan { loan self.new ≡ loan self.old };
+        ensures none_back { Returns returned_readers self.old self.new [] };
 
     /// A reader of the file, from its first byte on; none of its reads has failed. `None`: it could
     /// not be opened, which is counted as a failure.
@@ -45,8 +40,7 @@ pub trait Files {
             (file_named (folder self.old) name.now)
             (failures self.old) (failures self.new) result }
         ensures readable { IfSome result Self.Reader.may_be_read }
-        ensures none_back { Returns returned_readers self.old self.new [] }
-        ensures same_loan { loan self.new ≡ loan self.old };
+        ensures none_back { Returns returned_readers self.old self.new [] };
 
     /// What is opened from here on is searched with these options, and its rows may be written
     /// before it is read to its end. What was opened before has patterns, and was read to its end.
@@ -54,7 +48,6 @@ pub trait Files {
         ensures kept { folder self.new ≡ folder self.old }
         ensures counted { failures self.new ≡ failures self.old }
         ensures none_back { Returns returned_readers self.old self.new [] }
-        ensures same_loan { loan self.new ≡ loan self.old }
     {}
 
     /// Takes a reader back, and counts its failures.
@@ -62,45 +55,12 @@ pub trait Files {
         ensures kept { folder self.new ≡ folder self.old }
         ensures counted { failures self.new ≡
             count_more (failures self.old) (Self.Reader.failures reader) }
-        ensures back { Returns returned_readers self.old self.new (Self.Reader.remaining reader ∷ []) }
-        ensures same_loan { loan self.new ≡ loan self.old };
+        ensures back { Returns returned_readers self.old self.new (Self.Reader.remaining reader ∷ []) };
 
     /// How many attempts to open a file, and reads of returned readers, have failed. The count
     /// stays at the greatest `u64`.
     fn failures(&self) -> u64
         ensures { result ≡ failures self.now };
-}
-
-impl<F: Files> Files for &mut F {
-    type Reader = F::Reader;
-
-    ghost folder = { λ f. F.folder f.now };
-
-    ghost failures = { λ f. F.failures f.now };
-
-    ghost returned_readers = { λ f left. F.returned_readers f.now left };
-
-    ghost loan = { λ f. f.ghost_name };
-
-    fn standard(&mut self) -> F::Reader {
-        Files::standard(&mut **self)
-    }
-
-    fn open(&mut self, name: &str) -> Option<F::Reader> {
-        Files::open(&mut **self, name)
-    }
-
-    fn begin_search(&mut self, options: &Options) {
-        Files::begin_search(&mut **self, options)
-    }
-
-    fn close(&mut self, reader: F::Reader) {
-        Files::close(&mut **self, reader)
-    }
-
-    fn failures(&self) -> u64 {
-        Files::failures(&**self)
-    }
 }
 
 /// Whether the word names standard input (XBD 12.2, Guideline 13).
@@ -128,7 +88,6 @@ pub fn open_named<F: Files>(files: &mut F, name: &str) -> Option<F::Reader>
         (F.failures files.old) (F.failures files.new) result }
     ensures readable { IfSome result F.Reader.may_be_read }
     ensures none_back { Returns F.returned_readers files.old files.new [] }
-    ensures same_loan { F.loan files.new ≡ F.loan files.old }
 {
     if is_standard(name) {
         return Some(files.standard());

@@ -9,7 +9,7 @@ use std::snapshot::Snapshot;
 
 /// The files that words name, as sources: standard input where there is no word.
 pub struct Operands<'a, F: Files> {
-    files: F,
+    files: &'a mut F,
     words: &'a [String],
     /// The files before any of these was opened.
     start: Snapshot<F>,
@@ -17,12 +17,12 @@ pub struct Operands<'a, F: Files> {
 
 impl<'a, F: Files> Operands<'a, F> {
     /// The files that the words name, none of which was opened.
-    pub fn new(files: F, words: &'a [String]) -> Operands<'a, F>
-        ensures files { result.files ≡ files }
+    pub fn new(files: &'a mut F, words: &'a [String]) -> Operands<'a, F>
+        ensures files { result.files ≡ files.entry }
         ensures words { result.words ≡ words.entry }
-        ensures start { result.start.value ≡ files }
+        ensures start { result.start.value ≡ files.entry.now }
     {
-        let start = Snapshot::of(&files);
+        let start = Snapshot::of(&*files);
         Operands {
             files,
             words,
@@ -31,7 +31,7 @@ impl<'a, F: Files> Operands<'a, F> {
     }
 
     /// The files.
-    pub fn into_files(self) -> F
+    pub fn into_files(self) -> &'a mut F
         ensures { result ≡ self.entry.files }
     {
         let Operands {
@@ -74,14 +74,15 @@ impl<F: Files> Sources for Operands<'_, F> {
     ghost listed = { λ o.
         sources_named (F.folder o.start.value) (searched (texts_of o.words.now)) };
 
-    ghost failures = { λ o. F.failures o.files };
+    ghost failures = { λ o. F.failures o.files.now };
 
-    ghost returned_readers = { λ o left. F.returned_readers o.files left };
+    ghost returned_readers = { λ o left. F.returned_readers o.files.now left };
 
     ghost stands_at = { λ o k.
-        StandsAt (F.folder o.start.value) (F.folder o.files) (searched (texts_of o.words.now)) k };
+        StandsAt (F.folder o.start.value) (F.folder o.files.now)
+        (searched (texts_of o.words.now)) k };
 
-    ghost loan = { λ o. F.loan o.files };
+    ghost loan = { λ o. o.files.ghost_name };
 
     fn count(&self) -> usize {
         word_count(self.words)
@@ -92,7 +93,7 @@ impl<F: Files> Sources for Operands<'_, F> {
     }
 
     fn open(&mut self, k: usize) -> Option<F::Reader> {
-        open_named(&mut self.files, word_at(self.words, k))
+        open_named(&mut *self.files, word_at(self.words, k))
     }
 
     fn close(&mut self, reader: F::Reader) {

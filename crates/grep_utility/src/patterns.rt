@@ -99,7 +99,6 @@ fn add_pattern_file<F: Files>(
     texts: &mut Vec<u8>,
 ) -> Result<FileRead, AllocError>
     ensures used { F.folder files.new ≡ after_use (F.folder files.old) word.now }
-    ensures same_loan { F.loan files.new ≡ F.loan files.old }
     ensures back { result ≡ Ok FileRead.Whole →
         (rest : Option Text) × Returns F.returned_readers files.old files.new (rest ∷ []) }
     ensures ok { IfOk result (λ read. ReadsFile (source_named (F.folder files.old) word.now)
@@ -126,7 +125,6 @@ fn add_source<'a, F: Files>(
     texts: &mut Vec<u8>,
 ) -> Result<(), PatternsFault<'a>>
     ensures used { F.folder files.new ≡ folder_after (F.folder files.old) (given_source source.now) }
-    ensures same_loan { F.loan files.new ≡ F.loan files.old }
     ensures back { IfOk result (λ _. (left : List (Option Text))
         × OneReaderEach (given_source source.now ∷ []) left
         × Returns F.returned_readers files.old files.new left) }
@@ -164,7 +162,6 @@ pub fn read_patterns<'a, F: Files>(
     files: &mut F,
     sources: &'a [PatternSource],
 ) -> Result<Vec<u8>, PatternsFault<'a>>
-    ensures same_loan { F.loan files.new ≡ F.loan files.old }
     ensures back { IfOk result (λ _. (left : List (Option Text))
         × OneReaderEach (map given_source sources.now) left
         × Returns F.returned_readers files.old files.new left) }

@@ -38,7 +38,6 @@ pub fn prepare<'a, F: Files>(
     task: &Task<'a>,
     files: &mut F,
 ) -> Result<Vec<Matcher>, CommandFault<'a>>
-    ensures same_loan { F.loan files.new ≡ F.loan files.old }
     ensures back { IfOk result (λ _. (left : List (Option Text))
         × OneReaderEach (asked task.now.request.now).sources left
         × Returns F.returned_readers files.old files.new left) }

@@ -9,7 +9,7 @@ returns-in-Ok-prepare g c =
     let request = asked c.in-Ok.request in
     let back = c.in-Ok-prepare.ensures.back in
     let join = gives_both g.F.Files.returned_readers c.args.files.now c.prepare.new.files c.search_request.new.files back.0 in
-    let ends = rw (c.deref_mut.ensures.value, c.in-Ok-prepare.ensures.none_failed) at c.search_request.ensures in
+    let ends = rw c.in-Ok-prepare.ensures.none_failed at c.search_request.ensures in
     ends_after _ (Returns g.F.Files.returned_readers c.args.files.now c.search_request.new.files) _ request c.in-Ok.ensures _ _ c.in-Ok-prepare.ensures.ok _ (λ left h. (back.0, back.1, join left back.2 h)) _ _ _ ends
 
 pub report_fault-requires : goal.report_fault-requires

@@ -32,7 +32,6 @@ loop-source-preserved g c =
         λ others h. subst (OneReaderEach all) (sym (append_assoc s.back.0 own.0 others)) (s.back.1 (own.0 ++ others) (subst (λ left. OneReaderEach left (own.0 ++ others)) (sym here) (each_more _ _ own.0 others own.1 h))),
         gives_both g.F.Files.returned_readers c.args.files.now c.loop-source.files c.add_source.new.files s.back.0 own.0 s.back.2 own.2,
       );
-      same_loan = c.in-Ok.ensures.same_loan ∙ s.same_loan;
     }
 
 pub returns-clause-ok : goal.returns-clause-ok

@@ -9,7 +9,7 @@ word_at-requires g c =
 pub returns-clause-next : goal.returns-clause-next
 returns-clause-next g c =
     let start = g.F.Files.folder c.args.self.now.start.value in
-    let now = g.F.Files.folder c.args.self.now.files in
+    let now = g.F.Files.folder c.args.self.now.files.now in
     let words = searched (texts_of c.args.self.now.words.now) in
     let inside = subst (λ n. c.args.k < n) (length-sources_named start words) c.requires.place in
     let next = StandsAt-next start now words c.args.k inside c.requires.in_order in
