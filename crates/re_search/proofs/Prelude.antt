@@ -12,6 +12,7 @@ pub use Rattle.re_search.specs.Working.Matchers.{AreAlike, IsSame, AreSame, expr
 pub use Rattle.re_search.specs.Working.Patterns.{IsPattern, meaning, meant_by, pattern_expression}
 pub use Rattle.re_search.specs.Working.Sought.{FindsSought, IsSought, PassesUnsought, Sought, sought_of}
 pub use Rattle.re_search.specs.Working.Strings.{AddsEach, string_expression}
+pub use Rattle.re_search.specs.declared.matcher.Matcher.{Matcher}
 pub use Rattle.re_search.specs.declared.pattern.Pattern.{Pattern}
 pub use Rattle.re_search.specs.declared.pattern.Pattern.TheVariants.{String, Tree}
 pub use Rattle.re_syntax.specs.Bytes.{Text}
