@@ -41,7 +41,7 @@ pub use Rattle.grep_session.specs.Working.Kept.{AddsMatching, AreMatching, ArePa
 pub use Rattle.grep_session.specs.Working.ListedParts.{listed_spans}
 pub use Rattle.grep_session.specs.Working.PatternRefusals.{RefusesFirst, reported_at, reported_by}
 pub use Rattle.grep_session.specs.Working.Report.{FileFits, LinesFit, OnLine, PartsFit, Reports, ReportsMessages, any_missing, any_selected, around_rows, end_of, end_with, file_rows, has_selected, has_selected_in, is_faulty, is_selected, matches_none, part_rows, report_rows, reported_from, reported_like, row, rows_after_laws, rows_as, rows_from, rows_with, selected_count, selected_rows, shown_rows, some_selected, status_by_files, status_given, text_rows}
-pub use Rattle.grep_session.specs.Working.Rooms.{AreSame, KeepAtMost}
+pub use Rattle.grep_session.specs.Working.Rooms.{KeepAtMost}
 pub use Rattle.grep_session.specs.Working.Sessions.{IsSession, LosesMarks, SplicesMark, inputs_of, watched_of}
 pub use Rattle.grep_session.specs.declared.change.Change.{Change}
 pub use Rattle.grep_session.specs.declared.change.Change.TheVariants.{Added, Dropped, PartsOnly, Rebuild, Replaced}
@@ -54,10 +54,10 @@ pub use Rattle.line_chunks.specs.Working.Chunks.{FitColumns, FitsColumn, KeptLin
 pub use Rattle.line_chunks.specs.Working.Finds.{AreBelow, FoundIn, finds_at, is_paired, lowered, numbers_at, without}
 pub use Rattle.memchr.specs.Find.{FindsNeedle}
 pub use Rattle.re_search.specs.Reading.{IsOutOfMemory, IsReadable}
-pub use Rattle.re_search.specs.Searches.{AddsAtMost, AllAnswer}
+pub use Rattle.re_search.specs.Searches.{AddsAtMost}
 pub use Rattle.re_search.specs.Working.Blocks.{HoldsOfMany, IsNext}
 pub use Rattle.re_search.specs.Working.LineParts.{ArePartsOf, spent}
-pub use Rattle.re_search.specs.Working.Matchers.{matched_expression, room_of, wants_whole}
+pub use Rattle.re_search.specs.Working.Matchers.{AreAlike, AreSame, IsSame, matched_expression, room_of, wants_whole}
 pub use Rattle.re_search.specs.declared.matcher.Matcher.{Matcher}
 pub use Rattle.re_syntax.specs.Bytes.{Text}
 pub use Rattle.re_syntax.specs.Expression.{Expression, byte, cat, sequence}

@@ -5,15 +5,13 @@ ghost use Rattle.std.specs.Prelude.{◌≡◌, ◌≤◌, List, length, map, All
 ghost use Rattle.std.specs.Prelude.{IfOk, OnErr, vec_capacity};
 ghost use Rattle.re_syntax.specs.Expression.{Expression};
 ghost use Rattle.re_syntax.specs.Profile.{most_patterns};
-ghost use Rattle.re_search.specs.Working.Matchers.{matched_expression, wants_whole};
-ghost use Rattle.re_search.specs.Searches.{AllAnswer};
+ghost use Rattle.re_search.specs.Working.Matchers.{AreAlike, AreSame, matched_expression};
 ghost use Rattle.line_chunks.specs.Working.Chunks.{FitsColumn, all_of, line_text};
 ghost use Rattle.grep_session.specs.Working.Changed.{HasChanged, WasKept, WasFileKept, IsWithin};
 ghost use Rattle.grep_session.specs.Working.Changed.{SearchesEach};
 ghost use Rattle.grep_session.specs.Working.Columns.{AddsColumns, StaysSame};
 ghost use Rattle.grep_session.specs.Working.Found.{IsColumn, lines_of_files};
 ghost use Rattle.grep_session.specs.Working.Kept.{IsFileKept, kept_file};
-ghost use Rattle.grep_session.specs.Working.Rooms.{AreSame};
 
 use crate::change::Change;
 use crate::found::put_columns;
@@ -51,7 +49,7 @@ fn find_in_chunk(
     line_parts: &mut LineParts,
     meter: &mut Meter,
 ) -> Result<Option<Found>, AllocError>
-    requires whole { AllAnswer search.now.options.line_regexp (map wants_whole matchers.old) }
+    requires whole { AreAlike search.now.options.line_regexp matchers.old }
     requires few { length matchers.old ≤ most_patterns }
     requires within { IsWithin change (length matchers.old) }
     ensures same_matchers { AreSame matchers.old matchers.new }
@@ -88,7 +86,7 @@ pub fn find_in_lines(
     line_parts: &mut LineParts,
     meter: &mut Meter,
 ) -> Result<(), AllocError>
-    requires whole { AllAnswer search.now.options.line_regexp (map wants_whole matchers.old.items) }
+    requires whole { AreAlike search.now.options.line_regexp matchers.old.items }
     requires few { length matchers.old.items ≤ most_patterns }
     requires within { IsWithin change (length matchers.old.items) }
     ensures same_matchers { AreSame matchers.old.items matchers.new.items }
@@ -119,7 +117,7 @@ pub fn find_columns(
     files: &mut Vec<KeptFile>,
     meter: &mut Meter,
 ) -> Result<(), AllocError>
-    requires whole { AllAnswer options.now.line_regexp (map wants_whole matchers.old.items) }
+    requires whole { AreAlike options.now.line_regexp matchers.old.items }
     requires few { length matchers.old.items ≤ most_patterns }
     requires within { IsWithin change (length matchers.old.items) }
     ensures same_matchers { AreSame matchers.old.items matchers.new.items }

@@ -3,15 +3,15 @@ ghost use Rattle.std.specs.Prelude.{◌≡◌, ◌+◌, ◌-◌, ◌*◌, ◌<�
 ghost use Rattle.std.specs.Prelude.{false, IfOk, IsTrue};
 ghost use Rattle.re_syntax.specs.Lines.{terminated};
 ghost use Rattle.re_syntax.specs.Profile.{most_patterns};
-ghost use Rattle.re_search.specs.Working.Matchers.{matched_expression, wants_whole, room_of};
-ghost use Rattle.re_search.specs.Searches.{AllAnswer, AddsAtMost};
+ghost use Rattle.re_search.specs.Working.Matchers.{AreAlike, AreSame, IsSame, matched_expression};
+ghost use Rattle.re_search.specs.Working.Matchers.{wants_whole};
+ghost use Rattle.re_search.specs.Searches.{AddsAtMost};
 ghost use Rattle.line_chunks.specs.Working.Chunks.{line_text};
 ghost use Rattle.line_chunks.specs.Working.Finds.{AreBelow};
 ghost use Rattle.grep_session.specs.Working.Changed.{IsWithin, is_narrower};
 ghost use Rattle.grep_session.specs.Working.Columns.{first_sought, past_sought, AreLeft, AddsColumn};
 ghost use Rattle.grep_session.specs.Working.Columns.{AddsLater, AreMatches, AddsPairs};
 ghost use Rattle.grep_session.specs.Working.Columns.{IsAmong, has_pair, marked_cost};
-ghost use Rattle.grep_session.specs.Working.Rooms.{AreSame};
 
 use crate::change::Change;
 use crate::search::SearchContext;
@@ -30,9 +30,7 @@ fn add_column(
     ensures ok { IfOk result (λ _.
         AddsColumn (map line_text chunk.now) (wants_whole matcher.old) number
         (matched_expression matcher.old ∷ []) matches.old matches.new) }
-    ensures same_expression { matched_expression matcher.new ≡ matched_expression matcher.old }
-    ensures same_whole { wants_whole matcher.new ≡ wants_whole matcher.old }
-    ensures same_room { room_of matcher.new ≡ room_of matcher.old }
+    ensures same { IsSame matcher.old matcher.new }
     ensures steps { AddsAtMost (length (terminated (map line_text chunk.now))) meter.old meter.new }
 {
     let mut from = 0;
@@ -66,9 +64,7 @@ fn narrow_column(
         (map line_text chunk.now) number old.now →
         AddsColumn (map line_text chunk.now) (wants_whole matcher.old) number
         (matched_expression matcher.old ∷ []) matches.old matches.new) }
-    ensures same_expression { matched_expression matcher.new ≡ matched_expression matcher.old }
-    ensures same_whole { wants_whole matcher.new ≡ wants_whole matcher.old }
-    ensures same_room { room_of matcher.new ≡ room_of matcher.old }
+    ensures same { IsSame matcher.old matcher.new }
     ensures steps { AddsAtMost (marked_cost (has_pair number old.now) 1
         (map line_text chunk.now) (length chunk.now)) meter.old meter.new }
 {
@@ -188,7 +184,7 @@ pub fn find_matches(
     old: &Matches,
     meter: &mut Meter,
 ) -> Result<Matches, AllocError>
-    requires whole { AllAnswer search.now.options.line_regexp (map wants_whole matchers.old) }
+    requires whole { AreAlike search.now.options.line_regexp matchers.old }
     requires few { length matchers.old ≤ most_patterns }
     requires within { IsWithin change (length matchers.old) }
     requires below { AreBelow (length chunk.now) old.now }

@@ -1,15 +1,14 @@
 //! The parts of the lines of a chunk after a change of the patterns.
 ghost use Rattle.std.specs.Prelude.{◌≡◌, ℕ, ◌+◌, ◌<◌, ◌≤◌, true, false, [], length, map, get_or};
 ghost use Rattle.std.specs.Prelude.{IfOk, ◌&&◌, if◌then◌else◌};
-ghost use Rattle.re_search.specs.Working.Matchers.{matched_expression, wants_whole};
-ghost use Rattle.re_search.specs.Searches.{AddsAtMost, AllAnswer};
+ghost use Rattle.re_search.specs.Working.Matchers.{AreAlike, AreSame, matched_expression};
+ghost use Rattle.re_search.specs.Searches.{AddsAtMost};
 ghost use Rattle.grep_core.specs.Cost.{search_cost};
 ghost use Rattle.line_chunks.specs.Working.Chunks.{no_line, line_text};
 ghost use Rattle.line_chunks.specs.Working.Finds.{AreBelow, is_paired, numbers_at};
 ghost use Rattle.grep_session.specs.Touched.{parting};
 ghost use Rattle.grep_session.specs.Working.Columns.{Grows, has_new_parts, ArePartsAgain, AreAllParts};
 ghost use Rattle.grep_session.specs.Working.Columns.{is_parted, marked_cost};
-ghost use Rattle.grep_session.specs.Working.Rooms.{AreSame};
 
 use crate::change::Change;
 use crate::search::{SearchContext, parts_of};
@@ -60,7 +59,7 @@ fn put_parts(
     line_parts: &mut LineParts,
     meter: &mut Meter,
 ) -> Result<(), AllocError>
-    requires whole { AllAnswer search.now.options.line_regexp (map wants_whole matchers.old) }
+    requires whole { AreAlike search.now.options.line_regexp matchers.old }
     requires inside { k < length chunk.now }
     requires later { length parts.old ≤ k }
     ensures few { IfOk result (λ _. length parts.new ≤ k + 1) }
@@ -96,7 +95,7 @@ pub fn find_parts(
     line_parts: &mut LineParts,
     meter: &mut Meter,
 ) -> Result<SpanLists, AllocError>
-    requires whole { AllAnswer search.now.options.line_regexp (map wants_whole matchers.old) }
+    requires whole { AreAlike search.now.options.line_regexp matchers.old }
     requires old { AreBelow (length chunk.now) old.now }
     requires new { AreBelow (length chunk.now) new.now }
     requires grows { Grows change old.now new.now }

@@ -1,7 +1,7 @@
 //! What is found in lines, and kept.
 ghost use Rattle.std.specs.Prelude.{◌≡◌, ◌≤◌, length, map, IfOk, IfErr, [], All};
-ghost use Rattle.re_search.specs.Working.Matchers.{matched_expression, wants_whole};
-ghost use Rattle.re_search.specs.Searches.{AddsAtMost, AllAnswer};
+ghost use Rattle.re_search.specs.Working.Matchers.{AreAlike, AreSame, matched_expression};
+ghost use Rattle.re_search.specs.Searches.{AddsAtMost};
 ghost use Rattle.re_syntax.specs.Lines.{HasNoNewline};
 ghost use Rattle.re_syntax.specs.Profile.{most_patterns};
 ghost use Rattle.line_chunks.specs.Working.Chunks.{all_of, line_text};
@@ -10,7 +10,6 @@ ghost use Rattle.grep_session.specs.Touched.{parting};
 ghost use Rattle.grep_session.specs.Working.Changed.{SearchesEach};
 ghost use Rattle.grep_session.specs.declared.change.Change.TheVariants.{Rebuild};
 ghost use Rattle.grep_session.specs.Working.Kept.{ArePartsKept, IsKept};
-ghost use Rattle.grep_session.specs.Working.Rooms.{AreSame};
 
 use crate::change::Change;
 use crate::columns::find_in_lines;
@@ -37,7 +36,7 @@ pub fn parts_of(
     line_parts: &mut LineParts,
     meter: &mut Meter,
 ) -> Result<Vec<Span>, AllocError>
-    requires whole { AllAnswer search.now.options.line_regexp (map wants_whole matchers.old) }
+    requires whole { AreAlike search.now.options.line_regexp matchers.old }
     ensures ok { IfOk result
         (λ spans. ArePartsKept (map matched_expression matchers.old) search.now.options line.now
         spans.items) }
@@ -75,7 +74,7 @@ pub fn search_new(
     given: NewLines,
     meter: &mut Meter,
 ) -> Result<FileLines, AllocError>
-    requires whole { AllAnswer options.now.line_regexp (map wants_whole matchers.old.items) }
+    requires whole { AreAlike options.now.line_regexp matchers.old.items }
     requires few { length matchers.old.items ≤ most_patterns }
     ensures ok { IfOk result (λ lines.
         All (IsKept (map matched_expression matchers.old.items) options.now) (all_of lines)) }

@@ -1,5 +1,5 @@
 -- What a search of a line finds, and how much work it takes.
-use Rattle.std.specs.Prelude.{◌≡◌, ℕ, Bool, List, Option, MatchOption, All, Any}
+use Rattle.std.specs.Prelude.{ℕ, Bool, List, Option, MatchOption, Any}
 use Rattle.re_trees.specs.Bytes.{Text}
 use Rattle.re_trees.specs.Expression.{Expression}
 use Rattle.re_trees.specs.Holds.{Matches}
@@ -17,7 +17,3 @@ FindsPart es line whole from found =
 -- some expression matches the line, which is then selected (XCU grep)
 abbrev pub SomeMatches : List Expression → Text → Bool → Type 0
 SomeMatches es line whole = Any (λ e. Matches e line whole) es
-
--- each matcher gives this answer to whether the whole line has to be matched (XCU grep, option -x)
-abbrev pub AllAnswer : Bool → List Bool → Type 0
-AllAnswer whole wholes = All (λ w. w ≡ whole) wholes

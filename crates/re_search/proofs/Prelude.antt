@@ -1,6 +1,6 @@
 -- The words of specs and of std that proofs of this crate use, passed on from one place. Declares nothing.
 pub use Rattle.memchr.specs.Find.{IsFirstByte, is_byte}
-pub use Rattle.re_auto.specs.Searches.{AllAnswer, FindsPart, SomeMatches}
+pub use Rattle.re_auto.specs.Searches.{FindsPart, SomeMatches}
 pub use Rattle.re_ends.specs.Working.GreatestEnds.{AddsEnds, FoundPast}
 pub use Rattle.re_ends.specs.declared.table.Window.{Window}
 pub use Rattle.re_match.specs.Working.Aheads.{IsAhead, past}
@@ -30,7 +30,7 @@ pub use Rattle.re_syntax.specs.declared.fault.PatternFault.{PatternFault}
 pub use Rattle.re_trees.specs.declared.span.Span.{Span}
 pub use Rattle.re_syntax.specs.declared.syntax.Syntax.{Syntax}
 pub use Rattle.re_syntax.specs.declared.syntax.Syntax.TheVariants.{Fixed}
-pub use Rattle.std.proofs.Common.{Bool, IfSome, IsTrue, List, None, Option, Some, [], add-one, ap, append-nil, append_assoc, arith, drop, eq-eqb, false, get_or, if◌then◌else◌, inl, inr, is_some, length, length-drop, map, max, mul-le-mul_left, refl, rules, set, slice_index, slice_range, slice_set, subst, sym, take, take-suc, take_all, true, true≢false, suc, zero, ℕ, ◌*◌, ◌++◌, ◌+◌, ◌-◌, ◌<◌, ◌^◌, ◌↔◌, ◌∙◌, ◌∷◌, ◌≡◌, ◌≢◌, ◌≤◌, ◌⊎◌}
+pub use Rattle.std.proofs.Common.{All, Bool, IfSome, IsTrue, List, None, Option, Some, [], add-one, ap, append-nil, append_assoc, arith, drop, eq-eqb, false, get_or, if◌then◌else◌, inl, inr, is_some, length, length-drop, map, max, mul-le-mul_left, refl, rules, set, slice_index, slice_range, subst, sym, take, take-suc, take_all, true, true≢false, suc, zero, ℕ, ◌*◌, ◌++◌, ◌+◌, ◌-◌, ◌<◌, ◌^◌, ◌↔◌, ◌∙◌, ◌∷◌, ◌≡◌, ◌≢◌, ◌≤◌, ◌⊎◌}
 pub use Rattle.std.proofs.Math.Decide.{dec_le}
 pub use Rattle.std.proofs.Math.Seq.{map-set_same}
 pub use Rattle.std.proofs.lemmas.Bool.{cases_lt, false≢true}

@@ -1,4 +1,5 @@
 -- what the crates above use of the crates below
+pub use Rattle.re_match.proofs.lemmas.SameLaws
 pub use Rattle.re_runs.proofs.lemmas.BlockLemmas
 pub use Rattle.re_runs.proofs.lemmas.CountedBlocks
 pub use Rattle.re_runs.proofs.lemmas.NextLines

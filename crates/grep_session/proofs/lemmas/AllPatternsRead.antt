@@ -1,5 +1,5 @@
 -- All patterns were read again.
-use Rattle.grep_session.proofs.Prelude.{◌≡◌, Bool, true, false, IsTrue, MatchBool, List, [], map, Option, None, Some, IfSome, Result, Ok, Err, All, inl, inr, refl, sym, ap, subst, ◌∙◌, AllZip, Text, AreParts, IsMeant, Matcher, AllAnswer, KeptFile, KeptLine, PartsOnly, WasKept, WasFileKept, Syntax, Expression, IsReadable, matched_expression, wants_whole, Flag, Count, IgnoreCase, FilesWithMatches, LineNumber, OnlyMatching, Quiet, NoMessages, InvertMatch, LineRegexp, Options, Inputs, EditFault, NoSuchFile, FileIsMissing, OutOfRange, LineHasNewline, NoSuchPattern, Pattern, TooManyPatterns, Memory, ReadsAgain, read_as, SetFlag, SetSyntax, Applies, EditGives, option_of, with_option, AreMatching, IsKept, IsFileKept, kept_lines, span_places, AreMatchers, RefusesFirst, false≢true, All-weaker}
+use Rattle.grep_session.proofs.Prelude.{◌≡◌, Bool, true, false, IsTrue, MatchBool, List, [], map, Option, None, Some, IfSome, Result, Ok, Err, All, inl, inr, refl, sym, ap, subst, ◌∙◌, AllZip, Text, AreParts, IsMeant, Matcher, KeptFile, KeptLine, PartsOnly, WasKept, WasFileKept, Syntax, Expression, IsReadable, matched_expression, Flag, Count, IgnoreCase, FilesWithMatches, LineNumber, OnlyMatching, Quiet, NoMessages, InvertMatch, LineRegexp, Options, Inputs, EditFault, NoSuchFile, FileIsMissing, OutOfRange, LineHasNewline, NoSuchPattern, Pattern, TooManyPatterns, Memory, ReadsAgain, read_as, SetFlag, SetSyntax, Applies, EditGives, option_of, with_option, AreMatching, IsKept, IsFileKept, kept_lines, span_places, AreMatchers, RefusesFirst, false≢true, All-weaker, AreAlike}
 use Rattle.std.specs.Bool.{⊤}
 
 -- some pattern was refused, or memory ran out
@@ -57,7 +57,7 @@ module _ (es : List Expression) (old new : Options) (same : new.line_regexp ≡ 
 pub AreMatchers-options : (syntax : Syntax) (old new : Options) (texts : List Text) (matchers : List Matcher) → new.line_regexp ≡ old.line_regexp → new.ignore_case ≡ old.ignore_case → AreMatchers syntax old texts matchers → AreMatchers syntax new texts matchers
 AreMatchers-options syntax old new texts matchers whole case s = record {
   meant = subst (λ fold. AllZip (λ text e. IsMeant syntax fold text e) texts (map matched_expression matchers)) (sym case) s.meant;
-  wholes = subst (λ w. AllAnswer w (map wants_whole matchers)) (sym whole) s.wholes;
+  wholes = subst (λ w. AreAlike w matchers) (sym whole) s.wholes;
   readable = subst (λ fold. All (IsReadable syntax fold) texts) (sym case) s.readable;
   counted = s.counted;
 }

@@ -1,5 +1,5 @@
 -- A pattern is removed, and the numbers of those that match a line stay right.
-use Rattle.grep_session.proofs.Prelude.{Option, Some, IfSome, ◌≡◌, ℕ, zero, suc, ◌+◌, ◌-◌, ◌<◌, ◌≤◌, Bool, MatchBool, All, true, false, not, List, [], ◌∷◌, ◌++◌, inl, inr, length, map, take, drop, nat_eq, nat_lt, cond, if◌then◌else◌, refl, sym, ap, subst, ◌∙◌, arith, set, option_map, AllWithin, AllZip, remove, filter, Syntax, IsMeant, Matcher, IsReadable, matched_expression, wants_whole, AllAnswer, AreMeant, whole, AreParts, Options, KeptLine, all_of, line_text, line_without, Text, Expression, Matches, IfHolds, lowered, without, AreMatching, IsKept, span_places, file_with, AreMatchers, All-append, All-take, All-drop, All-map, All-weaker, get_or-set_other, map-append, nat_tests, length-append, length-take, length-drop}
+use Rattle.grep_session.proofs.Prelude.{Option, Some, IfSome, ◌≡◌, ℕ, zero, suc, ◌+◌, ◌-◌, ◌<◌, ◌≤◌, Bool, MatchBool, All, true, false, not, List, [], ◌∷◌, ◌++◌, inl, inr, length, map, take, drop, nat_eq, nat_lt, cond, if◌then◌else◌, refl, sym, ap, subst, ◌∙◌, arith, set, option_map, AllWithin, AllZip, remove, filter, Syntax, IsMeant, Matcher, IsReadable, matched_expression, wants_whole, AreMeant, whole, AreParts, Options, KeptLine, all_of, line_text, line_without, Text, Expression, Matches, IfHolds, lowered, without, AreMatching, IsKept, span_places, file_with, AreMatchers, All-append, All-take, All-drop, All-map, All-weaker, get_or-set_other, map-append, nat_tests, length-append, length-take, length-drop}
 use Rattle.grep_session.proofs.lemmas.SessionLemmas.{map-remove}
 use Rattle.std.specs.Bool.{⊤}
 
@@ -117,7 +117,7 @@ length-remove xs k h = omega (arith, h, length-append (take k xs) (drop (suc k) 
 pub AreMatchers-remove : (syntax : Syntax) (options : Options) (texts : List Text) (old new : List Matcher) (p : ℕ) → p < length texts → new ≡ remove old p → AreMatchers syntax options texts old → AreMatchers syntax options (remove texts p) new
 AreMatchers-remove syntax options texts old new p within left s = record {
   meant = subst (AreMeant syntax options (remove texts p)) (sym (map-remove matched_expression old new p left)) (AllZip-remove (λ text e. IsMeant syntax options.ignore_case text e) texts (map matched_expression old) p s.meant);
-  wholes = subst (AllAnswer options.line_regexp) (sym (map-remove wants_whole old new p left)) (All-remove (λ w. w ≡ options.line_regexp) (map wants_whole old) p s.wholes);
+  wholes = subst (All (λ w. w ≡ options.line_regexp)) (sym (map-remove wants_whole old new p left)) (All-remove (λ w. w ≡ options.line_regexp) (map wants_whole old) p s.wholes);
   readable = All-remove (IsReadable syntax options.ignore_case) texts p s.readable;
   counted = omega (arith, within, s.counted, ap length left, length-remove old p (omega (arith, within, s.counted)), length-remove texts p within);
 }

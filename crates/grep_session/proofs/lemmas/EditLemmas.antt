@@ -1,5 +1,5 @@
 -- How an edit changes a session's inputs, and what is kept.
-use Rattle.grep_session.proofs.Prelude.{◌≡◌, ◌≢◌, ℕ, suc, ◌+◌, ◌<◌, ◌≤◌, List, [], ◌∷◌, ◌++◌, length, map, take, drop, Option, Some, None, Ok, IfSome, inl, inr, refl, sym, ap, subst, ◌∙◌, All, get_or, slice_set, arith, set, map-set_same, map-set, length-map, All-append, All-take, All-drop, All-set, splice, option_map, Syntax, Text, Expression, HasNoNewline, Matcher, matched_expression, wants_whole, AllAnswer, Steps, Options, File, Inputs, AreMeant, whole, missing, file_at, most_patterns, KeptFile, Inside, AreSame, Rebuild, SearchesEach, IsSession, inputs_of, AreFit, KeptLine, line_text, AddFile, Splice, Applies, spliced, whole_file, with_files, IsKept, IsFileKept, kept_file, kept_lines, file_with, AreMatchers, HasPlace, TakesSteps, NeedsNoMemory, KeepAtMost, lost}
+use Rattle.grep_session.proofs.Prelude.{◌≡◌, ◌≢◌, ℕ, suc, ◌+◌, ◌<◌, ◌≤◌, List, [], ◌∷◌, ◌++◌, length, map, take, drop, Option, Some, None, Ok, IfSome, inl, inr, refl, sym, ap, subst, ◌∙◌, All, get_or, slice_set, arith, set, map-set_same, map-set, length-map, All-append, All-take, All-drop, All-set, splice, option_map, Syntax, Text, Expression, HasNoNewline, Matcher, matched_expression, wants_whole, Steps, Options, File, Inputs, AreMeant, whole, missing, file_at, most_patterns, KeptFile, Inside, AreSame, Rebuild, SearchesEach, IsSession, inputs_of, AreFit, KeptLine, line_text, AddFile, Splice, Applies, spliced, whole_file, with_files, IsKept, IsFileKept, kept_file, kept_lines, file_with, AreMatchers, HasPlace, TakesSteps, NeedsNoMemory, KeepAtMost, lost}
 use Rattle.std.proofs.lemmas.List.{get_or-map}
 use Rattle.grep_core.proofs.lemmas.CostLaws.{same_length}
 use Rattle.grep_session.proofs.lemmas.FitLemmas.{fit_as, fit_lose}
@@ -14,7 +14,7 @@ pub AreMatchers-same : (syntax : Syntax) (options : Options) (texts : List Text)
     → AreMatchers syntax options texts new
 AreMatchers-same syntax options texts old new s e w = record {
   meant = subst (AreMeant syntax options texts) (sym e) s.meant;
-  wholes = subst (AllAnswer options.line_regexp) (sym w) s.wholes;
+  wholes = subst (All (λ w. w ≡ options.line_regexp)) (sym w) s.wholes;
   readable = s.readable;
   counted = same_length matched_expression new old e ∙ s.counted;
 }

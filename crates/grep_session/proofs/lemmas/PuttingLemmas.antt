@@ -1,5 +1,5 @@
 -- Another pattern is put in the place of one: the matchers after that, and the steps that it takes.
-use Rattle.grep_session.proofs.Prelude.{Bool, true, false, false≢true, MatchBool, Matches, Matched, Chosen, IfHolds, IsSought, IsNarrower, Narrows, ◌≡◌, ℕ, zero, suc, ◌<◌, ◌≤◌, List, [], ◌∷◌, Ok, Err, All, All-cons, All-head, All-nil, All-set, inl, inr, length, map, get_or, refl, sym, ap, subst, ◌∙◌, arith, set, map-set, length-map, slice_set, Text, Expression, IsMeant, Matcher, IsReadable, AllAnswer, matched_expression, room_of, wants_whole, Steps, Inputs, AreMeant, Replaced, EditFault, HasChanged, SearchesEach, AreSame, IsSession, inputs_of, Inside, Applies, ChangePattern, EditGives, with_patterns, AreMatchers, RefusesFirst, TakesSteps, KeepAtMost, all_lines, IsFileKept, kept_file, lost, most_patterns}
+use Rattle.grep_session.proofs.Prelude.{Bool, true, false, false≢true, MatchBool, Matches, Matched, Chosen, IfHolds, IsSought, IsNarrower, Narrows, ◌≡◌, ℕ, zero, suc, ◌<◌, ◌≤◌, List, [], ◌∷◌, Ok, Err, All, All-cons, All-head, All-nil, All-set, inl, inr, length, map, get_or, refl, sym, ap, subst, ◌∙◌, arith, set, map-set, length-map, slice_set, Text, Expression, IsMeant, Matcher, IsReadable, matched_expression, room_of, wants_whole, Steps, Inputs, AreMeant, Replaced, EditFault, HasChanged, SearchesEach, AreSame, IsSession, inputs_of, Inside, Applies, ChangePattern, EditGives, with_patterns, AreMatchers, RefusesFirst, TakesSteps, KeepAtMost, all_lines, IsFileKept, kept_file, lost, most_patterns}
 use Rattle.std.proofs.lemmas.List.{get_or-map, length-set, set-get_or}
 use Rattle.re_syntax.proofs.lemmas.Decisions.{Any-first}
 use Rattle.re_syntax.proofs.lemmas.SomeOfJoined.{Any-single}
@@ -59,7 +59,7 @@ module _ {s : Inside} {p : ℕ} {text : Text} {narrower : Bool} {matcher gone : 
             subst (AreMeant s.syntax s.options (slice_set patterns p text)) (sym (ap (map matched_expression) i.put ∙ map-set matched_expression s.matchers.items p matcher))
             (zip-set (λ text e. IsMeant s.syntax s.options.ignore_case text e) patterns (map matched_expression s.matchers.items) p text (matched_expression matcher) i.old.matchers.meant i.new.meant.0);
         wholes =
-            subst (AllAnswer whole) (sym (ap (map wants_whole) i.put ∙ map-set wants_whole s.matchers.items p matcher))
+            subst (All (λ w. w ≡ whole)) (sym (ap (map wants_whole) i.put ∙ map-set wants_whole s.matchers.items p matcher))
             (All-set (λ w. w ≡ whole) (map wants_whole s.matchers.items) p (wants_whole matcher) (All-head (λ w. w ≡ whole) (wants_whole matcher) [] i.new.wholes) i.old.matchers.wholes);
         readable = All-set Readable patterns p text (All-head Readable text [] i.new.readable) i.old.matchers.readable;
         counted = many ∙ i.old.matchers.counted ∙ sym (length-set patterns p text);

@@ -1,7 +1,6 @@
--- What the matchers of a session may keep, and that they are the same.
+-- What the matchers of a session may keep.
 use Rattle.std.specs.Prelude.{ℕ, ◌≤◌, List, All, map}
 use Rattle.re_search.specs.declared.matcher.Matcher.{Matcher}
-pub use Rattle.re_search.specs.Working.Matchers.{AreSame}
 use Rattle.re_search.specs.Working.Matchers.{room_of}
 
 -- no matcher may keep more than this number of entries

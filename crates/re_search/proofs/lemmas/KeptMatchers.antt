@@ -1,5 +1,5 @@
 -- Matchers that are the same as before: where none was asked, over two calls, and where one of them was asked.
-use Rattle.re_search.proofs.Prelude.{◌≡◌, ℕ, List, get_or, refl, ◌∙◌, set, Matcher, matched_expression, wants_whole, room_of, IsSame, AreSame, Bool, sought_of, AllAnswer, AreAlike, expressions_of, ap, length, length-map, subst, sym}
+use Rattle.re_search.proofs.Prelude.{◌≡◌, ℕ, List, get_or, refl, ◌∙◌, set, Matcher, matched_expression, wants_whole, room_of, IsSame, AreSame, Bool, sought_of, All, AreAlike, expressions_of, ap, length, length-map, subst, sym}
 use Rattle.re_search.proofs.lemmas.OneMatcherMore.{same_after}
 
 -- a list has the same matchers as itself
@@ -11,12 +11,8 @@ pub same_over : {old middle new : List Matcher} → AreSame middle new → AreSa
 same_over later first = record { same_expressions = later.same_expressions ∙ first.same_expressions; same_wholes = later.same_wholes ∙ first.same_wholes; same_rooms = later.same_rooms ∙ first.same_rooms }
 
 -- they are so still where the matcher at place i is replaced by one that is the same
-pub one_asked : {old now : List Matcher} → AreSame old now → (i : ℕ) (d n : Matcher) → matched_expression n ≡ matched_expression (get_or now i d) → wants_whole n ≡ wants_whole (get_or now i d) → room_of n ≡ room_of (get_or now i d) → AreSame old (set now i n)
-one_asked same i d n e w r = record { same_expressions = same_after matched_expression _ _ same.same_expressions i d n e; same_wholes = same_after wants_whole _ _ same.same_wholes i d n w; same_rooms = same_after room_of _ _ same.same_rooms i d n r }
-
--- the same with the three in one
 pub one_kept : {old now : List Matcher} → AreSame old now → (i : ℕ) (d n : Matcher) → IsSame (get_or now i d) n → AreSame old (set now i n)
-one_kept same i d n kept = one_asked same i d n kept.same_expression kept.same_whole kept.same_room
+one_kept same i d n kept = record { same_expressions = same_after matched_expression _ _ same.same_expressions i d n kept.same_expression; same_wholes = same_after wants_whole _ _ same.same_wholes i d n kept.same_whole; same_rooms = same_after room_of _ _ same.same_rooms i d n kept.same_room }
 
 -- they search for the same
 pub same_sought : {whole : Bool} {old new : List Matcher} → AreSame old new → sought_of whole new ≡ sought_of whole old
@@ -27,4 +23,4 @@ pub as_many : {old new : List Matcher} → AreSame old new → length new ≡ le
 as_many {old} {new} same = sym (length-map new matched_expression) ∙ ap length same.same_expressions
 
 pub still_alike : {whole : Bool} {old new : List Matcher} → AreSame old new → AreAlike whole old → AreAlike whole new
-still_alike {whole} same alike = subst (AllAnswer whole) (sym same.same_wholes) alike
+still_alike {whole} same alike = subst (All (λ w. w ≡ whole)) (sym same.same_wholes) alike

@@ -1,5 +1,5 @@
 -- What a list of one matcher says of the lines of a block.
-use Rattle.re_search.proofs.Prelude.{◌≡◌, false, List, [], ◌∷◌, length, map, get_or, ap, arith, Bool, sym, subst, All-head, Text, Matcher, matched_expression, wants_whole, Matches, AllAnswer, AreAlike, SomeMatches, Sought, IsSought, sought_of, get_or_default, ◌↔◌}
+use Rattle.re_search.proofs.Prelude.{◌≡◌, false, List, [], ◌∷◌, length, map, get_or, ap, arith, Bool, sym, subst, All-head, Text, Matcher, matched_expression, wants_whole, Matches, AreAlike, SomeMatches, Sought, IsSought, sought_of, get_or_default, ◌↔◌, All}
 use Rattle.re_syntax.proofs.lemmas.Decisions.{Any-first}
 use Rattle.re_syntax.proofs.lemmas.SomeOfJoined.{Any-single}
 
@@ -23,7 +23,7 @@ sought_alone ms d asked one all line =
     let m = get_or ms 0 d in
     let is : get_or ms 0 m ≡ m = get_or_default ms 0 m d (omega (arith, one)) in
     let es = only_one matched_expression ms m one is in
-    let same : wants_whole m ≡ asked = All-head (λ w. w ≡ asked) (wants_whole m) [] (subst (AllAnswer asked) (only_one wants_whole ms m one is) all) in (
+    let same : wants_whole m ≡ asked = All-head (λ w. w ≡ asked) (wants_whole m) [] (subst (All (λ w. w ≡ asked)) (only_one wants_whole ms m one is) all) in (
       λ h. subst (λ xs. SomeMatches xs line asked) (sym es) (Any-first (λ x. Matches x line asked) (matched_expression m) [] (subst (Matches (matched_expression m) line) same h)),
       λ h. subst (Matches (matched_expression m) line) (sym same) (Any-single (λ x. Matches x line asked) (matched_expression m) (subst (λ xs. SomeMatches xs line asked) es h)),
     )

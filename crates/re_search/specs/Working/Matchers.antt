@@ -1,10 +1,9 @@
 -- The expression of a matcher of any kind, the entries of its cache, and how its steps are counted.
-use Rattle.std.specs.Prelude.{◌≡◌, ℕ, ◌+◌, Bool, true, false, List, [], length, map}
+use Rattle.std.specs.Prelude.{◌≡◌, ℕ, ◌+◌, Bool, true, false, All, List, [], length, map}
 use Rattle.re_syntax.specs.Bytes.{Text}
 use Rattle.re_syntax.specs.Expression.{Expression}
 use Rattle.re_syntax.specs.Working.Trees.{expression_of}
 use Rattle.re_auto.specs.Meters.{Steps}
-use Rattle.re_auto.specs.Searches.{AllAnswer}
 use Rattle.re_search.specs.declared.matcher.Matcher.{Matcher}
 use Rattle.re_search.specs.declared.matcher.Matcher.TheVariants as m
 use Rattle.re_match.specs.Working.Strings.{matched_strings, CountsLook}
@@ -27,7 +26,7 @@ wants_whole (m.Cached matcher) = matcher.value.whole
 
 -- all give this answer to that
 abbrev pub AreAlike : Bool → List Matcher → Type 0
-AreAlike whole matchers = AllAnswer whole (map wants_whole matchers)
+AreAlike whole matchers = All (λ w. w ≡ whole) (map wants_whole matchers)
 
 -- whether it looks for a string
 abbrev pub is_fixed : Matcher → Bool

@@ -1,4 +1,5 @@
-use Rattle.grep_session.proofs.Prelude.{◌≡◌, ◌<◌, ◌≤◌, ◌∙◌, All, length, map, take, get_or, take_all, sym, refl, ap, subst, arith, [], AllAnswer, AllZip, most_patterns, Expression, HasChanged, IsWithin, List, SearchesEach, WasFileKept, FitsColumn, IsColumn, IsFileKept, chunks_of, chunks_of_files, lines_of_files, AddsColumns, kept_file, matched_expression}
+use Rattle.grep_session.proofs.Prelude.{◌≡◌, ◌<◌, ◌≤◌, ◌∙◌, All, length, map, take, get_or, take_all, sym, refl, ap, subst, arith, [], AllZip, most_patterns, Expression, HasChanged, IsWithin, List, SearchesEach, WasFileKept, FitsColumn, IsColumn, IsFileKept, chunks_of, chunks_of_files, lines_of_files, AddsColumns, kept_file, matched_expression}
+use Rattle.re_search.proofs.lemmas.KeptMatchers.{still_alike}
 use Rattle.re_search.proofs.lemmas.KeptMatchers.{none_asked, same_over}
 use Rattle.grep_core.proofs.lemmas.CostLaws.{same_length}
 use Rattle.grep_session.proofs.lemmas.FoundLemmas.{adds_columns, adds_no_column, chunks_on, files_by_chunk, no_chunks, its_chunks, its_lines, was_kept}
@@ -31,7 +32,7 @@ loop-file-init c = record {
 }
 
 pub find_in_lines-requires-clause-whole : goal.find_in_lines-requires-clause-whole
-find_in_lines-requires-clause-whole c = subst (AllAnswer c.args.options.now.line_regexp) (sym c.loop-file.invariant.same_matchers.same_wholes) c.requires.whole
+find_in_lines-requires-clause-whole c = still_alike c.loop-file.invariant.same_matchers c.requires.whole
 
 pub find_in_lines-requires-clause-few : goal.find_in_lines-requires-clause-few
 find_in_lines-requires-clause-few c = subst (λ n. n ≤ most_patterns) (sym (same_length matched_expression _ _ c.loop-file.invariant.same_matchers.same_expressions)) c.requires.few

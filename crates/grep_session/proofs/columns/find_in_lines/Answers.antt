@@ -1,8 +1,8 @@
-use Rattle.grep_session.proofs.Prelude.{◌≡◌, ◌+◌, ◌<◌, ◌≤◌, [], ◌∷◌, ◌++◌, All, length, map, take, get_or, sym, ap, subst, ◌∙◌, arith, take_all, AllAnswer, most_patterns, all_of, line_text, IsWithin, SearchesEach, WasKept, AddsColumns, HasChanged, Expression, List, AreSame, drop, refl, matched_expression}
+use Rattle.grep_session.proofs.Prelude.{◌≡◌, ◌+◌, ◌<◌, ◌≤◌, [], ◌∷◌, ◌++◌, All, length, map, take, get_or, sym, ap, subst, ◌∙◌, arith, take_all, most_patterns, all_of, line_text, IsWithin, SearchesEach, WasKept, AddsColumns, HasChanged, Expression, List, AreSame, drop, refl, matched_expression}
 use Rattle.grep_core.proofs.lemmas.CostLaws.{same_length}
 use Rattle.grep_session.proofs.lemmas.AddingLemmas.{all_back}
 use Rattle.grep_session.proofs.lemmas.FoundLemmas.{adds_no_column, adds_columns, adds_column, all_by_chunk, chunks_next, texts_next, texts_rest}
-use Rattle.re_search.proofs.lemmas.KeptMatchers.{none_asked, same_over}
+use Rattle.re_search.proofs.lemmas.KeptMatchers.{none_asked, same_over, still_alike}
 use Rattle.grep_session.proofs.lemmas.StepLemmas.{not_searched, each_both, each_front}
 use Rattle.grep_session.proofs.columns.find_in_lines.Goals as goal
 use Rattle.grep_session.proofs.columns.find_in_lines.Goals.{After-find_in_chunk}
@@ -16,7 +16,7 @@ loop-i-init c = record {
 }
 
 pub find_in_chunk-requires-clause-whole : goal.find_in_chunk-requires-clause-whole
-find_in_chunk-requires-clause-whole c = rw c.deref_mut.ensures.value (subst (AllAnswer c.args.search.now.options.line_regexp) (sym c.loop-i.invariant.same_matchers.same_wholes) c.requires.whole)
+find_in_chunk-requires-clause-whole c = rw c.deref_mut.ensures.value (still_alike c.loop-i.invariant.same_matchers c.requires.whole)
 
 pub find_in_chunk-requires-clause-few : goal.find_in_chunk-requires-clause-few
 find_in_chunk-requires-clause-few c = rw c.deref_mut.ensures.value (subst (λ n. n ≤ most_patterns) (sym (same_length matched_expression _ _ c.loop-i.invariant.same_matchers.same_expressions)) c.requires.few)

@@ -1,4 +1,5 @@
 use Rattle.grep_session.proofs.Prelude.{◌≡◌, ◌+◌, ◌≤◌, length, map, Some, sym, ap, subst, ◌∙◌, arith, refl, length-map, Matches, Text, terminated, AddsAtMost, line_text, IsNextLine, next_line_cost, matched_expression, wants_whole}
+use Rattle.re_search.proofs.lemmas.SameLaws.{same_twice}
 use Rattle.re_runs.proofs.lemmas.NextLines.{block_lines}
 use Rattle.re_meter.proofs.lemmas.Adding.{adds_both, adds_within, adds_none}
 use Rattle.grep_session.proofs.lemmas.ColumnLoops.{column_none, column_next, column_done}
@@ -17,9 +18,7 @@ pub loop-from-init : goal.loop-from-init
 loop-from-init c = record {
   within = omega arith;
   column = column_none (matched_expression c.args.matcher.now) (wants_whole c.args.matcher.now) c.args.number (map line_text c.args.chunk.now) c.args.matches.now;
-  same_expression = refl;
-  same_whole = refl;
-  same_room = refl;
+  same = record { same_expression = refl; same_whole = refl; same_room = refl };
   steps = adds_none _ _ _;
 }
 
@@ -35,7 +34,10 @@ returns-in_default-clause-ok c =
     let i = c.loop-from.invariant in
     let P = λ (line : Text). Matches (matched_expression c.loop-from.matcher) line (wants_whole c.loop-from.matcher) in
     column_done (matched_expression c.args.matcher.now) (wants_whole c.args.matcher.now) c.args.number (map line_text c.args.chunk.now) c.loop-from.from _ _
-    (rw (← i.same_expression, ← i.same_whole) (none_from P (map line_text c.args.chunk.now) c.loop-from.from _ c.text_from.ensures.lines c.in_default.ensures.reported)) i.column
+    (rw (← i.same.same_expression, ← i.same.same_whole) (none_from P (map line_text c.args.chunk.now) c.loop-from.from _ c.text_from.ensures.lines c.in_default.ensures.reported)) i.column
+
+pub returns-in_default-clause-same : goal.returns-in_default-clause-same
+returns-in_default-clause-same c = same_twice c.next_matched.ensures.same c.loop-from.invariant.same
 
 pub returns-in_default-clause-steps : goal.returns-in_default-clause-steps
 returns-in_default-clause-steps c =
@@ -44,6 +46,9 @@ returns-in_default-clause-steps c =
     let bytes = ap length (block_lines _ c.text_from.ensures.block) ∙ ap (λ ls. length (terminated ls)) c.text_from.ensures.lines in
     let spent = subst (λ n. AddsAtMost n c.loop-from.meter c.next_matched.new.meter) bytes c.in_default.ensures.steps in
     subst (λ n. AddsAtMost n c.args.meter.now c.next_matched.new.meter) (bytes_rest texts c.loop-from.from) (adds_both _ _ _ _ _ _ _ i.steps spent)
+
+pub returns-in_err-note-clause-same : goal.returns-in_err-note-clause-same
+returns-in_err-note-clause-same c = same_twice c.next_matched.ensures.same c.loop-from.invariant.same
 
 pub returns-in_err-note-clause-steps : goal.returns-in_err-note-clause-steps
 returns-in_err-note-clause-steps c =
@@ -72,14 +77,12 @@ loop-from-preserved c =
     let from = c.loop-from.from in
     let k = c.number_at-k.result in
     let there = found (goal.at.loop-from-preserved c).After-number_at-k in
-    let next : IsNextLine (matched_expression c.args.matcher.now) (wants_whole c.args.matcher.now) texts from (Some k) = rw (← i.same_expression, ← i.same_whole) there.0 in
+    let next : IsNextLine (matched_expression c.args.matcher.now) (wants_whole c.args.matcher.now) texts from (Some k) = rw (← i.same.same_expression, ← i.same.same_whole) there.0 in
     let spent = subst (λ n. AddsAtMost n c.loop-from.meter c.next_matched.new.meter) there.1 c.in-Some.ensures.steps in
     record {
       within = omega (arith, next.1, length-map c.args.chunk.now line_text);
       column = column_next (matched_expression c.args.matcher.now) (wants_whole c.args.matcher.now) c.args.number texts from k _ _ _ next c.in_ok-note.ensures.ok i.column;
-      same_expression = c.next_matched.ensures.same.same_expression ∙ i.same_expression;
-      same_whole = c.next_matched.ensures.same.same_whole ∙ i.same_whole;
-      same_room = c.next_matched.ensures.same.same_room ∙ i.same_room;
+      same = same_twice c.next_matched.ensures.same i.same;
       steps = subst (λ n. AddsAtMost n c.args.meter.now c.next_matched.new.meter) (bytes_up_to texts from (k + 1) (omega (arith, next.0))) (adds_both _ _ _ _ _ _ _ i.steps spent);
     }
 

@@ -1,5 +1,5 @@
 use Rattle.grep_session.proofs.Prelude.{true, refl, IsAmong, IsWithin, is_narrower, ◌≡◌, ◌+◌, ◌-◌, ◌*◌, ◌<◌, ◌≤◌, length, map, take, drop, get_or, sym, ap, subst, ◌∙◌, length-take, arith, ◌∷◌, [], length-map, drop_all, terminated, AddsAtMost, line_text, AddsColumn, AddsLater, AreLeft, first_sought, past_sought, matched_expression, wants_whole}
-use Rattle.re_search.proofs.lemmas.KeptMatchers.{none_asked, one_asked}
+use Rattle.re_search.proofs.lemmas.KeptMatchers.{none_asked, one_kept}
 use Rattle.re_search.proofs.lemmas.OneMatcherMore.{one_more, value_at, within}
 use Rattle.re_meter.proofs.lemmas.Adding.{adds_none}
 use Rattle.grep_core.proofs.lemmas.CostLaws.{adds_for_more, adds_once_more}
@@ -37,7 +37,7 @@ returns-then-is_narrower-clause-ok c =
     }
 
 pub returns-then-is_narrower-clause-same_matchers : goal.returns-then-is_narrower-clause-same_matchers
-returns-then-is_narrower-clause-same_matchers c = one_asked none_asked c.first_sought-first.result c.index-matchers-first.result c.narrow_column.new.matcher c.narrow_column.ensures.same_expression c.narrow_column.ensures.same_whole c.narrow_column.ensures.same_room
+returns-then-is_narrower-clause-same_matchers c = one_kept none_asked c.first_sought-first.result c.index-matchers-first.result c.narrow_column.new.matcher c.narrow_column.ensures.same
 
 pub returns-then-is_narrower-clause-narrow : goal.returns-then-is_narrower-clause-narrow
 returns-then-is_narrower-clause-narrow c = λ on. rw c.first_sought-first.ensures at c.narrow_column.ensures.steps
@@ -86,12 +86,12 @@ loop-number-preserved c =
         columns_next texts entire first k (map matched_expression old) (matched_expression (get_or now k d)) s.found.0 c.loop-number.matches c.add_column.new.matches s.low there (one_more matched_expression old now same.same_expressions k d h) s.found.2
             (subst (λ w. AddsColumn texts w k (matched_expression (get_or now k d) ∷ []) c.loop-number.matches c.add_column.new.matches) asks c.in_ok-add_column.ensures.ok),
       );
-      same_matchers = one_asked same k d _ c.add_column.ensures.same_expression c.add_column.ensures.same_whole c.add_column.ensures.same_room;
+      same_matchers = one_kept same k d _ c.add_column.ensures.same;
       steps = subst (λ n. AddsAtMost (n * bytes) c.args.meter.now c.add_column.new.meter) next (adds_once_more (k - first) bytes _ _ _ s.steps c.add_column.ensures.steps);
     }
 
 pub returns-in_err-add_column-clause-same_matchers : goal.returns-in_err-add_column-clause-same_matchers
-returns-in_err-add_column-clause-same_matchers c = one_asked c.loop-number.invariant.same_matchers c.loop-number.number c.index-matchers-number.result _ c.add_column.ensures.same_expression c.add_column.ensures.same_whole c.add_column.ensures.same_room
+returns-in_err-add_column-clause-same_matchers c = one_kept c.loop-number.invariant.same_matchers c.loop-number.number c.index-matchers-number.result _ c.add_column.ensures.same
 
 pub returns-in_err-add_column-clause-steps : goal.returns-in_err-add_column-clause-steps
 returns-in_err-add_column-clause-steps c = λ plain.
@@ -141,13 +141,13 @@ returns-in_err-add_later-2-clause-steps c = λ plain.
     subst (λ n. AddsAtMost (n * length (terminated (map line_text c.args.chunk.now))) c.args.meter.now c.loop-number.meter) last s.steps
 
 pub returns-in_err-narrow_column-clause-same_matchers : goal.returns-in_err-narrow_column-clause-same_matchers
-returns-in_err-narrow_column-clause-same_matchers c = one_asked none_asked c.first_sought-first.result c.index-matchers-first.result c.narrow_column.new.matcher c.narrow_column.ensures.same_expression c.narrow_column.ensures.same_whole c.narrow_column.ensures.same_room
+returns-in_err-narrow_column-clause-same_matchers c = one_kept none_asked c.first_sought-first.result c.index-matchers-first.result c.narrow_column.new.matcher c.narrow_column.ensures.same
 
 pub returns-in_err-narrow_column-clause-narrow : goal.returns-in_err-narrow_column-clause-narrow
 returns-in_err-narrow_column-clause-narrow c = λ on. rw c.first_sought-first.ensures at c.narrow_column.ensures.steps
 
 pub returns-in_err-add_later-clause-same_matchers : goal.returns-in_err-add_later-clause-same_matchers
-returns-in_err-add_later-clause-same_matchers c = one_asked none_asked c.first_sought-first.result c.index-matchers-first.result c.narrow_column.new.matcher c.narrow_column.ensures.same_expression c.narrow_column.ensures.same_whole c.narrow_column.ensures.same_room
+returns-in_err-add_later-clause-same_matchers c = one_kept none_asked c.first_sought-first.result c.index-matchers-first.result c.narrow_column.new.matcher c.narrow_column.ensures.same
 
 pub returns-in_err-add_later-clause-narrow : goal.returns-in_err-add_later-clause-narrow
 returns-in_err-add_later-clause-narrow c = λ on. rw c.first_sought-first.ensures at c.narrow_column.ensures.steps

@@ -1,5 +1,6 @@
 use Rattle.grep_session.proofs.Prelude.{◌≡◌, ◌+◌, ◌<◌, ◌↔◌, true, false, IsTrue, [], length, map, get_or, get_or_default, nil_from_length, refl, sym, subst, ◌∙◌, arith, length-map, false≢true, Some, Matches, AddsAtMost, IsNextLine, has_number, has_pair, marked_cost, line_text, no_line, numbers_at, matched_expression, wants_whole}
 use Rattle.std.proofs.Math.ListN.{get_or-map}
+use Rattle.re_search.proofs.lemmas.SameLaws.{same_twice}
 use Rattle.re_meter.proofs.lemmas.Adding.{adds_none}
 use Rattle.grep_session.proofs.lemmas.ColumnLoops.{column_done, column_next, column_none, column_pass, pairs_next, pairs_none}
 use Rattle.grep_session.proofs.lemmas.MarkedLemmas.{marked_front, searched_next}
@@ -23,9 +24,7 @@ loop-k-init c = record {
   high = omega arith;
   pairs = pairs_none _ _;
   column = λ among. column_none _ _ _ _ _;
-  same_expression = refl;
-  same_whole = refl;
-  same_room = refl;
+  same = record { same_expression = refl; same_whole = refl; same_room = refl };
   steps = adds_none _ _ _;
 }
 
@@ -41,9 +40,7 @@ loop-k-preserved-then-not-index c =
       high = omega (arith, here, c.len-2.ensures);
       pairs = s.pairs;
       column = λ among. pass_unpaired (matched_expression c.args.matcher.now) (wants_whole c.args.matcher.now) (map line_text c.args.chunk.now) number kept k c.args.matches.now c.loop-k.matches (sym is ∙ c.if-not-index.true) among (s.column among);
-      same_expression = s.same_expression;
-      same_whole = s.same_whole;
-      same_room = s.same_room;
+      same = s.same;
       steps = marked_front (has_pair number kept) 1 (map line_text c.args.chunk.now) k (k + 1) _ _ (omega arith) s.steps;
     }
 
@@ -62,7 +59,7 @@ asked c =
     let is : c.index.result.now ≡ has_number number (numbers_at k kept) = c.index.ensures ∙ get_or_default c.in_ok-marks.marks.items k c.index.result.now false (omega (arith, here, c.in_ok-marks.ensures.size)) ∙ c.in_ok-marks.ensures.marks k here in
     let on : has_number number (numbers_at k kept) ≡ true = sym is ∙ c.if-not-index.false in
     let m = c.loop-k.matcher in
-    let reported = subst (λ x. IsTrue c.is_match.result ↔ Matches x (get_or texts k []) (wants_whole c.args.matcher.now)) s.same_expression (subst (λ w. IsTrue c.is_match.result ↔ Matches (matched_expression m) (get_or texts k []) w) s.same_whole
+    let reported = subst (λ x. IsTrue c.is_match.result ↔ Matches x (get_or texts k []) (wants_whole c.args.matcher.now)) s.same.same_expression (subst (λ w. IsTrue c.is_match.result ↔ Matches (matched_expression m) (get_or texts k []) w) s.same.same_whole
     (subst (λ t. IsTrue c.is_match.result ↔ Matches (matched_expression m) t (wants_whole m)) (c.line.ensures.line ∙ sym text) c.is_match.ensures.reported)) in
     let spent = subst (λ t. AddsAtMost (length t + 1) c.loop-k.meter c.is_match.new.meter) c.line.ensures.line c.is_match.ensures.steps in
     (reported, searched_next (has_pair number kept) texts k _ _ _ _ on text s.steps spent)
@@ -76,9 +73,7 @@ loop-k-preserved-then-not-is_match c =
       high = omega (arith, c.loop-k-test.true, c.len-k-end.ensures);
       pairs = s.pairs;
       column = λ among. column_pass (matched_expression c.args.matcher.now) (wants_whole c.args.matcher.now) c.args.number (map line_text c.args.chunk.now) k c.args.matches.now c.loop-k.matches (λ h matched. false≢true (sym c.if-not-is_match.true ∙ a.0.1 matched)) (s.column among);
-      same_expression = c.is_match.ensures.same.same_expression ∙ s.same_expression;
-      same_whole = c.is_match.ensures.same.same_whole ∙ s.same_whole;
-      same_room = c.is_match.ensures.same.same_room ∙ s.same_room;
+      same = same_twice c.is_match.ensures.same s.same;
       steps = a.1;
     }
 
@@ -95,11 +90,12 @@ loop-k-preserved c =
       high = omega (arith, c.loop-k-test.true, c.len-k-end.ensures);
       pairs = pairs_next (length texts) k c.args.number c.args.matches.now c.loop-k.matches _ one c.in_ok-note.ensures.ok s.pairs;
       column = λ among. column_next (matched_expression c.args.matcher.now) (wants_whole c.args.matcher.now) c.args.number texts k k c.args.matches.now c.loop-k.matches _ next c.in_ok-note.ensures.ok (s.column among);
-      same_expression = c.is_match.ensures.same.same_expression ∙ s.same_expression;
-      same_whole = c.is_match.ensures.same.same_whole ∙ s.same_whole;
-      same_room = c.is_match.ensures.same.same_room ∙ s.same_room;
+      same = same_twice c.is_match.ensures.same s.same;
       steps = a.1;
     }
+
+pub returns-in_err-note-clause-same : goal.returns-in_err-note-clause-same
+returns-in_err-note-clause-same c = same_twice c.is_match.ensures.same c.loop-k.invariant.same
 
 pub returns-in_err-note-clause-steps : goal.returns-in_err-note-clause-steps
 returns-in_err-note-clause-steps c =

@@ -1,4 +1,4 @@
-use Rattle.grep_session.proofs.Prelude.{◌≡◌, ◌≤◌, length, map, line_text, AddsAtMost, AddsPairs, IsAmong, has_pair, marked_cost, matched_expression, wants_whole, room_of}
+use Rattle.grep_session.proofs.Prelude.{◌≤◌, length, map, line_text, AddsAtMost, AddsPairs, IsAmong, has_pair, marked_cost, matched_expression, wants_whole, IsSame}
 use Rattle.grep_session.proofs.lemmas.ColumnLoops.{ColumnSoFar}
 use Rattle.grep_session.proofs.line_matches.narrow_column.Given as goal
 
@@ -9,8 +9,6 @@ invariant-loop-k l = record {
   pairs : AddsPairs (length (map line_text l.chunk)) l.fn.matches l.matches;
   column : IsAmong (matched_expression l.fn.matcher) (wants_whole l.fn.matcher) (map line_text l.chunk) l.number l.old
       → ColumnSoFar (matched_expression l.fn.matcher) (wants_whole l.fn.matcher) l.number (map line_text l.chunk) l.k l.fn.matches l.matches;
-  same_expression : matched_expression l.matcher ≡ matched_expression l.fn.matcher;
-  same_whole : wants_whole l.matcher ≡ wants_whole l.fn.matcher;
-  same_room : room_of l.matcher ≡ room_of l.fn.matcher;
+  same : IsSame l.fn.matcher l.matcher;
   steps : AddsAtMost (marked_cost (has_pair l.number l.old) 1 (map line_text l.chunk) l.k) l.fn.meter l.meter;
 }

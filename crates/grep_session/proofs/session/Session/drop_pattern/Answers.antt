@@ -1,4 +1,4 @@
-use Rattle.grep_session.proofs.Prelude.{◌≡◌, ◌≤◌, ◌<◌, Ok, length, map, inl, refl, sym, subst, arith, All, length-map, matched_expression, wants_whole, AllAnswer, most_patterns, IsFileKept, inputs_of, DropPattern}
+use Rattle.grep_session.proofs.Prelude.{◌≡◌, ◌≤◌, ◌<◌, Ok, length, map, inl, refl, sym, subst, arith, All, length-map, matched_expression, wants_whole, most_patterns, IsFileKept, inputs_of, DropPattern}
 use Rattle.re_search.proofs.lemmas.KeptMatchers.{none_asked}
 use Rattle.grep_core.proofs.lemmas.CostLaws.{same_length}
 use Rattle.grep_session.proofs.lemmas.DroppingLemmas.{All-remove}
@@ -48,7 +48,7 @@ returns-then-not-self-clause-marks c = rw (← c.self.view_is) c.lose_all.ensure
 pub find_columns-requires-clause-whole : goal.find_columns-requires-clause-whole
 find_columns-requires-clause-whole c =
     let s = c.self.inside in
-    subst (AllAnswer s.options.line_regexp) (sym (map-remove wants_whole s.matchers.items c.remove-gone.new.self.items c.args.p c.remove-gone.ensures.items)) (All-remove (λ w. w ≡ s.options.line_regexp) (map wants_whole s.matchers.items) c.args.p c.self.invariant.matchers.wholes)
+    subst (All (λ w. w ≡ s.options.line_regexp)) (sym (map-remove wants_whole s.matchers.items c.remove-gone.new.self.items c.args.p c.remove-gone.ensures.items)) (All-remove (λ w. w ≡ s.options.line_regexp) (map wants_whole s.matchers.items) c.args.p c.self.invariant.matchers.wholes)
 
 pub find_columns-requires-clause-few : goal.find_columns-requires-clause-few
 find_columns-requires-clause-few c =

@@ -1,4 +1,4 @@
-use Rattle.grep_session.proofs.Prelude.{◌≡◌, [], refl, Ok, map, inl, sym, ap, subst, ◌∙◌, matched_expression, wants_whole, AllAnswer, AreMatchers, Inputs, Edit, Applies, Touches, TakesSteps, parts_alone, read_as, inputs_of, all_lines}
+use Rattle.grep_session.proofs.Prelude.{◌≡◌, [], refl, Ok, map, inl, sym, ap, subst, ◌∙◌, matched_expression, AreMatchers, Inputs, Edit, Applies, Touches, TakesSteps, parts_alone, read_as, inputs_of, all_lines, AreAlike}
 use Rattle.grep_session.proofs.lemmas.EditLemmas.{left_session, searched_session}
 use Rattle.grep_session.proofs.lemmas.AllPatternsRead.{ready_files, AreMatchers-options}
 use Rattle.grep_session.proofs.lemmas.StepLemmas.{takes_parts}
@@ -26,7 +26,7 @@ pub find_columns-requires-clause-whole : goal.find_columns-requires-clause-whole
 find_columns-requires-clause-whole c =
     let s = c.self.inside in
     let whole : c.args.options.line_regexp ≡ s.options.line_regexp = c.requires.same_whole ∙ sym (ap (λ (i : Inputs). i.options.line_regexp) (inputs_are c.self.view_is)) in
-    subst (λ w. AllAnswer w (map wants_whole s.matchers.items)) (sym whole) c.self.invariant.matchers.wholes
+    subst (λ w. AreAlike w s.matchers.items) (sym whole) c.self.invariant.matchers.wholes
 
 pub returns-in-Err-clause-steps : goal.returns-in-Err-clause-steps
 returns-in-Err-clause-steps c = rw (← c.self.view_is) (steps (goal.at.returns-in-Err-clause-steps c).After-find_columns)
