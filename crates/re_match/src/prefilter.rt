@@ -5,7 +5,7 @@ ghost use Rattle.re_trees.specs.Expression.{Expression};
 ghost use Rattle.re_trees.specs.Working.Trees.{expression_of};
 ghost use Rattle.re_trees.specs.Bytes.{Text};
 ghost use Rattle.re_trees.specs.Lines.{HasNoNewline, lines_of, newline};
-ghost use Rattle.re_meter.specs.Meters.{AddsUpTo, Steps};
+ghost use Rattle.re_meter.specs.Meters.{AddsJust, AddsUpTo, Steps};
 ghost use Rattle.re_needle.specs.Working.Needles.{IsNeeded, IsNeedleOf};
 ghost use Rattle.re_runs.specs.Working.Finders.{runs_of};
 ghost use Rattle.re_runs.specs.Working.Runs.{FindsRun, IsLongestRun};
@@ -68,7 +68,7 @@ impl Prefilter {
         ensures settled { (e : Expression) → IsPrefilterFor e self.now →
             IfSome result (λ reported. IsSaidAtOnce e whole line.now reported) }
         ensures looked { (e : Expression) → IsPrefilterFor e self.now →
-            LooksOver e line.now meter.old meter.new }
+            LooksOver e line.now result meter.old meter.new }
     {
         if let Some(strings) = &self.strings {
             return self.settled_by(strings, line, meter);
@@ -99,7 +99,7 @@ impl Prefilter {
         ensures settled { (e : Expression) (whole : Bool) → AreNeeded strings.now e →
             IfSome result (λ reported. IsSaidAtOnce e whole line.now reported) }
         ensures looked { (e : Expression) → AreNeeded strings.now e →
-            LooksOver e line.now meter.old meter.new }
+            LooksOver e line.now result meter.old meter.new }
     {
         if self.backoff.rests() {
             return None;
@@ -228,7 +228,7 @@ impl Prefilter {
             PassesUnmatched e whole block.now result.start }
         ensures stops { (e : Expression) → IsPrefilterFor e self.now →
             StopsAt e whole block.now result }
-        ensures steps { AddsUpTo result.start result.reached meter.old meter.new }
+        ensures steps { AddsJust result.start result.reached meter.old meter.new }
     {
         if block.is_empty() || !self.backoff.should_scan() {
             return Sweep::none();

@@ -20,7 +20,7 @@ windows-preserved c =
       same = c.find_in.ensures.same ∙ held.same;
       later = subst (BeginsLater e line from) (sym c.place_after-place.ensures) (later_on e line from place window.start window.end held.later said.0.0 said.0.1.1 (rw held.same at c.in_default.ensures.found) said.0.1.0 within);
       steps = adds_on {first = window.start - from} {first_bytes = past line window.end - from}
-          (adds_on held.steps said.1 (omega (arith, low, next)) (omega (arith, low, next, within, said.0.1.0, held.high))) c.find_in.ensures.steps
+          (adds_on held.steps said.1 (omega (arith, low, next)) (omega (arith, low, next, within, said.0.1.0, held.high))) c.find_in.ensures.steps.few
           (omega (arith, c.place_after-place.ensures, within, said.0.1.0, low, next)) (omega (arith, c.place_after-place.ensures));
     }
 
@@ -66,7 +66,7 @@ returns-in-Some-clause-steps c =
     let low = held.later.0 in
     let next = said.0.0.0 in
     adds_on {first = window.start - from} {first_bytes = past c.args.line.now window.end - from}
-    (adds_on held.steps said.1 (omega (arith, low, next)) (omega (arith, low, next, within, said.0.1.0, held.high))) c.find_in.ensures.steps (omega (arith, within, said.0.1.0, low, next)) (omega arith)
+    (adds_on held.steps said.1 (omega (arith, low, next)) (omega (arith, low, next, within, said.0.1.0, held.high))) c.find_in.ensures.steps.few (omega (arith, within, said.0.1.0, low, next)) (omega arith)
 
 pub returns-clause-reported : goal.returns-clause-reported
 returns-clause-reported c = λ i j f. let low = c.windows.invariant.later.1 i j f in let some = f.not_empty in let on = f.on_line in omega (arith, low, some, on, c.windows-test.false)
