@@ -10,7 +10,7 @@ ghost use Rattle.re_needle.specs.Working.Needles.{IsNeeded, IsNeedleOf};
 ghost use Rattle.re_runs.specs.Working.Finders.{runs_of};
 ghost use Rattle.re_runs.specs.Working.Runs.{FindsRun, IsLongestRun};
 ghost use Rattle.re_match.specs.Working.Sweeps.{StopsAt, LooksOver};
-ghost use Rattle.re_match.specs.Working.Aheads.{AreEdgesFor, IsSaid};
+ghost use Rattle.re_match.specs.Working.Aheads.{AreEdgesFor, IsSaid, PassesAtLeast};
 ghost use Rattle.re_match.specs.declared.ahead.Ahead.TheVariants.{In};
 ghost use Rattle.re_match.specs.Working.Prefilters.{AreNeeded, IsPrefilterFor, IsSaidAtOnce};
 ghost use Rattle.re_match.specs.Working.Prefilters.{NeedsOneOf};
@@ -254,7 +254,7 @@ fn window_at(
     requires within { near < length line.now }
     requires next { FindsRun (drop from line.now) (runs_of needle.now.finder) (Some (near - from)) }
     ensures { (e : Expression) (before : Steps) → IsNeedleOf e needle.now → AreEdgesFor e edges.now →
-        AddsUpTo 0 (near + 1 - from) before meter.old →
+        AddsUpTo 0 (near + 1 - from) before meter.old → PassesAtLeast (near - from) before meter.old →
         IsSaid e line.now from before meter.new (In result) }
 {
     if needle.is_first {
