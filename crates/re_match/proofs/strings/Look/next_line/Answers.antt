@@ -1,4 +1,5 @@
-use Rattle.re_match.proofs.Prelude.{false, Text, Matches, any_literal, lines_of, IsLineFrom}
+use Rattle.re_match.proofs.Prelude.{◌+◌, arith, false, Text, Matches, any_literal, lines_of, IsLineFrom}
+use Rattle.re_meter.proofs.lemmas.Adding.{adds_within}
 use Rattle.re_needle.proofs.lemmas.NeededLines.{finds_literal}
 use Rattle.re_runs.proofs.lemmas.NextLines.{none_next, next_from}
 use Rattle.re_match.proofs.strings.Look.next_line.Goals as goal
@@ -24,3 +25,9 @@ returns-clause-reported c =
 
 pub returns-clause-looked : goal.returns-clause-looked
 returns-clause-looked c = rw c.in-Many.is (rw c.deref.ensures at c.first_line-start.ensures.looked)
+
+pub returns-clause-steps : goal.returns-clause-steps
+returns-clause-steps c =
+    let stops = c.first_line-start.ensures.stops (any_literal c.in-Many.set.value) false in
+    let near = (stops.line c.in_ok-end.end c.in_ok-end.ensures).near in
+    adds_within 0 0 c.first_line-start.result.reached (c.in_ok-end.end + 1) _ _ (omega arith) (omega (arith, near)) c.first_line-start.ensures.steps
