@@ -46,8 +46,9 @@ pub trait LineMatch {
 
     /// Where the next part is, from `from` on, if the whole line need not be matched. Up to the end of
     /// the part, or to the line's end if there is none, it takes at most one step for each byte, and
-    /// passes each at most once, and those before the part or the window. If it answers by a window, it passes no byte after the one that ends the
-    /// window, and takes steps for those before the window alone.
+    /// passes each at most once, and those before the part or the window. If it answers by a window, it
+    /// passes no byte after the one that ends the window, and takes steps for those before the window
+    /// alone.
     fn next_window(&mut self, line: &[u8], from: usize, meter: &mut Meter) -> Ahead
         requires { from < length line.now }
         ensures reported { IsAhead (expression self.old) line.now from result }

@@ -51,7 +51,8 @@ abbrev pub PassesAtLeast : ℕ → Steps → Steps → Type 0
 PassesAtLeast least old new = min (old.passed + least) (2 ^ 64 - 1) ≤ new.passed
 
 -- and those before it are passed
-pub record CountsAhead (line : Text) (from : ℕ) (before after : Steps) (ahead : Ahead) : Type 0 where
+pub record CountsAhead (line : Text) (from : ℕ) (before after : Steps)
+    (ahead : Ahead) : Type 0 where
   pub few : CountsUpTo line from before after ahead
   pub all : PassesAtLeast (begins_at line ahead - from) before after
 

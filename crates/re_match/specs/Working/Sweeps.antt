@@ -32,7 +32,7 @@ steps_to Unseen start reached = start
 steps_to Seen start reached = start
 steps_to (Decided answer) start reached = max start reached
 
--- each byte of the lines that a sweep passed is a step, and each byte that it looked over is passed once
+-- each byte of the lines that a sweep passed is a step, and none that it looked over is passed twice
 abbrev pub CountsSweep : Sweep → Steps → Steps → Type 0
 CountsSweep sweep old new =
     AddsBetween sweep.start (steps_to sweep.stop sweep.start sweep.reached) sweep.reached old new
