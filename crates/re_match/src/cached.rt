@@ -11,14 +11,14 @@ ghost use Rattle.re_auto.specs.Working.Tables.{IsRefused};
 ghost use Rattle.re_auto.specs.Working.StateSets.{IsMadeFor};
 ghost use Rattle.re_auto.specs.Searches.{FindsPart};
 ghost use Rattle.re_match.specs.Working.Prefilters.{IsSaidAtOnce};
-ghost use Rattle.re_meter.specs.Meters.{AddsAtMost, AddsUpTo, many_built};
+ghost use Rattle.re_meter.specs.Meters.{AddsAtMost, AddsJust, many_built};
 ghost use Rattle.re_steps.specs.Working.Simulations.{AreSetsFor};
 ghost use Rattle.re_steps.specs.Working.Stages.{Cache, Searches, FinishesFrom, IsReadied, mode_for};
 ghost use Rattle.re_ends.specs.Working.GreatestEnds.{AddsEnds, FoundPast, FindsIn, IsBorder};
 ghost use Rattle.re_ends.specs.Working.EndTables.{AreEndsFor};
 ghost use Rattle.re_match.specs.Working.Aheads.{AreEdgesFor, CountsAhead, IsAhead, IsSaid, IsWindowOf, past};
 ghost use Rattle.re_match.specs.Working.CachedMatchers.{AnswersLine, SameCached, no_cache};
-ghost use Rattle.re_match.specs.Working.Sweeps.{LooksOver, StopsAt, steps_to};
+ghost use Rattle.re_match.specs.Working.Sweeps.{CountsSweep, LooksOver, StopsAt};
 ghost use Rattle.re_runs.specs.Working.Blocks.{IsBlock, PassesUnmatched};
 ghost use Rattle.re_steps.specs.Working.Rows.{IsKnownFor, IsReady, IsRow, Lasts};
 ghost use Rattle.re_steps.specs.Working.Stages.{Stage};
@@ -168,7 +168,7 @@ impl Cached {
     fn settled(&self, line: &[u8], meter: &mut Meter) -> Option<bool>
         ensures settled { IfSome result
             (λ reported. IsSaidAtOnce (expression_of self.now.tree) self.now.whole line.now reported) }
-        ensures looked { LooksOver (expression_of self.now.tree) line.now meter.old meter.new }
+        ensures looked { LooksOver (expression_of self.now.tree) line.now result meter.old meter.new }
     {
         self.prefilter.settled(line, self.whole, meter)
     }
@@ -237,8 +237,7 @@ impl Cached {
             result.start }
         ensures stops { StopsAt (expression_of self.old.tree) self.old.whole block.now result }
         ensures same { SameCached self.old self.new }
-        ensures steps { AddsUpTo (steps_to result.stop result.start result.reached) result.reached
-            meter.old meter.new }
+        ensures steps { CountsSweep result meter.old meter.new }
     {
         let Some(table) = &mut self.table else {
             return Sweep::none();
@@ -289,7 +288,7 @@ impl Cached {
         requires border { IsBorder (expression_of self.old.tree) line.now window.end }
         ensures found { FindsIn (expression_of self.old.tree) line.now window.start window.end result }
         ensures same { self.new ≡ self.old }
-        ensures steps { AddsUpTo (window.end - window.start) 0 meter.old meter.new }
+        ensures steps { AddsJust (window.end - window.start) 0 meter.old meter.new }
     {
         let asked = Asked {
             alloc: self.alloc,
@@ -439,7 +438,7 @@ impl LineMatch for Cached {
             ends.old ends.old ends.new }
         ensures samespare { vec_capacity spare.old ≤ vec_capacity spare.new }
         ensures same { self.new ≡ self.old }
-        ensures steps { AddsUpTo (window.end - window.start) 0 meter.old meter.new }
+        ensures steps { AddsJust (window.end - window.start) 0 meter.old meter.new }
     {
         let asked = Asked {
             alloc: self.alloc,

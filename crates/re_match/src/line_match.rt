@@ -4,7 +4,7 @@ ghost use Rattle.re_trees.specs.Expression.{Expression};
 ghost use Rattle.re_trees.specs.Holds.{Matches};
 ghost use Rattle.re_trees.specs.Lines.{lines_of};
 ghost use Rattle.re_auto.specs.Searches.{FindsPart, AddsAtMost};
-ghost use Rattle.re_meter.specs.Meters.{AddsUpTo};
+ghost use Rattle.re_meter.specs.Meters.{AddsJust};
 ghost use Rattle.re_runs.specs.Working.Blocks.{IsBlock, CountsMatched};
 ghost use Rattle.re_runs.specs.Working.Blocks.{FindsMatched, next_cost};
 ghost use Rattle.re_ends.specs.Working.GreatestEnds.{AddsEnds, FoundPast};
@@ -46,8 +46,9 @@ pub trait LineMatch {
 
     /// Where the next part is, from `from` on, if the whole line need not be matched. Up to the end of
     /// the part, or to the line's end if there is none, it takes at most one step for each byte, and
-    /// passes each at most once. If it answers by a window, it passes no byte after the one that ends the
-    /// window, and takes steps for those before the window alone.
+    /// passes each at most once, and those before the part or the window. If it answers by a window, it
+    /// passes no byte after the one that ends the window, and takes steps for those before the window
+    /// alone.
     fn next_window(&mut self, line: &[u8], from: usize, meter: &mut Meter) -> Ahead
         requires { from < length line.now }
         ensures reported { IsAhead (expression self.old) line.now from result }
@@ -55,8 +56,8 @@ pub trait LineMatch {
         ensures steps { CountsAhead line.now from meter.old meter.new result };
 
     /// Gives each place of the window the greatest end of the parts that begin there, if the whole line
-    /// need not be matched, and if it is greater than the end that the place has. It takes at most one
-    /// step for each byte of the window, and passes no byte. `spare` is room for what it works with.
+    /// need not be matched, and if it is greater than the end that the place has. It takes one step
+    /// for each byte of the window, and passes no byte. `spare` is room for what it works with.
     fn add_ends(
         &mut self,
         line: &[u8],
@@ -73,7 +74,7 @@ pub trait LineMatch {
             ends.old ends.old ends.new }
         ensures same_spare { vec_capacity spare.old ≤ vec_capacity spare.new }
         ensures same { SameMatcher expression whole room self.old self.new }
-        ensures steps { AddsUpTo (window.end - window.start) 0 meter.old meter.new };
+        ensures steps { AddsJust (window.end - window.start) 0 meter.old meter.new };
 
     /// The first line of a block of whole lines that is matched, by its place without its newline.
     /// It takes at most one step for each byte up to that newline and one for the newline, and passes

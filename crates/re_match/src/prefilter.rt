@@ -5,12 +5,12 @@ ghost use Rattle.re_trees.specs.Expression.{Expression};
 ghost use Rattle.re_trees.specs.Working.Trees.{expression_of};
 ghost use Rattle.re_trees.specs.Bytes.{Text};
 ghost use Rattle.re_trees.specs.Lines.{HasNoNewline, lines_of, newline};
-ghost use Rattle.re_meter.specs.Meters.{AddsUpTo, Steps};
+ghost use Rattle.re_meter.specs.Meters.{AddsJust, AddsUpTo, Steps};
 ghost use Rattle.re_needle.specs.Working.Needles.{IsNeeded, IsNeedleOf};
 ghost use Rattle.re_runs.specs.Working.Finders.{runs_of};
 ghost use Rattle.re_runs.specs.Working.Runs.{FindsRun, IsLongestRun};
 ghost use Rattle.re_match.specs.Working.Sweeps.{StopsAt, LooksOver};
-ghost use Rattle.re_match.specs.Working.Aheads.{AreEdgesFor, IsSaid};
+ghost use Rattle.re_match.specs.Working.Aheads.{AreEdgesFor, IsSaid, PassesAtLeast};
 ghost use Rattle.re_match.specs.declared.ahead.Ahead.TheVariants.{In};
 ghost use Rattle.re_match.specs.Working.Prefilters.{AreNeeded, IsPrefilterFor, IsSaidAtOnce};
 ghost use Rattle.re_match.specs.Working.Prefilters.{NeedsOneOf};
@@ -68,7 +68,7 @@ impl Prefilter {
         ensures settled { (e : Expression) → IsPrefilterFor e self.now →
             IfSome result (λ reported. IsSaidAtOnce e whole line.now reported) }
         ensures looked { (e : Expression) → IsPrefilterFor e self.now →
-            LooksOver e line.now meter.old meter.new }
+            LooksOver e line.now result meter.old meter.new }
     {
         if let Some(strings) = &self.strings {
             return self.settled_by(strings, line, meter);
@@ -99,7 +99,7 @@ impl Prefilter {
         ensures settled { (e : Expression) (whole : Bool) → AreNeeded strings.now e →
             IfSome result (λ reported. IsSaidAtOnce e whole line.now reported) }
         ensures looked { (e : Expression) → AreNeeded strings.now e →
-            LooksOver e line.now meter.old meter.new }
+            LooksOver e line.now result meter.old meter.new }
     {
         if self.backoff.rests() {
             return None;
@@ -228,7 +228,7 @@ impl Prefilter {
             PassesUnmatched e whole block.now result.start }
         ensures stops { (e : Expression) → IsPrefilterFor e self.now →
             StopsAt e whole block.now result }
-        ensures steps { AddsUpTo result.start result.reached meter.old meter.new }
+        ensures steps { AddsJust result.start result.reached meter.old meter.new }
     {
         if block.is_empty() || !self.backoff.should_scan() {
             return Sweep::none();
@@ -254,7 +254,7 @@ fn window_at(
     requires within { near < length line.now }
     requires next { FindsRun (drop from line.now) (runs_of needle.now.finder) (Some (near - from)) }
     ensures { (e : Expression) (before : Steps) → IsNeedleOf e needle.now → AreEdgesFor e edges.now →
-        AddsUpTo 0 (near + 1 - from) before meter.old →
+        AddsUpTo 0 (near + 1 - from) before meter.old → PassesAtLeast (near - from) before meter.old →
         IsSaid e line.now from before meter.new (In result) }
 {
     if needle.is_first {

@@ -5,7 +5,7 @@ ghost use Rattle.re_trees.specs.Bytes.{Text};
 ghost use Rattle.re_trees.specs.Expression.{byte, sequence};
 ghost use Rattle.re_trees.specs.Holds.{Matches};
 ghost use Rattle.re_trees.specs.Lines.{lines_of};
-ghost use Rattle.re_meter.specs.Meters.{AddsAtMost, AddsUpTo, many_built, many_passed};
+ghost use Rattle.re_meter.specs.Meters.{AddsAtMost, AddsJust, AddsUpTo, many_built, many_passed};
 ghost use Rattle.re_runs.specs.Working.Blocks.{IsBlock, PassesUnmatched, CountsMatched};
 ghost use Rattle.re_runs.specs.Working.Blocks.{FindsMatched, next_cost};
 ghost use Rattle.re_match.specs.declared.strings.Look.TheVariants.{One};
@@ -260,7 +260,7 @@ impl Strings {
     // The same as `is_match`, of a line that was looked over already: no byte is passed.
     fn searched(&mut self, line: &[u8], meter: &mut Meter) -> bool
         ensures reported { IsTrue result ↔ Matches (matched_strings self.old) line.now self.old.whole }
-        ensures steps { AddsUpTo (length line.now + 1) 0 meter.old meter.new }
+        ensures steps { AddsJust (length line.now + 1) 0 meter.old meter.new }
         ensures same { self.new ≡ self.old }
     {
         meter.add_built(line.len() as u64 + 1);
@@ -348,7 +348,7 @@ impl LineMatch for Strings {
             (λ i m. FoundPast (matched_strings self.old ∷ []) line.now false (window.start + i) m)
             ends.old ends.old ends.new }
         ensures same_spare { vec_capacity spare.old ≤ vec_capacity spare.new }
-        ensures steps { AddsUpTo (window.end - window.start) 0 meter.old meter.new }
+        ensures steps { AddsJust (window.end - window.start) 0 meter.old meter.new }
         ensures same { self.new ≡ self.old }
     {
         meter.add_built((window.end - window.start) as u64);

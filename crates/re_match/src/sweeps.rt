@@ -7,7 +7,7 @@ ghost use Rattle.re_trees.specs.Lines.{lines_of};
 ghost use Rattle.re_meter.specs.Meters.{AddsAtMost, AddsUpTo};
 ghost use Rattle.re_match.specs.declared.sweeps.Stop.TheVariants.{Unseen, Seen, Decided};
 ghost use Rattle.re_match.specs.Working.Same.{SameMatcher};
-ghost use Rattle.re_match.specs.Working.Sweeps.{StopsAt, left_for, steps_left, steps_to};
+ghost use Rattle.re_match.specs.Working.Sweeps.{CountsSweep, StopsAt, left_for, steps_left};
 ghost use Rattle.re_runs.specs.Working.Blocks.{IsBlock, PassesUnmatched};
 ghost use Rattle.re_runs.specs.Working.Blocks.{FindsMatched, next_cost};
 
@@ -77,17 +77,16 @@ pub trait Sweeps {
     /// How many entries its cache may have; 0 without a cache.
     ghost room: { Self → ℕ };
 
-    /// Passes whole lines of a block of whole lines, none of which is matched. It takes at most one
-    /// step for each of their bytes, and of the line where it stops if it decides that, and passes each
-    /// byte that it looks over once.
+    /// Passes whole lines of a block of whole lines, none of which is matched. It takes a step
+    /// for each of their bytes, at most one for each of the line where it stops if it decides that, and
+    /// passes each byte that it looks over once.
     fn sweep(&mut self, block: &[u8], meter: &mut Meter) -> Sweep
         requires { IsBlock block.now }
         ensures passes { PassesUnmatched (expression self.old) (whole self.old) block.now
             result.start }
         ensures stops { StopsAt (expression self.old) (whole self.old) block.now result }
         ensures same { SameMatcher expression whole room self.old self.new }
-        ensures steps { AddsUpTo (steps_to result.stop result.start result.reached) result.reached
-            meter.old meter.new };
+        ensures steps { CountsSweep result meter.old meter.new };
 
     /// Whether the line is matched at which a sweep stopped. A line that it looked over is not looked
     /// over again.

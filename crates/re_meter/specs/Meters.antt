@@ -50,6 +50,15 @@ pub record AddsUpTo (most_steps most_bytes : ℕ) (old new : Steps) : Type 0 whe
   pub sum : new.built + new.reused ≤ old.built + old.reused + most_steps
   pub bytes : new.passed ≤ old.passed + most_bytes
 
+-- at least `least` of them were counted, too
+pub record AddsBetween (least most most_bytes : ℕ) (old new : Steps) : Type 0 where
+  pub few : AddsUpTo most most_bytes old new
+  pub all : min (old.built + old.reused + least) (2 ^ 64 - 1) ≤ new.built + new.reused
+
+-- just so many steps were counted, and at most so many bytes were passed
+abbrev pub AddsJust : ℕ → ℕ → Steps → Steps → Type 0
+AddsJust steps most_bytes old new = AddsBetween steps steps most_bytes old new
+
 -- at most `most` steps were counted, and at most `most` bytes were passed
 abbrev pub AddsAtMost : ℕ → Steps → Steps → Type 0
 AddsAtMost most old new = AddsUpTo most most old new

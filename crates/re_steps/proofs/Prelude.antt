@@ -11,7 +11,7 @@ pub use Rattle.re_auto.specs.contracts.step.state_set.StateSetPartialEq.TheImpl.
 pub use Rattle.re_auto.specs.declared.mode.Mode.{Mode}
 pub use Rattle.re_auto.specs.declared.mode.Mode.TheVariants.{Search, Whole}
 pub use Rattle.re_auto.specs.declared.step.state_set.StateSet.{StateSet}
-pub use Rattle.re_meter.specs.Meters.{AddsUpTo, Steps, many_built, many_reused}
+pub use Rattle.re_meter.specs.Meters.{AddsJust, AddsUpTo, Steps, many_built, many_reused}
 pub use Rattle.re_runs.specs.Working.Blocks.{IsBlock, PassesUnmatched}
 pub use Rattle.re_steps.specs.Working.Pairs.{IsKeptOrLost, Mirrors, shown, unknown}
 pub use Rattle.re_steps.specs.Working.Rows.{AreExtended, AreSound, ComesTo, HasFirstRows, IsCellOf, IsKnownCell, IsMarkOf, IsRightFor, IsRow, IsRowOf, Lands, LandsAlone, Lasts, Rows, SaysNext, cache_of, cell_at, expression_in, limit, row_under, rows_of, walked}

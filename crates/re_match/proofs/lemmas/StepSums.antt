@@ -3,7 +3,8 @@ use Rattle.re_match.proofs.Prelude.{sym, subst, ◌≡◌, ℕ, ◌+◌, ◌-◌
 use Rattle.re_auto.specs.Meters.{Steps}
 use Rattle.re_auto.specs.Searches.{AddsAtMost}
 use Rattle.re_meter.proofs.lemmas.Adding.{adds_both as both, adds_within as within, adds_passed, only_passed, built_adds, reused_adds}
-use Rattle.re_meter.specs.Meters.{many_built, many_reused}
+use Rattle.re_meter.specs.Meters.{AddsJust, many_built, many_reused}
+use Rattle.re_match.specs.Working.Aheads.{PassesAtLeast}
 
 -- steps after steps
 pub adds_both : (first next : ℕ) (old mid new : Steps) → AddsAtMost first old mid → AddsAtMost next mid new → AddsAtMost (first + next) old new
@@ -32,8 +33,12 @@ pub looks_twice : (cost more most : ℕ) (old mid new : Steps) → cost + more �
 looks_twice cost more most old mid new fits is counted = adds_passed 0 cost most more old mid new fits (only_passed cost cost old mid (omega arith) is) counted
 
 -- steps of a pass back
-pub walked_adds : (n reused : ℕ) (old new : Steps) → reused ≤ n → new ≡ many_built (n - reused) (many_reused reused old) → AddsUpTo n 0 old new
-walked_adds n reused old new few is = subst (AddsUpTo n 0 old) (sym is) (adds_on (reused_adds reused 0 old) (built_adds (n - reused) 0 (many_reused reused old)) (omega (arith, few)) (omega arith))
+pub walked_adds : (n : ℕ) {old new : Steps} → (reused : ℕ) × (reused ≤ n) × (new ≡ many_built (n - reused) (many_reused reused old)) → AddsJust n 0 old new
+walked_adds n {old} (reused, few, is) = subst (AddsJust n 0 old) (sym is) (record { few = adds_on (reused_adds reused 0 old) (built_adds (n - reused) 0 (many_reused reused old)) (omega (arith, few)) (omega arith); all = omega (arith, few) })
+
+-- no fewer were
+pub passes_all : (least cost : ℕ) (old new : Steps) → least ≤ cost → new ≡ many_passed cost old → PassesAtLeast least old new
+passes_all least cost old new few is = subst (PassesAtLeast least old) (sym is) (omega (arith, few))
 
 -- some bytes were passed
 pub passes : (most cost : ℕ) (old new : Steps) → cost ≤ most → new ≡ many_passed cost old → AddsAtMost most old new

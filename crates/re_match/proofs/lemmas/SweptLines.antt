@@ -6,7 +6,7 @@ use Rattle.re_meter.specs.Meters.{Steps, AddsAtMost}
 use Rattle.re_meter.proofs.lemmas.Adding.{adds_both}
 use Rattle.re_match.proofs.lemmas.StepSums.{adds_on}
 use Rattle.re_runs.proofs.lemmas.BlockLemmas.{passed_within}
-use Rattle.re_match.specs.Working.Sweeps.{StopsIn, Says}
+use Rattle.re_match.specs.Working.Sweeps.{CountsSweep, StopsIn, Says}
 use Rattle.re_runs.proofs.lemmas.Looks.{look_within, place_in_line}
 use Rattle.re_runs.proofs.lemmas.Ranges.{at_range, drop_range, length_range, line_after, newline_at, range_after}
 use Rattle.re_runs.proofs.lemmas.RunLaws.{run_before, run_whole}
@@ -129,10 +129,10 @@ module _ {e : Expression} {whole : Bool} (block : Text) (start : ℕ) {end : ℕ
   searched = slice_range block (start + sweep.first) end
 
   -- the work of a sweep, and of the search of that line
-  pub turn_adds : {old begun swept new : Steps} → AddsAtMost start old begun → AddsUpTo (steps_to sweep.stop sweep.start sweep.reached) sweep.reached begun swept → AddsUpTo (steps_left sweep.stop (length searched + 1)) (left_for sweep.stop (length searched + 1)) swept new → AddsAtMost (end + 1) old new
+  pub turn_adds : {old begun swept new : Steps} → AddsAtMost start old begun → CountsSweep sweep begun swept → AddsUpTo (steps_left sweep.stop (length searched + 1)) (left_for sweep.stop (length searched + 1)) swept new → AddsAtMost (end + 1) old new
   turn_adds a b d =
       let all = both sweep.stop stops_in.near in
-      adds_on (adds_both _ _ _ _ _ _ _ a b) d all.0 all.1
+      adds_on (adds_both _ _ _ _ _ _ _ a b.few) d all.0 all.1
     where
       long : length searched ≡ end - (start + sweep.first)
       long = length_range block (start + sweep.first) end (omega (arith, cut.1))
@@ -150,8 +150,8 @@ module _ {e : Expression} {whole : Bool} (block : Text) (start : ℕ) {end : ℕ
 
 -- the work of a sweep after which no line is left
 pub last_sweep : {e : Expression} {whole : Bool} (block : Text) {start : ℕ} {sweep : Sweep} {old begun swept : Steps} → start ≤ length block → PassesUnmatched e whole (drop start block) sweep.start → StopsAt e whole (drop start block) sweep
-    → AddsAtMost start old begun → AddsUpTo (steps_to sweep.stop sweep.start sweep.reached) sweep.reached begun swept → AddsAtMost (length block) old swept
-last_sweep {e} {whole} block {start} {sweep} within passes stops a b = adds_on a b (most sweep.stop) (omega (arith, reached, within, size))
+    → AddsAtMost start old begun → CountsSweep sweep begun swept → AddsAtMost (length block) old swept
+last_sweep {e} {whole} block {start} {sweep} within passes stops a b = adds_on a b.few (most sweep.stop) (omega (arith, reached, within, size))
   where
     few : sweep.start ≤ length (drop start block)
     few = passed_within (λ line. ¬ Matches e line whole) (drop start block) sweep.start passes

@@ -1,5 +1,5 @@
 -- Walks by kept steps over the lines of a block, and the line that is searched where one stops.
-use Rattle.re_match.proofs.Prelude.{◌≡◌, ℕ, ◌+◌, ◌-◌, ◌≤◌, inl, inr, Bool, false, length, slice_range, refl, ap, subst, arith, Text, Expression, Steps, AddsUpTo, IsLineFrom, Cache, Searches, cache_of, Decided, StopsAt}
+use Rattle.re_match.proofs.Prelude.{◌≡◌, ℕ, ◌+◌, ◌-◌, ◌≤◌, inl, inr, Bool, false, length, slice_range, refl, ap, subst, arith, Text, Expression, Steps, IsLineFrom, Cache, Searches, cache_of, Decided, StopsAt}
 use Rattle.re_match.proofs.lemmas.StepSums.{adds_on}
 use Rattle.re_runs.proofs.lemmas.Ranges.{joined_range, length_range, line_before, same_end}
 use Rattle.re_steps.specs.declared.table.LineSearch.{LineSearch}
@@ -10,8 +10,7 @@ use Rattle.re_steps.specs.Working.Stages.{Stage, Finishes}
 use Rattle.re_steps.specs.Working.Rows.{IsRight, IsRightFor, ComesTo, expression_in, walked}
 use Rattle.re_steps.specs.Working.Walks.{GoesOverLines, IsAtOf}
 use Rattle.re_match.specs.Working.CachedMatchers.{IsTableFor}
-use Rattle.re_match.specs.Working.Sweeps.{StopsIn}
-use Rattle.std.specs.Prelude.{max}
+use Rattle.re_match.specs.Working.Sweeps.{CountsSweep, StopsIn}
 use Rattle.re_steps.proofs.lemmas.StageLaws.{searches_say, searches_steps}
 use Rattle.re_steps.proofs.lemmas.WalkLaws.{walked_on, adds_walked}
 
@@ -67,5 +66,8 @@ module _ {asked : LineSearch} {t : StepTable} {lines : Lines} {end : ℕ} (goes 
       });
     }
 
-    pub walk_adds : AddsUpTo (max lines.start (end + 1)) (end + 1) old after
-    walk_adds = adds_on (adds_walked lines.start old) (searches_steps searched) (omega (arith, long, cut.0)) (omega arith)
+    pub walk_adds : CountsSweep (record { start = lines.start; first = lines.start; reached = end + 1; stop = Decided answer }) old after
+    walk_adds =
+        let passed = adds_walked lines.start old in
+        let more = searches_steps searched in
+        record { few = adds_on passed.few more (omega (arith, long, cut.0)) (omega arith); all = omega (arith, passed.all, more.built, more.reused) }

@@ -1,5 +1,5 @@
 -- What a matcher says of the next part of a line, and the steps that it takes to say so.
-use Rattle.std.specs.Prelude.{ℕ, ◌+◌, ◌-◌, ◌≤◌, false, [], ◌∷◌, min, length}
+use Rattle.std.specs.Prelude.{ℕ, ◌+◌, ◌-◌, ◌^◌, ◌≤◌, false, [], ◌∷◌, min, length}
 use Rattle.re_trees.specs.Bytes.{Text}
 use Rattle.re_trees.specs.Expression.{Expression}
 use Rattle.re_trees.specs.Parts.{IsFound, IsPart}
@@ -33,12 +33,28 @@ past line end = min (end + 1) (length line)
 
 -- each byte up to the part's end, or up to the line's end, is at most a step, and passed at most once;
 -- those of a stretch aren't steps yet
-abbrev pub CountsAhead : Text → ℕ → Steps → Steps → Ahead → Type 0
-CountsAhead line from before after (Part part) =
+abbrev pub CountsUpTo : Text → ℕ → Steps → Steps → Ahead → Type 0
+CountsUpTo line from before after (Part part) =
     AddsAtMost (part.end - from) before after
-CountsAhead line from before after (In window) =
+CountsUpTo line from before after (In window) =
     AddsUpTo (window.start - from) (past line window.end - from) before after
-CountsAhead line from before after Nothing = AddsAtMost (length line - from) before after
+CountsUpTo line from before after Nothing = AddsAtMost (length line - from) before after
+
+-- where the part or the stretch begins; the line's end if there is none
+abbrev pub begins_at : Text → Ahead → ℕ
+begins_at line (Part part) = part.start
+begins_at line (In window) = window.start
+begins_at line Nothing = length line
+
+-- at least so many bytes were passed
+abbrev pub PassesAtLeast : ℕ → Steps → Steps → Type 0
+PassesAtLeast least old new = min (old.passed + least) (2 ^ 64 - 1) ≤ new.passed
+
+-- and those before it are passed
+pub record CountsAhead (line : Text) (from : ℕ) (before after : Steps)
+    (ahead : Ahead) : Type 0 where
+  pub few : CountsUpTo line from before after ahead
+  pub all : PassesAtLeast (begins_at line ahead - from) before after
 
 -- both
 abbrev pub IsSaid : Expression → Text → ℕ → Steps → Steps → Ahead → Type 0

@@ -43,9 +43,10 @@ pub record SaysAtOnce (e : Expression) (whole : Bool) (line : Text) (old new : C
 -- the line was looked over once or not at all, and then the answer was known, or a search found it
 pub record AnswersLine (e : Expression) (whole : Bool) (line : Text) (old new : Cache)
     (before after : Steps) (answer : Bool) : Type 0 where
+  pub said : Option Bool
   pub looked : Steps
-  pub looks : LooksOver e line before looked
-  pub answers : SaysAtOnce e whole line old new looked after answer ⊎
+  pub looks : LooksOver e line said before looked
+  pub answers : ((said ≡ Some answer) × SaysAtOnce e whole line old new looked after answer) ⊎
       Searches e (mode_for whole) line old new looked after answer
 
 -- the same matcher, whose cache may have changed

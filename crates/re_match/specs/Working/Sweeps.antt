@@ -1,10 +1,10 @@
 -- Looks over lines and blocks: what they pass, where a sweep stops, and what is known of the line
 -- there.
-use Rattle.std.specs.Prelude.{◌≡◌, ℕ, ◌+◌, ◌-◌, ◌≤◌, ◌↔◌, ◌⊎◌, Bool, IsTrue, Option, min, max, length, slice_range, ⊤}
+use Rattle.std.specs.Prelude.{◌≡◌, ℕ, ◌+◌, ◌-◌, ◌≤◌, ◌↔◌, ◌⊎◌, Bool, IsTrue, Option, None, min, max, length, slice_range, ⊤}
 use Rattle.re_trees.specs.Bytes.{Text}
 use Rattle.re_trees.specs.Expression.{Expression}
 use Rattle.re_trees.specs.Holds.{Matches}
-use Rattle.re_meter.specs.Meters.{Steps, many_passed}
+use Rattle.re_meter.specs.Meters.{Steps, AddsBetween, many_passed}
 use Rattle.re_runs.specs.Working.Blocks.{IsLineFrom}
 use Rattle.re_needle.specs.Working.Needles.{RunIsNeeded, RunBegins}
 use Rattle.re_runs.specs.Working.Runs.{Runs, FindsRun, longest_of, look_cost}
@@ -31,6 +31,11 @@ abbrev pub steps_to : Stop → ℕ → ℕ → ℕ
 steps_to Unseen start reached = start
 steps_to Seen start reached = start
 steps_to (Decided answer) start reached = max start reached
+
+-- each byte of the lines that a sweep passed is a step, and none that it looked over is passed twice
+abbrev pub CountsSweep : Sweep → Steps → Steps → Type 0
+CountsSweep sweep old new =
+    AddsBetween sweep.start (steps_to sweep.stop sweep.start sweep.reached) sweep.reached old new
 
 -- what is said of whether a line is matched is right
 abbrev pub Says : Stop → Type 0 → Type 0
@@ -75,8 +80,8 @@ pub record LooksForStrings (e : Expression) (line : Text) (old new : Steps) : Ty
   pub needed : AreNeeded strings e
   pub looked : LooksForAny strings line old new
 
--- the line was looked over once, or not at all
-abbrev pub LooksOver : Expression → Text → Steps → Steps → Type 0
-LooksOver e line old new =
-    (new ≡ old) ⊎ (LooksForNeeded e line old new
+-- the line was looked over once, or not at all if nothing is said of it
+abbrev pub LooksOver : Expression → Text → Option Bool → Steps → Steps → Type 0
+LooksOver e line said old new =
+    ((said ≡ None) × (new ≡ old)) ⊎ (LooksForNeeded e line old new
     ⊎ (LooksAtFirst e line old new ⊎ LooksForStrings e line old new))

@@ -31,7 +31,7 @@ returns-in-Part-clause-right c = rw c.pass.ensures (passed_right _ _ c.in-Part.p
 pub returns-in-Part-clause-steps : goal.returns-in-Part-clause-steps
 returns-in-Part-clause-steps c = λ first before.
     let f = c.in-Part.ensures.reported.found in
-    rw c.pass.ensures (stretch_steps c.stretches.parts.seen c.max-at.result c.in-Part.part.end first _ _ (omega (arith, c.max-at.ensures, c.seen.ensures)) (omega (arith, f.begins, f.not_empty)) (c.stretches.invariant.steps first before) c.in-Part.ensures.steps)
+    rw c.pass.ensures (stretch_steps c.stretches.parts.seen c.max-at.result c.in-Part.part.end first _ _ (omega (arith, c.max-at.ensures, c.seen.ensures)) (omega (arith, f.begins, f.not_empty)) (c.stretches.invariant.steps first before) c.in-Part.ensures.steps.few)
 
 pub stretches-preserved : goal.stretches-preserved
 stretches-preserved c =
@@ -52,7 +52,7 @@ stretches-preserved c =
       room = c.look_at.ensures.room ∙ i.room;
       same = same_twice c.look_at.ensures.same (same_twice next same);
       steps = λ first before.
-          rw c.look_at.ensures.seen (window_steps c.stretches.parts.seen c.max-at.result c.in-In.window.start c.in-In.window.end _ first _ _ _ (omega (arith, c.max-at.ensures, c.seen.ensures)) on.1 is.0.0 is.1.0 (omega (arith, on.0)) (i.steps first before) c.in-In.ensures.steps c.look_at.ensures.steps);
+          rw c.look_at.ensures.seen (window_steps c.stretches.parts.seen c.max-at.result c.in-In.window.start c.in-In.window.end _ first _ _ _ (omega (arith, c.max-at.ensures, c.seen.ensures)) on.1 is.0.0 is.1.0 (omega (arith, on.0)) (i.steps first before) c.in-In.ensures.steps.few c.look_at.ensures.steps);
     }
 
 pub returns-in-Nothing-clause-reported : goal.returns-in-Nothing-clause-reported
@@ -63,4 +63,4 @@ returns-in-Nothing-clause-reported c = λ k l f.
 
 pub returns-in-Nothing-clause-steps : goal.returns-in-Nothing-clause-steps
 returns-in-Nothing-clause-steps c = λ first before.
-    rw c.pass-in-Nothing.ensures (stretch_steps c.stretches.parts.seen c.max-at.result (length c.args.line.now) first _ _ (omega (arith, c.max-at.ensures, c.seen.ensures)) (omega arith) (c.stretches.invariant.steps first before) c.in-Nothing.ensures.steps)
+    rw c.pass-in-Nothing.ensures (stretch_steps c.stretches.parts.seen c.max-at.result (length c.args.line.now) first _ _ (omega (arith, c.max-at.ensures, c.seen.ensures)) (omega arith) (c.stretches.invariant.steps first before) c.in-Nothing.ensures.steps.few)

@@ -29,7 +29,7 @@ loop-matcher-preserved c =
       room = c.add_ends.ensures.added.0 ∙ c.loop-matcher.invariant.room;
       spare = omega (arith, c.add_ends.ensures.same_spare, c.loop-matcher.invariant.spare);
       steps = let long = length c.args.line.now in
-          steps_more i _ _ _ _ c.loop-matcher.invariant.steps (adds_within (long - 0) (long + 1) 0 (long + 1) _ _ (omega arith) (omega arith) (rw c.rest_of.ensures at c.add_ends.ensures.steps));
+          steps_more i _ _ _ _ c.loop-matcher.invariant.steps (adds_within (long - 0) (long + 1) 0 (long + 1) _ _ (omega arith) (omega arith) (rw c.rest_of.ensures at c.add_ends.ensures.steps.few));
     }
 
 pub returns-clause-right : goal.returns-clause-right

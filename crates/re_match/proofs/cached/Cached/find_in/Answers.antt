@@ -9,6 +9,4 @@ pub returns-clause-found : goal.returns-clause-found
 returns-clause-found c = rw (← c.self.view_is) c.find.ensures.found
 
 pub returns-clause-steps : goal.returns-clause-steps
-returns-clause-steps c =
-    let (reused, few, is) = c.find.ensures.counted in
-    walked_adds (c.args.window.end - c.args.window.start) reused _ _ few is
+returns-clause-steps c = walked_adds (c.args.window.end - c.args.window.start) c.find.ensures.counted

@@ -12,6 +12,4 @@ returns-clause-added c =
     ends_of_window _ (expression_of c.args.self.now.tree) c.args.line.now c.args.window.start c.args.window.end c.requires.window c.args.ends.now c.add_ends.new.ends c.requires.ends (λ i m lt. matched_found (expression_of c.args.self.now.tree) c.args.line.now (c.args.window.start + i) m) (rw (← c.self.view_is) c.add_ends.ensures.added)
 
 pub returns-clause-steps : goal.returns-clause-steps
-returns-clause-steps c =
-    let (reused, few, is) = c.add_ends.ensures.counted in
-    walked_adds (c.args.window.end - c.args.window.start) reused _ _ few is
+returns-clause-steps c = walked_adds (c.args.window.end - c.args.window.start) c.add_ends.ensures.counted

@@ -20,7 +20,7 @@ windows-preserved c =
       same = c.find_in.ensures.same ∙ held.same;
       later = subst (BeginsLater e line from) (sym c.place_after-place.ensures) (later_on e line from place window.start window.end held.later said.0.0 said.0.1.1 (rw held.same at c.in_default.ensures.found) said.0.1.0 within);
       steps = adds_on {first = window.start - from} {first_bytes = past line window.end - from}
-          (adds_on held.steps said.1 (omega (arith, low, next)) (omega (arith, low, next, within, said.0.1.0, held.high))) c.find_in.ensures.steps
+          (adds_on held.steps said.1.few (omega (arith, low, next)) (omega (arith, low, next, within, said.0.1.0, held.high))) c.find_in.ensures.steps.few
           (omega (arith, c.place_after-place.ensures, within, said.0.1.0, low, next)) (omega (arith, c.place_after-place.ensures));
     }
 
@@ -36,7 +36,7 @@ returns-in-Part-clause-steps c =
     let on = c.in-Part.ensures.0.found.on_line in
     let some = c.in-Part.ensures.0.found.not_empty in
     let begins = c.in-Part.ensures.0.found.begins in
-    adds_on held.steps c.in-Part.ensures.1 (omega (arith, low, on, some, begins)) (omega (arith, low, on, some, begins))
+    adds_on held.steps c.in-Part.ensures.1.few (omega (arith, low, on, some, begins)) (omega (arith, low, on, some, begins))
 
 pub returns-in-Nothing-clause-reported : goal.returns-in-Nothing-clause-reported
 returns-in-Nothing-clause-reported c =
@@ -47,7 +47,7 @@ pub returns-in-Nothing-clause-steps : goal.returns-in-Nothing-clause-steps
 returns-in-Nothing-clause-steps c =
     let held = c.windows.invariant in
     let low = held.later.0 in
-    adds_on held.steps c.in-Nothing.ensures.1 (omega (arith, low, held.high)) (omega (arith, low, held.high))
+    adds_on held.steps c.in-Nothing.ensures.1.few (omega (arith, low, held.high)) (omega (arith, low, held.high))
 
 pub returns-in-Some-clause-reported : goal.returns-in-Some-clause-reported
 returns-in-Some-clause-reported c =
@@ -66,7 +66,7 @@ returns-in-Some-clause-steps c =
     let low = held.later.0 in
     let next = said.0.0.0 in
     adds_on {first = window.start - from} {first_bytes = past c.args.line.now window.end - from}
-    (adds_on held.steps said.1 (omega (arith, low, next)) (omega (arith, low, next, within, said.0.1.0, held.high))) c.find_in.ensures.steps (omega (arith, within, said.0.1.0, low, next)) (omega arith)
+    (adds_on held.steps said.1.few (omega (arith, low, next)) (omega (arith, low, next, within, said.0.1.0, held.high))) c.find_in.ensures.steps.few (omega (arith, within, said.0.1.0, low, next)) (omega arith)
 
 pub returns-clause-reported : goal.returns-clause-reported
 returns-clause-reported c = λ i j f. let low = c.windows.invariant.later.1 i j f in let some = f.not_empty in let on = f.on_line in omega (arith, low, some, on, c.windows-test.false)

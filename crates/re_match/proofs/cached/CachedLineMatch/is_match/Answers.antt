@@ -12,7 +12,7 @@ returns-in-Some-clause-steps c = looks_over (expression_of c.args.self.now.tree)
 
 pub returns-in-Some-clause-counted : goal.returns-in-Some-clause-counted
 returns-in-Some-clause-counted c =
-    record { looked = c.settled.new.meter; looks = c.in-Some.ensures.looked; answers = inl (record { settled = c.in-Some.ensures.settled; cache = refl; steps = refl }) }
+    record { said = _; looked = c.settled.new.meter; looks = c.in-Some.ensures.looked; answers = inl (refl, record { settled = c.in-Some.ensures.settled; cache = refl; steps = refl }) }
 
 pub returns-clause-reported : goal.returns-clause-reported
 returns-clause-reported c = searches_say c.args.self.now.whole c.searched.ensures.searches

@@ -1,6 +1,6 @@
 use Rattle.re_match.proofs.Prelude.{rules, ℕ, ◌+◌, ◌-◌, ◌<◌, length, slice_index, arith}
 use Rattle.re_meter.proofs.lemmas.Adding.{only_passed}
-use Rattle.re_match.proofs.lemmas.StepSums.{adds_on, passes}
+use Rattle.re_match.proofs.lemmas.StepSums.{adds_on, passes, passes_all}
 use Rattle.re_match.proofs.lemmas.WindowLaws.{later_by_run}
 use Rattle.re_match.proofs.window.Edges.next.Goals as goal
 
@@ -11,7 +11,10 @@ returns-then-start-line c = λ e right.
     let start = c.next_in-start.ensures in
     let later = later_by_run e line c.args.self.now right small c.args.from c.next_in-start.result start.on.0 start.passed in (
       (λ i j f. let low = later.1 i j f in let some = f.not_empty in let on = f.on_line in omega (arith, low, some, on, c.if-start-line.true)),
-      passes (length line - c.args.from) (c.next_in-start.result - c.args.from) _ _ (omega (arith, start.on.1)) c.add_passed.ensures,
+      record {
+        few = passes (length line - c.args.from) (c.next_in-start.result - c.args.from) _ _ (omega (arith, start.on.1)) c.add_passed.ensures;
+        all = passes_all (length line - c.args.from) (c.next_in-start.result - c.args.from) _ _ (omega (arith, c.if-start-line.true)) c.add_passed.ensures;
+      },
     )
 
 pub returns : goal.returns
@@ -24,5 +27,8 @@ returns c = λ e right.
     let end = c.end-end.result in
     let high = c.end-end.ensures.low in (
       (later_by_run e line c.args.self.now right small from start at.on.0 at.passed, (high, c.end-end.ensures.border e right)),
-      adds_on {first_bytes = start + 1 - from} (only_passed _ (start + 1 - from) _ _ (omega arith) c.add_passed-2.ensures) c.end-end.ensures.passed (omega arith) (omega (arith, at.on.0, high, at.on.1, c.if-start-line.false)),
+      record {
+        few = adds_on {first_bytes = start + 1 - from} (only_passed _ (start + 1 - from) _ _ (omega arith) c.add_passed-2.ensures) c.end-end.ensures.passed (omega arith) (omega (arith, at.on.0, high, at.on.1, c.if-start-line.false));
+        all = omega (arith, passes_all (start - from) (start + 1 - from) _ _ (omega arith) c.add_passed-2.ensures, c.end-end.ensures.passed.passed);
+      },
     )
