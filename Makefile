@@ -21,8 +21,8 @@
 # make test-engines  tries its extensions of SQLite and PostgreSQL and its module for Dask in the real engines (needs
 #                 sqlite3, libsqlite3-dev, postgresql, postgresql-server-dev-all, python3-distributed)
 # make figures    makes docs/figures/*.svg of crates.txt and of tables of the pages
-# make size       prints the size of code, specs and proofs in bytes, and how many functions there are
-# make evidence   writes docs/EVIDENCE.md: the newest run of each of the targets above
+# make size       prints the bytes of code, specs and proofs and the number of functions, by crate
+# make evidence   writes docs/EVIDENCE.md: the newest run of each of the targets above, and the sizes
 # make install    copies the programs, stripped, with their manual pages and completions below $(DESTDIR)$(PREFIX), grep
 #                 by the name GREP_NAME; the Emacs client to $(DESTDIR)$(SITE_LISP) and the Neovim client to
 #                 $(DESTDIR)$(NVIM_SITE), if SITE_LISP and NVIM_SITE name folders; EMACS compiles its client, where it
@@ -130,7 +130,7 @@ figures:
 	tools/figures.py
 
 size:
-	tools/evidence.sh size tools/count.py --size
+	tools/count.py --size
 
 # Each of the test targets above adds its run to build/evidence.tsv.
 evidence:

@@ -20,18 +20,19 @@ sys.path.insert(0, str(REPOSITORY / "tools"))
 
 import count  # noqa: E402
 import figures  # noqa: E402
+import tables  # noqa: E402
 
 MOST_WORDS = {
     "README.md": 1_300,
     "CONTRIBUTING.md": 500,
-    "SECURITY.md": 650,
+    "SECURITY.md": 690,
     "docs/GUARANTEES.md": 2_230,
     "docs/SPECIFICATION.md": 4_400,
     "docs/ARCHITECTURE.md": 2_960,
     "docs/PROVING.md": 4_110,
     "docs/DECISIONS.md": 4_470,
-    "docs/PERFORMANCE.md": 1_400,
-    "docs/CHANGING.md": 1_600,
+    "docs/PERFORMANCE.md": 1_510,
+    "docs/CHANGING.md": 1_620,
     "docs/ROADMAP.md": 570,
     "docs/GLOSSARY.md": 750,
     "docs/LIBRARY.md": 870,
@@ -39,8 +40,8 @@ MOST_WORDS = {
     "tests/README.md": 1_050,
     "capi/python/README.md": 500,
     "editors/emacs/README.md": 1_590,
-    "editors/nvim/*.md": 1_500,
-    "*": 33_750,
+    "editors/nvim/*.md": 1_020,
+    "*": 33_250,
 }
 """How many words pages have at most, by the pattern of their names."""
 
@@ -131,8 +132,9 @@ def links(bench: Bench) -> Verdict:
 
 
 def words_of(pattern: str) -> int:
-    """How many words the pages of a pattern have, without what tests keep beside them."""
-    counted = (text for page, text in pages().items() if fnmatch(page, pattern) and "/test/" not in page)
+    """How many words the pages of a pattern have, without what tests keep beside them and what a script writes."""
+    counted = (text for page, text in pages().items()
+               if fnmatch(page, pattern) and "/test/" not in page and page != "docs/EVIDENCE.md")
     return sum(len(text.split()) for text in counted)
 
 
@@ -210,7 +212,8 @@ def versions(bench: Bench) -> Verdict:
 
 @case("The table of definitions in SPECIFICATION is the one that tools/count.py makes.")
 def definitions(bench: Bench) -> Verdict:
-    return Verdict(Answer(count.table().encode()), Answer(count.table_of_page().encode()))
+    return Verdict(Answer(tables.written(count.table()).encode()),
+                   Answer(tables.table_of(count.PAGE, count.TABLE).encode()))
 
 
 def promises() -> list[list[str]]:

@@ -3,7 +3,7 @@
 
     tools/count.py            prints the numbers
     tools/count.py --write    also writes the table of definitions into docs/SPECIFICATION.md
-    tools/count.py --size     prints the size of the house alone: bytes, functions, the crate with most of them
+    tools/count.py --size     prints the size of the house alone: bytes and functions, by crate
 
 Lines are counted by whole files, with comments and blank lines.
 """
@@ -14,11 +14,13 @@ import re
 import sys
 from pathlib import Path
 
+import tables
+
 REPOSITORY = Path(__file__).resolve().parent.parent
 CRATES = REPOSITORY / "crates"
 PAGE = REPOSITORY / "docs/SPECIFICATION.md"
-BEGIN, END = "<!-- tools/count.py -->\n", "<!-- end -->\n"
-"""The lines of the page between which the table is."""
+TABLE = "tools/count.py"
+"""The name of the page's table."""
 
 NO_DEFINITIONS = {"Laws", "Lib", "Working"}
 """Files at the top of `specs` on which no theorem rests."""
@@ -45,33 +47,16 @@ def crates() -> list[str]:
     return [name for name in names if tops_of(name)]
 
 
-def table() -> str:
+def table() -> tables.Table:
     """The table of the definitions that a sceptic has to read."""
-    rows = ["| crate | files at the top of `specs` | files | lines | of all lines of its `specs` |",
-            "|---|---|---|---|---|"]
+    rows = [["crate", "files at the top of `specs`", "files", "lines", "of all lines of its `specs`"]]
     files, read = 0, 0
     for crate in crates():
         tops, lines = tops_of(crate), lines_of(specs_of(crate))
         names = ", ".join(file.stem for file in tops)
-        rows.append(f"| `{crate}` | {names} | {len(tops)} | {lines_of(tops):,} | {lines:,} |")
+        rows.append([f"`{crate}`", names, f"{len(tops)}", f"{lines_of(tops):,}", f"{lines:,}"])
         files, read = files + len(tops), read + lines_of(tops)
-    written = lines_of(specs_of("*"))
-    rows.append(f"| all | | {files} | {read:,} | {written:,} |")
-    return "\n".join(rows) + "\n"
-
-
-def table_of_page() -> str:
-    """The table that the page has; none where it has not the lines around one."""
-    return PAGE.read_text(encoding="utf-8").partition(BEGIN)[2].partition(END)[0]
-
-
-def write_table() -> None:
-    """Puts the table between the two lines of the page."""
-    text = PAGE.read_text(encoding="utf-8")
-    if BEGIN not in text or END not in text:
-        sys.exit(f"{PAGE.name} has no lines {BEGIN.strip()} and {END.strip()}")
-    front, _, rest = text.partition(BEGIN)
-    PAGE.write_text(front + BEGIN + table() + END + rest.partition(END)[2], encoding="utf-8")
+    return [*rows, ["all", "", f"{files}", f"{read:,}", f"{lines_of(specs_of('*')):,}"]]
 
 
 def functions(crate: str = "*") -> int:
@@ -80,12 +65,13 @@ def functions(crate: str = "*") -> int:
     return sum(len(function.findall(file.read_text(encoding="utf-8"))) for file in CRATES.glob(f"{crate}/src/**/*.rt"))
 
 
-def size() -> str:
-    """The size of the house, in one line."""
-    kinds = (("code", "src/**/*.rt"), ("specs", "specs/**/*.antt"), ("proofs", "proofs/**/*.antt"))
-    parts = [f"{name} {sum(file.stat().st_size for file in CRATES.glob(f'*/{files}')):,}" for name, files in kinds]
-    most, greatest = max((functions(folder.name), folder.name) for folder in CRATES.iterdir())
-    return f"{', '.join(parts)} bytes; {functions():,} functions, most in {greatest}: {most}"
+def size() -> tables.Table:
+    """The bytes and functions of each crate, and of all."""
+    kinds, rows = ("src/**/*.rt", "specs/**/*.antt", "proofs/**/*.antt"), [["crate", "code", "specs", "proofs", "functions"]]
+    for crate in [*sorted(folder.name for folder in CRATES.iterdir()), "*"]:
+        sums = [sum(file.stat().st_size for file in CRATES.glob(f"{crate}/{files}")) for files in kinds]
+        rows.append([f"`{crate}`" if crate != "*" else "all", *(f"{number:,}" for number in [*sums, functions(crate)])])
+    return rows
 
 
 def cases() -> int:
@@ -100,15 +86,15 @@ def main() -> int:
         print(__doc__, file=sys.stderr)
         return 2
     if sys.argv[1:] == ["--size"]:
-        print(size())
+        print(tables.written(size()), end="")
         return 0
-    print(table())
+    print(tables.written(table()))
     print(f"{functions():,} functions")
     for folder in ("must-fail", "audit"):
         print(f"{len(list(CRATES.glob(f'*/{folder}/*.edit')))} wrong bodies in {folder}")
     print(f"{cases():,} cases of the built programs")
     if sys.argv[1:]:
-        write_table()
+        tables.write_table(PAGE, TABLE, table())
     return 0
 
 

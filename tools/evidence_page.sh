@@ -1,11 +1,12 @@
 #!/usr/bin/env bash
-# Writes docs/EVIDENCE.md: the newest run of each target, of those in build/evidence.tsv and on the page as it is.
+# Writes docs/EVIDENCE.md: the newest run of each target, of those in build/evidence.tsv and on the page as it is, and
+# the sizes of the crates; and draws the figures, one of which is of these.
 set -euo pipefail
 cd "$(dirname "${BASH_SOURCE[0]}")/.."
 page=docs/EVIDENCE.md
 targets='gate audit test-program test-random test-growth test-changes test-changes-client'
 targets+=' test-memory-grep test-memory-occur test-memory-crates test-editor test-nvim'
-targets+=' test-lib test-lib-cases test-lib-random test-sqlite test-postgres test-dask size'
+targets+=' test-lib test-lib-cases test-lib-random test-sqlite test-postgres test-dask'
 
 # The rows of the page, and then those of the runs, in their order: the last of a target is its newest.
 rows() {
@@ -26,5 +27,8 @@ The newest run of each test target, written by `make evidence`: a `+` after the 
 |---|---|---|---|---|---|
 END
     if [[ $newest ]]; then printf '%s\n' "$newest"; fi
+    printf '\n## Sizes\n\nIn bytes, as `make size` counts them.\n\n![The size of each crate](figures/sizes.svg)\n\n'
+    tools/count.py --size
 } > "$page.new"
 mv "$page.new" "$page"
+tools/figures.py

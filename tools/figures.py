@@ -14,6 +14,7 @@ FIGURES = REPOSITORY / "docs/figures"
 sys.path.insert(0, str(REPOSITORY / "tools"))
 
 import crate_figure  # noqa: E402
+import size_figure  # noqa: E402
 import speed_figure  # noqa: E402
 import walk_figure  # noqa: E402
 
@@ -28,8 +29,10 @@ def read(name: str) -> str:
 def figures() -> dict[str, str]:
     """All figures, by the names of their files."""
     walks = walk_figure.walks_of(read("docs/ARCHITECTURE.md"))
+    times = read("docs/PERFORMANCE.md")
     drawn = {"crates.svg": crate_figure.figure(read("crates.txt")),
-             "speed.svg": speed_figure.figure(read("docs/PERFORMANCE.md"))}
+             "sizes.svg": size_figure.figure(read("docs/EVIDENCE.md")),
+             "speed.svg": speed_figure.figure(times), "growth.svg": speed_figure.growth(times)}
     for (name, title), walk in zip(WALKS.items(), walks, strict=True):
         drawn[name] = walk_figure.figure(walk, title)
     return drawn

@@ -21,6 +21,8 @@ text { font: 13px ui-monospace, Menlo, Consolas, "DejaVu Sans Mono", monospace; 
 .first { fill: #0969da }
 .second { fill: #bc6c00 }
 .third { fill: #8c959f }
+.first-line { stroke: #0969da }
+.second-line { stroke: #bc6c00 }
 @media (prefers-color-scheme: dark) {
 text { fill: #e6edf3 }
 .note { fill: #9198a1 }
@@ -31,6 +33,8 @@ text { fill: #e6edf3 }
 .faint { stroke: #3d444d }
 .first { fill: #58a6ff }
 .second { fill: #e3a04c }
+.first-line { stroke: #58a6ff }
+.second-line { stroke: #e3a04c }
 }"""
 
 
