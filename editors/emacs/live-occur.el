@@ -4,7 +4,7 @@
 
 ;; Author: The Gaxtrel authors
 ;; URL: https://gaxtrel.example/
-;; Version: 0.9.0
+;; Version: 1.0.0
 ;; Package-Requires: ((emacs "28.1"))
 ;; Keywords: matching, tools, convenience
 ;; SPDX-License-Identifier: MIT OR Apache-2.0

@@ -60,7 +60,7 @@ truncated = refused_for (codes "Truncated")
 
 -- the version of the program, and that of scripts
 abbrev pub version_line : Text
-version_line = codes "occur 0.9.0 script 2"
+version_line = codes "occur 1.0.0 script 2"
 
 -- the line is a refusal
 abbrev pub is_refusal : Text → Bool

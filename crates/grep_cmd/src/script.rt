@@ -19,7 +19,7 @@ use std::alloc::Global;
 use std::marker::Model;
 
 /// The version of the program, and that of scripts.
-pub const VERSION: &str = "0.9.0 script 2";
+pub const VERSION: &str = "1.0.0 script 2";
 
 /// How a script ended.
 #[derive(Clone, Copy, PartialEq, Eq, Debug, Drop)]
