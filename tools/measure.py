@@ -19,6 +19,7 @@ import subprocess
 import sys
 import tempfile
 from pathlib import Path
+from statistics import geometric_mean
 
 from tables import Table, write_table
 
@@ -99,8 +100,8 @@ def loose(chance: random.Random, text: Text) -> str:
     parts = []
     for part in re.findall(r"[0-9]+|[a-z]+|[A-Z]+| +|[^0-9a-zA-Z ]+", piece(chance, text)):
         kind = "0" if part[0].isdigit() else "a" if part[0].islower() else "A" if part[0].isupper() else part[0]
-        likely = {"0": 0.6}.get(kind, 0.3)
-        parts.append(chance.choice(anything[kind]) if kind in anything and chance.random() < likely else literal(part))
+        is_any = kind in anything and chance.random() < (0.6 if kind == "0" else 0.3)
+        parts.append(chance.choice(anything[kind]) if is_any else literal(part))
     return "".join(parts)
 
 
@@ -111,7 +112,8 @@ def command(chance: random.Random, text: Text) -> Command:
 
     kind = chance.choice(("string", "string", "rare", "loose", "loose", "loose", "choice", "choice", "several", "begin",
                           "end", "gap", "sets", "words", "list"))
-    some = [chance.choice((literal(word()), loose(chance, text), rare(chance, text))) for _ in range(chance.randint(2, 5))]
+    some = [chance.choice((literal(word()), loose(chance, text), rare(chance, text)))
+            for _ in range(chance.randint(2, 5))]
     sets = ("[a-f]", "[0-9]", "[^a-z ]", "[[:upper:]]", ".", "[0-9]?", "[aeiou]+", literal(word()))
     patterns = {
         "string": [chance.choice((word(), piece(chance, text)))], "rare": [rare(chance, text)],
@@ -119,7 +121,8 @@ def command(chance: random.Random, text: Text) -> Command:
         "end": [loose(chance, text) + "$"], "sets": ["".join(chance.choices(sets, k=chance.randint(2, 6)))],
         "gap": [literal(word()) + chance.choice((".*", "[^ ]*", ".{1,20}", " ?")) + literal(word())],
         "words": [chance.choice((word(), rare(chance, text))) for _ in range(chance.choice((10, 30, 100, 1000)))],
-        "list": [literal(word()) + chance.choice(("", "[0-9]", ".*" + literal(word()))) for _ in range(chance.choice((8, 20, 50)))],
+        "list": [literal(word()) + chance.choice(("", "[0-9]", ".*" + literal(word())))
+                 for _ in range(chance.choice((8, 20, 50)))],
     }[kind]
     options = ["-F"] if kind in ("string", "rare", "words") else ["-E"]
     return options + ["-i"] * (chance.random() < 0.2) + chance.choice(OPTIONS), [it for it in patterns if it] or ["the"]
@@ -147,7 +150,7 @@ def times(grep: str, options: list[str], patterns: Path, text: Path, rounds: int
             if not turn or best[place] is not None and best[place] < 2:
                 took = seconds_of([*words, "-f", str(patterns), str(text)], outputs[place])
                 best[place] = took if not turn or took is None else min(best[place], took)
-    if None not in best[:2] and outputs[0].read_bytes() != outputs[1].read_bytes():
+    if best[1] is not None and (best[0] is None or outputs[0].read_bytes() != outputs[1].read_bytes()):
         print(f"different: {options} {patterns.read_text()!r} {text.name}")
     return best
 
@@ -166,10 +169,11 @@ def random_commands(words: argparse.Namespace, folder: Path) -> Table:
             for found, took in zip(ratios, (own, other), strict=True):
                 found.append(max(took, 0.001) / max(gnu, 0.001))
     count = len(ratios[0])
-    rows = [[f"{count} commands on {words.size} MB, seed {words.seed}: percent, by the time", *(f"{most:g}" for most in MOST_TIMES), "greatest"]]
+    head = f"{count} commands on {words.size} MB, seed {words.seed}: percent, by the time"
+    rows = [[head, *(f"{most:g}" for most in MOST_TIMES), "mean", "greatest"]]
     for name, found in zip(("Gaxtrel", "ripgrep"), ratios, strict=True):
         shares = [f"{100 * sum(ratio <= most for ratio in found) / count:.0f}" for most in MOST_TIMES]
-        rows.append([name, *shares, f"{max(found):.1f}"])
+        rows.append([name, *shares, f"{geometric_mean(found):.2f}", f"{max(found):.1f}"])
     return rows
 
 

@@ -130,7 +130,7 @@ def commands(page: str, top: float) -> tuple[list[str], float]:
     head, *rows = table_with(page, "greatest")
     start, parts = top + 40, []
     for place, (row, kind) in enumerate(zip(rows, ("first", "second"), strict=True)):
-        points = [(place_of(float(most), RATIOS), float(share) / 100) for most, share in zip(head[1:-1], row[1:-1])]
+        points = [(place_of(float(most), RATIOS), float(share) / 100) for most, share in zip(head[1:-2], row[1:-2])]
         parts += drawn_curve(row[0], points, start, kind, (24, top + SIZE + 42 + 20 * place))
     one = place_of(1, RATIOS)
     titles = [text((24, top + SIZE), "Percent of random commands that take at most so long", "bold"),
