@@ -169,7 +169,7 @@ def random_commands(words: argparse.Namespace, folder: Path) -> Table:
             for found, took in zip(ratios, (own, other), strict=True):
                 found.append(max(took, 0.001) / max(gnu, 0.001))
     count = len(ratios[0])
-    head = f"{count} commands on {words.size} MB, seed {words.seed}: percent, by the time"
+    head = f"{count} commands on {words.size} MB, seed {words.seed}"
     rows = [[head, *(f"{most:g}" for most in MOST_TIMES), "mean", "greatest"]]
     for name, found in zip(("Gaxtrel", "ripgrep"), ratios, strict=True):
         shares = [f"{100 * sum(ratio <= most for ratio in found) / count:.0f}" for most in MOST_TIMES]

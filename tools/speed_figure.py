@@ -134,7 +134,7 @@ def commands(page: str, top: float) -> tuple[list[str], float]:
         parts += drawn_curve(row[0], points, start, kind, (24, top + SIZE + 42 + 20 * place))
     one = place_of(1, RATIOS)
     titles = [text((24, top + SIZE), "Percent of random commands that take at most so long", "bold"),
-              text((24, top + SIZE + 18), head[0].partition(":")[0], "note"),
+              text((24, top + SIZE + 18), head[0], "note"),
               text((one, start - 6), "GNU grep", "note", "middle")]
     heights = {f"{percent} %": percent / 100 for percent in (0, 25, 50, 75, 100)}
     return [*titles, *drawn_scale(RATIOS, start, start + HIGH), *drawn_heights(heights, start),
