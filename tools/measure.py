@@ -6,6 +6,7 @@ parts of longer and longer lines.
 
 Nobody can tune for these commands: each is drawn from the words and lines of the text that it searches. A time is the
 least processor time of the rounds, with output to a file. Where grep and GNU grep write different bytes, it says so.
+On the path `grep` has to be GNU grep, and `rg` ripgrep.
 """
 
 from __future__ import annotations
@@ -53,10 +54,17 @@ class Text:
 
 def log_line(chance: random.Random) -> str:
     number = chance.randrange
-    said = chance.choice(("Accepted publickey", "Failed password", "Connection closed", "session opened", "Invalid user"))
+    said = chance.choice(("Accepted publickey", "Failed password", "Connection closed", "session opened"))
     return (f"{chance.choice(('Jan', 'Feb', 'Mar'))} {number(1, 29)} {number(24):02}:{number(60):02}:{number(60):02} "
             f"host{number(40)} sshd[{number(40_000)}]: {said} for {chance.choice(('ann', 'bob', 'carla', 'eve'))} "
             f"from {number(256)}.{number(256)}.{number(256)}.{number(256)} port {number(1024, 65_536)}")
+
+
+def record(chance: random.Random) -> str:
+    name, sku = "".join(chance.choices("abcdefghijklmnop", k=chance.randint(4, 12))), chance.choices("ABCDEF", k=3)
+    tags = ", ".join(f'"{tag}"' for tag in chance.choices(("red", "green", "blue", "rare"), k=chance.randrange(5)))
+    return (f'{{"id": {chance.randrange(10**7)}, "name": "{name}", "tags": [{tags}], '
+            f'"price": {chance.randrange(10**5) / 100}, "sku": "{"".join(sku)}-{chance.randrange(10**4)}"}}')
 
 
 def lines_of(*patterns: str) -> list[str]:
@@ -65,9 +73,9 @@ def lines_of(*patterns: str) -> list[str]:
 
 
 def texts(folder: Path, size: int, chance: random.Random) -> list[Text]:
-    """Log lines, sources, pages and words, each of this many bytes."""
-    pages = lines_of("*.md", "docs/*.md", "crates/*/README.md", "editors/*/README.md", "man/*")
-    kinds = {"log": [log_line(chance) for _ in range(size // 90)],
+    """Log lines, records, sources, pages and words, each of this many bytes."""
+    count, pages = size // 90, lines_of("*.md", "docs/*.md", "crates/*/README.md", "editors/*/README.md", "man/*")
+    kinds = {"log": [log_line(chance) for _ in range(count)], "records": [record(chance) for _ in range(count)],
              "sources": lines_of("crates/*/src/**/*.rt", "crates/*/specs/**/*.antt", "crates/*/proofs/**/*.antt"),
              "pages": pages, "words": sorted(" ".join(pages).split(), key=lambda _: chance.random())}
     for name, lines in kinds.items():
@@ -117,8 +125,9 @@ def command(chance: random.Random, text: Text) -> Command:
     sets = ("[a-f]", "[0-9]", "[^a-z ]", "[[:upper:]]", ".", "[0-9]?", "[aeiou]+", literal(word()))
     patterns = {
         "string": [chance.choice((word(), piece(chance, text)))], "rare": [rare(chance, text)],
-        "loose": [loose(chance, text)], "choice": ["|".join(some)], "several": some, "begin": ["^" + loose(chance, text)],
-        "end": [loose(chance, text) + "$"], "sets": ["".join(chance.choices(sets, k=chance.randint(2, 6)))],
+        "loose": [loose(chance, text)], "choice": ["|".join(some)], "several": some,
+        "begin": ["^" + loose(chance, text)], "end": [loose(chance, text) + "$"],
+        "sets": ["".join(chance.choices(sets, k=chance.randint(2, 6)))],
         "gap": [literal(word()) + chance.choice((".*", "[^ ]*", ".{1,20}", " ?")) + literal(word())],
         "words": [chance.choice((word(), rare(chance, text))) for _ in range(chance.choice((10, 30, 100, 1000)))],
         "list": [literal(word()) + chance.choice(("", "[0-9]", ".*" + literal(word())))
