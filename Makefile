@@ -20,7 +20,8 @@
 #                 (needs a C compiler and Python 3.11)
 # make test-engines  tries its extensions of SQLite and PostgreSQL and its module for Dask in the real engines (needs
 #                 sqlite3, libsqlite3-dev, postgresql, postgresql-server-dev-all, python3-distributed)
-# make figures    makes docs/figures/*.svg of crates.txt and of tables of the pages
+# make figures    makes docs/figures/*.svg of crates.txt and of tables of the pages, and gives links of the pages to
+#                 names of the code their lines
 # make size       prints the bytes of code, specs and proofs and the number of functions, by crate
 # make evidence   writes docs/EVIDENCE.md: the newest run of each of the targets above, and the sizes
 # make install    copies the programs, stripped, with their manual pages and completions below $(DESTDIR)$(PREFIX), grep
@@ -128,6 +129,7 @@ test-engines: build/lib/libgaxtrel.a build/grep
 
 figures:
 	tools/figures.py
+	tools/links.py
 
 size:
 	tools/count.py --size

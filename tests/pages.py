@@ -20,6 +20,7 @@ sys.path.insert(0, str(REPOSITORY / "tools"))
 
 import count  # noqa: E402
 import figures  # noqa: E402
+import links  # noqa: E402
 import tables  # noqa: E402
 
 MOST_WORDS = {
@@ -113,13 +114,13 @@ def fault_of_link(page: str, link: str) -> str | None:
     target = (REPOSITORY / page).parent / name if name else REPOSITORY / page
     if not target.exists():
         return f"{page}: there is no {link}"
-    if anchor and anchor not in anchors_of(target.read_text(encoding="utf-8")):
+    if anchor and target.suffix not in links.FORMS_OF_NAMES and anchor not in anchors_of(target.read_text(encoding="utf-8")):
         return f"{page}: there is no heading for {link}"
     return None
 
 
 @case("Each link of a page leads to a file and a heading that are there.")
-def links(bench: Bench) -> Verdict:
+def linked_files(bench: Bench) -> Verdict:
     faults = []
     for page, text in pages().items():
         for link in re.findall(r"\]\(([^)\s]+)\)", without_code(text)):
@@ -224,39 +225,20 @@ def promises() -> list[list[str]]:
     return [row for row in rows if row[0] != "promise"]
 
 
-LINKED_NAME = r"\[`([^`]+)`\]\(\.\./(crates/[^)]+)\)"
-"""A link to the code or the definition of a name."""
-
-FORMS_OF_NAMES = {
-    ".rt": r"\b(?:fn|struct|enum|trait) {}\b",
-    ".antt": r"^ *(?:(?:abbrev|unfoldable) )*(?:pub )?(?:data |record )?{}(?: |:|$)",
-}
-"""What defines a name, by the kind of the file."""
-
-
-def defines(file: Path, name: str) -> bool:
-    """Whether a file defines a function, a type or a word; a file of definitions also has its own name."""
-    if not file.is_file():
-        return False
-    text, last = file.read_text(encoding="utf-8"), re.escape(name.split("::")[-1])
-    found = re.search(FORMS_OF_NAMES[file.suffix].format(last), text, re.MULTILINE)
-    return bool(found) or file.suffix == ".antt" and file.stem == name
-
-
 @case("Each row of GUARANTEES links to a contract or a law, and to all that it names.")
 def linked_promises(bench: Bench) -> Verdict:
     rows = promises()
     faults = [f"not four cells: {row[0]}" for row in rows if len(row) != 4]
-    faults += [f"no contract and no law: {row[0]}" for row in rows if not re.search(LINKED_NAME, "".join(row[1:3]))]
-    faults += [f"no link: {row[0]}" for row in rows if "`" in re.sub(LINKED_NAME, "", "".join(row[1:]))]
+    faults += [f"no contract and no law: {row[0]}" for row in rows if not re.search(links.LINKED_NAME, "".join(row[1:3]))]
+    faults += [f"no link: {row[0]}" for row in rows if "`" in re.sub(links.LINKED_NAME, "", "".join(row[1:]))]
     return judged(faults if rows else ["there is no row"])
 
 
-@case("Each link to code or a definition with a name leads to a file that defines that name.")
+@case("Each link to code or a definition with a name leads to the line that defines it; tools/links.py writes them.")
 def linked_names(bench: Bench) -> Verdict:
-    return judged([f"{page}: {name} isn't defined in {target}" for page, text in pages().items()
-                   for name, target in re.findall(LINKED_NAME, text)
-                   if Path(target).suffix in FORMS_OF_NAMES and not defines(REPOSITORY / target, name)])
+    found = [(page, *link) for page, text in pages().items() for link in re.findall(links.LINKED_NAME, text)]
+    return judged([f"{page}: {name} isn't defined at {target}{anchor}" for page, name, target, anchor in found
+                   if Path(target).suffix in links.FORMS_OF_NAMES and links.anchor_of(target, name) != anchor])
 
 
 NO_NAMES = {"NAMEPartialEq", "NAME_tests", "basic_", "bool_byte", "put_payload", "offset_bounds"}
