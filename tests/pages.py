@@ -114,7 +114,8 @@ def fault_of_link(page: str, link: str) -> str | None:
     target = (REPOSITORY / page).parent / name if name else REPOSITORY / page
     if not target.exists():
         return f"{page}: there is no {link}"
-    if anchor and target.suffix not in links.FORMS_OF_NAMES and anchor not in anchors_of(target.read_text(encoding="utf-8")):
+    is_page = target.suffix not in links.FORMS_OF_NAMES
+    if anchor and is_page and anchor not in anchors_of(target.read_text(encoding="utf-8")):
         return f"{page}: there is no heading for {link}"
     return None
 
@@ -234,7 +235,7 @@ def linked_promises(bench: Bench) -> Verdict:
     return judged(faults if rows else ["there is no row"])
 
 
-@case("Each link to code or a definition with a name leads to the line that defines it; tools/links.py writes them.")
+@case("Each link to a name of code or of a definition leads to its line; tools/links.py writes them.")
 def linked_names(bench: Bench) -> Verdict:
     found = [(page, *link) for page, text in pages().items() for link in re.findall(links.LINKED_NAME, text)]
     return judged([f"{page}: {name} isn't defined at {target}{anchor}" for page, name, target, anchor in found

@@ -22,7 +22,7 @@ FORMS_OF_NAMES = {
 
 
 def anchor_of(target: str, name: str) -> str | None:
-    """The anchor of the line that defines a name: none of a definition that is a whole file, None if there is no line."""
+    """The anchor of the line that defines a name: empty where the whole file does, None where nothing does."""
     file, last = REPOSITORY / target, name.split("::")[-1]
     if not file.is_file() or file.suffix not in FORMS_OF_NAMES:
         return None
