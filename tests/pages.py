@@ -183,6 +183,7 @@ def drawn(bench: Bench) -> Verdict:
 
 NAMES_OF_VERSION = {
     "CHANGELOG.md": r"^(?:What |## \[)(\d[^],\s]*)",
+    "capi/gaxtrel.h": r'^#define GAXTREL_VERSION "(\S+)"$',
     "crates/grep_cmd/audit/version_of_other_scripts.edit": r'VERSION: &str = "(\S+) script',
     "crates/grep_cmd/specs/Replies.antt": r'"occur (\S+) script',
     "crates/grep_cmd/src/script.rt": r'VERSION: &str = "(\S+) script',
