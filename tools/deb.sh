@@ -1,10 +1,9 @@
 #!/usr/bin/env bash
 # Packs for Debian into build/, and writes the checksums of all packages to build/SHA256SUMS:
 #
-#     gaxtrel_VERSION_amd64.deb       the programs, and what is installed with them. grep is called gaxgrep there, and so
-#                                     is installed beside that of the system
-#     libgaxtrel0_.., libgaxtrel-dev_.., python3-gaxtrel_..    the library, where it is built, for those that run it, for
-#                                     C, and for Python
+#     gaxtrel_VERSION_amd64.deb    the programs, and what is installed with them: grep is called gaxgrep there, and so is
+#                                  installed beside that of the system
+#     libgaxtrel0_.., libgaxtrel-dev_.., python3-gaxtrel_..    the library, where it is built: shared, for C, for Python
 #
 # All files get the time SOURCE_DATE_EPOCH. It needs dpkg-dev, and for Python its headers.
 set -euo pipefail

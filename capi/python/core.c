@@ -36,6 +36,9 @@ static void dealloc(PyObject *self) {
     {"close", close_held, METH_NOARGS, "Frees what is held; nothing can be asked for afterwards."},                    \
     {"__enter__", enter, METH_NOARGS, NULL}, {"__exit__", close_held, METH_VARARGS, NULL}
 
+/* Two words of a call, of a Py_buffer; that of no bytes may have no place. */
+#define TEXT(buffer) (buffer).buf ? (buffer).buf : "", (size_t)(buffer).len
+
 /* The library's answer: whether it is yes; or less than 0, and an error. */
 static int judged(uint32_t answer) {
     if (answer == GAXTREL_NO || answer == GAXTREL_YES) return (int)answer;
@@ -67,7 +70,7 @@ static PyObject *matcher_work(PyObject *self, PyObject *none) { return work_of(&
 static PyObject *is_match(PyObject *self, PyObject *line) {
     Py_buffer text;
     if (PyObject_GetBuffer(line, &text, PyBUF_SIMPLE)) return NULL;
-    int matched = judged(gaxtrel_is_match(MATCHER(self), text.buf, text.len));
+    int matched = judged(gaxtrel_is_match(MATCHER(self), TEXT(text)));
     PyBuffer_Release(&text);
     return matched < 0 ? NULL : PyBool_FromLong(matched);
 }
@@ -76,7 +79,7 @@ static PyObject *count_lines(PyObject *self, PyObject *lines) {
     Py_buffer text;
     uint64_t count;
     if (PyObject_GetBuffer(lines, &text, PyBUF_SIMPLE)) return NULL;
-    int found = judged(gaxtrel_count_lines(MATCHER(self), text.buf, text.len, &count));
+    int found = judged(gaxtrel_count_lines(MATCHER(self), TEXT(text), &count));
     PyBuffer_Release(&text);
     return found < 0 ? NULL : PyLong_FromUnsignedLongLong(count);
 }
@@ -102,8 +105,8 @@ static PyObject *found_by(search_call *call, PyObject *self, PyObject *line, siz
     gaxtrel_part part = {0, 0};
     if (!line || PyObject_GetBuffer(line, &text, PyBUF_SIMPLE)) return NULL;
     size_t length = (size_t)text.len;
-    int found = judged(whole && length == 0 ? gaxtrel_is_match(MATCHER(self), text.buf, 0)
-                                            : call(MATCHER(self), text.buf, length, start, &part));
+    int found = judged(whole && length == 0 ? gaxtrel_is_match(MATCHER(self), TEXT(text))
+                                            : call(MATCHER(self), TEXT(text), start, &part));
     PyBuffer_Release(&text);
     if (found > 0 && !(whole && (part.start > 0 || part.end < length))) return new_match(line, part);
     return found < 0 ? NULL : Py_NewRef(Py_None);
@@ -152,11 +155,11 @@ static PyObject *finditer(WORDS) {
     size_t start, room = 64, found = 0;
     PyObject *line = read_words(words, count, named, &start);
     if (!line || PyObject_GetBuffer(line, &text, PyBUF_SIMPLE)) return NULL;
-    int matched = judged(gaxtrel_parts(MATCHER(self), text.buf, text.len, start, parts, room, &found));
+    int matched = judged(gaxtrel_parts(MATCHER(self), TEXT(text), start, parts, room, &found));
     if (found > room) {
         parts = PyMem_Malloc((room = found) * sizeof *parts);
-        matched = judged(parts ? gaxtrel_parts(MATCHER(self), text.buf, text.len, start, parts, room, &found)
-                             : GAXTREL_NO_MEMORY);
+        matched = judged(parts ? gaxtrel_parts(MATCHER(self), TEXT(text), start, parts, room, &found)
+                               : GAXTREL_NO_MEMORY);
     }
     PyBuffer_Release(&text);
     PyObject *all = matched < 0 ? NULL : matches(line, parts, found < room ? found : room);
@@ -197,7 +200,7 @@ static PyObject *answer(PyObject *self, PyObject *commands) {
     size_t count;
     PyObject *replies = NULL;
     if (PyObject_GetBuffer(commands, &text, PyBUF_SIMPLE)) return NULL;
-    int refused = judged(gaxtrel_session_answer(SESSION(self), text.buf, text.len, &count));
+    int refused = judged(gaxtrel_session_answer(SESSION(self), TEXT(text), &count));
     gaxtrel_work work = SESSION(self)->work;
     if (refused >= 0 && (replies = PyBytes_FromStringAndSize(NULL, (Py_ssize_t)count)))
         gaxtrel_session_replies(SESSION(self), 0, (uint8_t *)PyBytes_AsString(replies), count, &count);

@@ -24,7 +24,7 @@ __all__ = ["Error", "Kind", "Match", "Pattern", "Session", "Syntax", "Text", "Wo
            "compile_lines"]
 
 Text = bytes | bytearray | memoryview | mmap.mmap
-"""A line or a text: anything that has bytes in one stretch of memory. No thread may change it during a call."""
+"""A line or a text: anything that has bytes in one stretch of memory. No process may change it during a call."""
 
 
 class Syntax(enum.IntEnum):
