@@ -32,10 +32,12 @@
 # make uninstall  removes what `make install` copied, with the same words; where another grep is there, nothing
 # make uninstall-occur  removes what `make install-occur` copied, beside any grep
 # make install-lib    copies what `make lib` built, libgaxtrel.a and .so, to $(DESTDIR)$(LIBDIR), which is lib below
-#                 PREFIX unless it is given, with gaxtrel.pc, and gaxtrel.h below $(DESTDIR)$(PREFIX)
+#                 PREFIX unless it is given, with gaxtrel.pc, and gaxtrel.h and gaxtrel.3 below $(DESTDIR)$(PREFIX)
 # make uninstall-lib  removes them, with the same words
-# make dist       packs archives into build/: the programs, their pages and the clients; their symbols; the sources
-# make deb        packs the programs for Debian into build/, grep as gaxgrep (needs dpkg-dev)
+# make dist       packs archives into build/: the programs, their pages and the clients; their symbols; the sources; the
+#                 library, if it is built
+# make deb        packs the programs for Debian into build/, grep as gaxgrep, and the library, if it is built, for C and
+#                 for Python (needs dpkg-dev, and Python's headers)
 # make clean      removes what make built; what rt keeps of its proofs is kept
 
 # DESTDIR can be set in the environment too. FORCE counts on the command line alone.

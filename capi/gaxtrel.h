@@ -18,6 +18,8 @@
 #include <stddef.h>
 #include <stdint.h>
 
+#define GAXTREL_VERSION "1.0.0"
+
 #ifdef __cplusplus
 extern "C" {
 #endif
@@ -60,6 +62,19 @@ typedef struct gaxtrel_part {
     size_t end;
 } gaxtrel_part;
 
+/* What the library was compiled for: no other machine, and no option that packs structs. */
+#if defined __cplusplus && __cplusplus >= 201103L
+#define GAXTREL_HOLDS static_assert
+#elif defined __STDC_VERSION__ && __STDC_VERSION__ >= 201112L
+#define GAXTREL_HOLDS _Static_assert
+#endif
+#ifdef GAXTREL_HOLDS
+GAXTREL_HOLDS(sizeof(gaxtrel_matcher) == 40 && sizeof(gaxtrel_session) == 40 && sizeof(gaxtrel_fault) == 24 &&
+                  sizeof(gaxtrel_part) == 16,
+              "libgaxtrel has structs of other sizes");
+#undef GAXTREL_HOLDS
+#endif
+
 enum { GAXTREL_BASIC = 0, GAXTREL_EXTENDED = 1, GAXTREL_FIXED = 2 };
 
 enum { GAXTREL_OK = 0, GAXTREL_REFUSED = 1, GAXTREL_NO_MEMORY = 2, GAXTREL_NO_SYNTAX = 3 };
@@ -85,6 +100,15 @@ enum {
     GAXTREL_TOO_LARGE,
     GAXTREL_TOO_MANY_PATTERNS
 };
+
+/* The name of such a kind, as grep writes it. */
+static inline const char *gaxtrel_kind_name(uint32_t kind) {
+    static const char *const names[] = {
+        "UnclosedBracket", "BadClass",      "BadCollatingSymbol", "BadRange",         "UnclosedGroup",
+        "UnopenedGroup",   "BadInterval",   "IntervalTooLarge",   "NothingToRepeat",  "TrailingBackslash",
+        "UndefinedEscape", "BackReference", "TooDeep",            "TooLarge",         "TooManyPatterns"};
+    return kind - 1 < sizeof names / sizeof *names ? names[kind - 1] : "Unknown";
+}
 
 /* Makes a matcher of a pattern, and frees what `matcher` held before. With `fold` both cases of
    letters are alike; with `whole` the whole line has to be matched. GAXTREL_OK: it is made.

@@ -370,6 +370,7 @@ def occur_alone(bench: Bench) -> Verdict:
 # The library for C
 
 LIBRARIES = ["libgaxtrel.a", "libgaxtrel.so", "libgaxtrel.so.0", "pkgconfig/gaxtrel.pc"]
+PAGES = ["include/gaxtrel.h", "share/man/man3/gaxtrel.3"]
 
 
 @grep_case("`make install-lib` proves nothing: without a library it says what builds one.")
@@ -389,7 +390,7 @@ def library_folder(bench: Bench) -> Verdict:
     there = files_in(stage / "usr")
     described = (stage / "usr/lib/x86_64-linux-gnu/pkgconfig/gaxtrel.pc").read_text(encoding="ascii")
     statuses.append(make_in(folder, "uninstall-lib", *words))
-    wanted = listed(["include/gaxtrel.h", *(f"lib/x86_64-linux-gnu/{name}" for name in LIBRARIES)])
+    wanted = listed([*PAGES, *(f"lib/x86_64-linux-gnu/{name}" for name in LIBRARIES)])
     named = "prefix=/usr\n" in described and "libdir=${prefix}/lib/x86_64-linux-gnu\n" in described
     return Verdict(Answer(wanted + b" True [0, 0]"), Answer(there + f" {named} {statuses}".encode() + files_in(stage)))
 

@@ -67,6 +67,8 @@ MATCHERS = {"Cached", "LineMatch", "Matcher", "Strings"}
 QUICK = re.compile(r"\bmem(?:r?chr[23]?|mem)\b|\bstd::simd\b|\bFinder\b")
 """What goes over bytes quickly: a search of the toolchain's `memchr`, or a vector."""
 
+SPLITS = "splits lines"
+
 MAY_BE_QUICK = {
     "counted for each look": {"re_runs/text_finder.rt", "re_runs/run_finder.rt"},
     "looks ask these, and what sets are made of": {"re_runs/alike.rt", "re_runs/lanes.rt", "re_runs/nibbles.rt",
@@ -74,8 +76,8 @@ MAY_BE_QUICK = {
     "makes what looks for a needle": {"re_needle/needle.rt", "re_runs/survey.rt", "re_match/strings.rt"},
     "bytes without a stretch on its way, each a step": {"re_auto/beginnings.rt"},
     "the children of a node, each byte a step or passed": {"re_strings/trie.rt"},
-    "splits lines": {"re_trees/split.rt", "re_runs/newline.rt", "re_runs/block.rt", "grep_io/input/newlines.rt",
-                     "grep_io/input/window.rt", "grep_io/devices/byte_buffer.rt"},
+    SPLITS: {"re_trees/split.rt", "re_runs/newline.rt", "re_runs/block.rt", "grep_io/input/newlines.rt",
+             "grep_io/input/window.rt", "grep_io/devices/byte_buffer.rt"},
     "looks at patterns, not at lines": {"re_search/strings.rt", "grep_session/patterns.rt"},
 }
 """The files that may name it, by the reason."""
@@ -176,6 +178,16 @@ def quick_places(bench: Bench) -> Verdict:
     wanted = set().union(*MAY_BE_QUICK.values())
     return judged([f"{name} names a quick search" for name in sorted(found - wanted)]
                   + [f"{name} names none" for name in sorted(wanted - found)])
+
+
+@case("What splits lines calls one search of a byte in each file at most, for a newline: no look passes bytes uncounted.")
+def newlines_alone(bench: Bench) -> Verdict:
+    faults = []
+    for name in sorted(MAY_BE_QUICK[SPLITS]):
+        crate, _, path = name.partition("/")
+        calls = re.findall(r"\bmemr?chr[23]?\(([^,]*),", code_of(CRATES / crate / "src" / path))
+        faults += [] if calls in ([], [r"b'\n'"]) else [f"{name} looks for {' and for '.join(calls)}"]
+    return judged(faults)
 
 
 def code_of(file: Path) -> str:

@@ -1,5 +1,5 @@
 """Cases of `make dist` and `make deb`: what they pack, and that it can be installed, run and removed.
-They need GNU make; some need git, and dpkg and lintian of Debian.
+They need GNU make; some need git, dpkg and lintian of Debian, and the library that `make lib` builds.
 
 They run in a checkout as those of tests/install.py.
 """
@@ -11,6 +11,7 @@ import io
 import os
 import shutil
 import subprocess
+import sys
 import tarfile
 from pathlib import Path
 
@@ -18,8 +19,10 @@ from install import (
     EMACS_CLIENT,
     FAILED,
     INSTALLED,
+    LIBRARIES,
     NVIM_CLIENT,
     OTHER_GREP,
+    PAGES,
     PATIENCE,
     REPOSITORY,
     checkout,
@@ -62,6 +65,24 @@ def needs(*names: str) -> None:
             raise Skipped(f"no {name}")
 
 
+def put_library(bench: Bench) -> None:
+    """Puts the library into the checkout, if it is built."""
+    built = REPOSITORY / "build/lib"
+    for name in LIBRARIES[::2]:
+        if (built / name).exists():
+            bench.write(f"checkout/build/lib/{name}", (built / name).read_bytes())
+
+
+def library_in(bench: Bench, target: str) -> None:
+    """Makes the target in a checkout that has the library."""
+    checkout(bench)
+    put_library(bench)
+    if not (bench.folder / "checkout/build/lib").exists():
+        raise Skipped("the library is not built")
+    if make(bench, target, SOURCE_DATE_EPOCH=DATE):
+        raise OSError(f"`make {target}` has failed")
+
+
 def unpacked(bench: Bench, name: str) -> Path:
     """The folder to which an archive is unpacked."""
     folder = bench.folder / "unpacked"
@@ -84,6 +105,36 @@ def symbols(bench: Bench) -> Verdict:
     status = make(bench, "dist")
     there = files_in(unpacked(bench, f"{PROGRAMS}-debug") / PROGRAMS)
     return Verdict(Answer(b"bin/.debug/grep.debug\nbin/.debug/occur.debug"), Answer(there, b"", status))
+
+
+USER = b"""#include <gaxtrel.h>
+int main(void) {
+    gaxtrel_matcher m = GAXTREL_NONE;
+    gaxtrel_fault fault;
+    return gaxtrel_compile(&m, (const uint8_t *)"a(", 2, GAXTREL_EXTENDED, false, false, &fault) != GAXTREL_REFUSED;
+}
+"""
+
+
+def used_library(bench: Bench, library: Path, *words: str) -> int:
+    """Compiles a program with these words and the library in a folder, and answers what it answers."""
+    needs("cc")
+    bench.write("user.c", USER)
+    subprocess.run(["cc", bench.folder / "user.c", "-o", bench.folder / "user", *words], timeout=SECONDS, check=True)
+    return subprocess.run([bench.folder / "user"], env={"LD_LIBRARY_PATH": str(library)}, timeout=SECONDS,
+                          check=False).returncode
+
+
+@grep_case("`make dist` packs the library that is built, which pkg-config finds in any folder.")
+def packed_library(bench: Bench) -> Verdict:
+    needs("pkg-config")
+    library_in(bench, "dist")
+    folder = unpacked(bench, f"lib{PROGRAMS}") / f"lib{PROGRAMS}"
+    said = subprocess.run(["pkg-config", "--cflags", "--libs", "gaxtrel"], check=True, capture_output=True,
+                          env={"PATH": os.environ["PATH"], "PKG_CONFIG_PATH": str(folder / "lib/pkgconfig")})
+    status = used_library(bench, folder / "lib", *said.stdout.decode().split())
+    wanted = listed(["LICENSE-APACHE", "LICENSE-MIT", *PAGES, *(f"lib/{name}" for name in LIBRARIES)])
+    return Verdict(Answer(wanted), Answer(files_in(folder), b"", status))
 
 
 def sources_of(bench: Bench) -> list[str]:
@@ -141,6 +192,8 @@ def checksums(bench: Bench) -> Verdict:
 @grep_case("With one SOURCE_DATE_EPOCH `make dist` and `make deb` pack the same bytes, whatever the umask.")
 def same_bytes(bench: Bench) -> Verdict:
     needs("dpkg-shlibdeps")
+    checkout(bench)
+    put_library(bench)
     sums, statuses = [], []
     for umask in (0o022, 0o077):
         before = os.umask(umask)
@@ -191,8 +244,10 @@ def other_version(bench: Bench) -> Verdict:
 
 
 def packed_deb(bench: Bench) -> Path:
-    """The package for Debian."""
+    """The package for Debian, beside which are those of the library, if it is built."""
     needs("dpkg-shlibdeps")
+    checkout(bench)
+    put_library(bench)
     if make(bench, "deb", SOURCE_DATE_EPOCH=DATE):
         raise OSError("`make deb` has failed")
     return bench.folder / f"checkout/build/gaxtrel_{VERSION}_amd64.deb"
@@ -239,13 +294,43 @@ def places_of_debian(bench: Bench) -> Verdict:
     return Verdict(Answer(listed(IN_PLACES_OF_DEBIAN)), Answer(listed(found)))
 
 
-@grep_case("lintian finds no fault in the package for Debian.")
+def root_of(bench: Bench, *names: str) -> Path:
+    """The folder to which packages of the library are unpacked."""
+    needs("dpkg-shlibdeps")
+    library_in(bench, "deb")
+    root = bench.folder / "root"
+    for name in names:
+        package = bench.folder / f"checkout/build/{name}_{VERSION}_amd64.deb"
+        subprocess.run(["dpkg-deb", "--extract", package, root], timeout=PATIENCE, check=True)
+    shutil.rmtree(root / "usr/share/doc")
+    return root
+
+
+@grep_case("The packages libgaxtrel0 and libgaxtrel-dev have the library, and what a program in C needs of it.")
+def library_for_debian(bench: Bench) -> Verdict:
+    root = root_of(bench, "libgaxtrel0", "libgaxtrel-dev")
+    library = root / "usr/lib/x86_64-linux-gnu"
+    status = used_library(bench, library, f"-I{root}/usr/include", f"-L{library}", "-lgaxtrel")
+    wanted = listed([*PAGES[:1], f"{PAGES[1]}.gz", *(f"lib/x86_64-linux-gnu/{name}" for name in LIBRARIES)])
+    return Verdict(Answer(wanted), Answer(files_in(root / "usr"), b"", status))
+
+
+@grep_case("The package python3-gaxtrel has the package for Python.")
+def python_for_debian(bench: Bench) -> Verdict:
+    packages = root_of(bench, "python3-gaxtrel") / "usr/lib/python3/dist-packages"
+    said = "import gaxtrel; print(gaxtrel.__version__, gaxtrel.compile(b'ab|b').search(b'xab').span())"
+    ran = subprocess.run([sys.executable, "-c", said], env={"PYTHONPATH": str(packages)}, timeout=SECONDS,
+                         capture_output=True, check=False)
+    return Verdict(Answer(f"{VERSION} (1, 3)\n".encode()), Answer(ran.stdout, ran.stderr, ran.returncode))
+
+
+@grep_case("lintian finds no fault in the packages for Debian.")
 def lintian(bench: Bench) -> Verdict:
     needs("lintian")
     package = packed_deb(bench)
     words = ["lintian", "--allow-root", "--fail-on=error,warning,info,pedantic", "-I", "--pedantic",
              # it reads words in machine code
-             "--suppress-tags=spelling-error-in-binary", package]
+             "--suppress-tags=spelling-error-in-binary", *sorted(package.parent.glob("*.deb"))]
     ran = subprocess.run(words, timeout=PATIENCE, stdout=subprocess.PIPE, stderr=subprocess.DEVNULL,
                          env={"PATH": os.environ["PATH"], "LC_ALL": "C.UTF-8"}, check=False)
     return Verdict(Answer(), Answer(ran.stdout, b"", ran.returncode))

@@ -187,6 +187,7 @@ def drawn(bench: Bench) -> Verdict:
 
 NAMES_OF_VERSION = {
     "CHANGELOG.md": r"^(?:What |## \[)(\d[^],\s]*)",
+    "capi/gaxtrel.h": r'^#define GAXTREL_VERSION "(\S+)"$',
     "crates/grep_cmd/audit/version_of_other_scripts.edit": r'VERSION: &str = "(\S+) script',
     "crates/grep_cmd/specs/Replies.antt": r'"occur (\S+) script',
     "crates/grep_cmd/src/script.rt": r'VERSION: &str = "(\S+) script',
@@ -357,7 +358,7 @@ def said_of_manual_pages(*command: str) -> Verdict:
     if shutil.which(command[0]) is None:
         raise Skipped(f"there is no {command[0]}")
     said = []
-    for page in ("grep.1", "occur.1"):
+    for page in ("grep.1", "occur.1", "gaxtrel.3"):
         ran = subprocess.run([*command, str(REPOSITORY / "man" / page)], stdin=subprocess.DEVNULL,
                              capture_output=True, timeout=SECONDS, check=False)
         text = ran.stderr if command[0] == "groff" else ran.stdout + ran.stderr
@@ -368,6 +369,13 @@ def said_of_manual_pages(*command: str) -> Verdict:
 @case("mandoc finds no fault in the manual pages.")
 def mandoc(bench: Bench) -> Verdict:
     return said_of_manual_pages("mandoc", "-T", "lint")
+
+
+@case("The manual page of the library has each call of its header.")
+def calls_of_library(bench: Bench) -> Verdict:
+    header, page = ((REPOSITORY / name).read_text(encoding="utf-8") for name in ("capi/gaxtrel.h", "man/gaxtrel.3"))
+    called = set(re.findall(r"^(?:static inline )?(?:const )?\w+ \*?(gaxtrel_\w+)\(", header, re.MULTILINE))
+    return judged(sorted(called.symmetric_difference(re.findall(r"^\.F[no] (gaxtrel_\w+)", page, re.MULTILINE))))
 
 
 @case("groff finds no fault in the manual pages.")

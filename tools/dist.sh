@@ -1,8 +1,9 @@
 #!/usr/bin/env bash
-# Packs three archives into build/, and writes the checksums of all that is packed there to build/SHA256SUMS:
+# Packs archives into build/, and writes the checksums of all that is packed there to build/SHA256SUMS:
 #
 #     gaxtrel-VERSION-x86_64-linux.tar.gz        the programs, what is installed with them, and the clients of editors
 #     gaxtrel-VERSION-x86_64-linux-debug.tar.gz  their symbols, where a debugger looks for them beside the programs
+#     libgaxtrel-VERSION-x86_64-linux.tar.gz     the library, where it is built, for any folder
 #     gaxtrel-VERSION.tar.gz                     the files that git knows or, without git, all that nothing has made
 #
 # All files get the time SOURCE_DATE_EPOCH. The same programs and sources make the same archives: no Emacs compiles its
@@ -37,6 +38,12 @@ tools/help_tags.sh "$folder/$name/$nvim/doc/live-occur.txt" > "$folder/$name/$nv
 sed "s/VERSION/$version/" dist/README > "$folder/$name/README"
 pack "$name" -C "$folder" "$name"
 pack "$name-debug" --transform="s|^\.|$name/bin/.debug|" -C build/debug .
+if [[ -e build/lib/libgaxtrel.so.0 ]]; then
+    make -s install-lib DESTDIR= PREFIX="$folder/lib$name" LIBDIR="$folder/lib$name/lib"
+    sed -i 's|^prefix=.*|prefix=${pcfiledir}/../..|' "$folder/lib$name/lib/pkgconfig/gaxtrel.pc"
+    install -m 644 LICENSE-* "$folder/lib$name"
+    pack "lib$name" -C "$folder" "lib$name"
+fi
 sources | LC_ALL=C sort --zero-terminated > "$folder/sources"
 pack "gaxtrel-$version" --transform="s|^|gaxtrel-$version/|S" --null --verbatim-files-from \
     --files-from="$folder/sources"

@@ -8,7 +8,7 @@
 #include "miscadmin.h"
 #include "utils/builtins.h"
 
-#include "kinds.h"
+#include "gaxtrel.h"
 
 PG_MODULE_MAGIC;
 
@@ -34,7 +34,7 @@ static void compile(gaxtrel_matcher *matcher, const text *pattern) {
                                       GAXTREL_EXTENDED, false, false, &fault);
     if (answer == GAXTREL_REFUSED)
         ereport(ERROR, errcode(ERRCODE_INVALID_REGULAR_EXPRESSION),
-                errmsg("invalid regular expression: %s at %zu", kind_name(fault.kind), fault.at));
+                errmsg("invalid regular expression: %s at %zu", gaxtrel_kind_name(fault.kind), fault.at));
     if (answer != GAXTREL_OK) ereport(ERROR, errcode(ERRCODE_OUT_OF_MEMORY), errmsg("out of memory"));
 }
 

@@ -1,4 +1,4 @@
-"""Builds the wheel of the package: the modules, and a shared library that is linked from the archive
+"""Builds the wheel of the package: the modules, and the extension, of core.c and of the archive
 libgaxtrel.a. That is the one that `make lib` has made, or the one that GAXTREL_ARCHIVE names. It is a
 build backend (PEP 517) of its own, since setuptools makes no wheel without another package in its older
 versions, and a machine without a network has only what is there.
@@ -21,6 +21,7 @@ from typing import Any
 HERE = Path(__file__).resolve().parent
 REPOSITORY = HERE.parent.parent
 PACKAGE = "gaxtrel"
+CORE = "_core.abi3.so"
 LICENSES = ("LICENSE-APACHE", "LICENSE-MIT")
 
 
@@ -29,19 +30,20 @@ def version() -> str:
 
 
 def tag() -> str:
-    """Any Python 3 of this platform: the library is no extension of one."""
-    return f"py3-none-{sysconfig.get_platform().replace('-', '_').replace('.', '_')}"
+    """Python 3.11 and later on this platform, by the stable ABI."""
+    return f"cp311-abi3-{sysconfig.get_platform().replace('-', '_').replace('.', '_')}"
 
 
 def linked() -> bytes:
-    """The shared library."""
+    """The extension."""
     archive = Path(os.environ.get("GAXTREL_ARCHIVE", REPOSITORY / "build/lib/libgaxtrel.a"))
     if not archive.is_file():
         raise SystemExit(f"{archive} is not there: `make lib` makes it")
     with tempfile.TemporaryDirectory() as folder:
-        library = Path(folder) / "libgaxtrel.so"
-        subprocess.run([*shlex.split(os.environ.get("CC", "cc")), "-shared", "-o", library, "-Wl,--whole-archive",
-                        archive, "-Wl,--no-whole-archive,-z,text,-z,defs,-z,relro,-z,now"], check=True)
+        library = Path(folder) / CORE
+        subprocess.run([*shlex.split(os.environ.get("CC", "cc")), "-O2", "-fPIC", "-shared", "-fvisibility=hidden",
+                        f"-I{HERE.parent}", f"-I{sysconfig.get_path('include')}", HERE / "core.c", archive,
+                        "-Wl,--exclude-libs,ALL,-z,text,-z,relro,-z,now", "-s", "-o", library], check=True)
         return library.read_bytes()
 
 
@@ -64,11 +66,9 @@ def row(name: str, content: bytes) -> str:
 def build_wheel(wheel_directory: str, config_settings: Any = None, metadata_directory: Any = None) -> str:
     """Writes the wheel, and answers its name."""
     about = f"{PACKAGE}-{version()}.dist-info"
-    files = {f"{PACKAGE}/{file.name}": file.read_bytes() for file in sorted((HERE / PACKAGE).glob("*.py"))
+    files = {f"{PACKAGE}/{file.name}": file.read_bytes() for file in sorted((HERE / PACKAGE).glob("*"))
              if file.is_file()}
-    files[f"{PACKAGE}/py.typed"] = b""
-    files[f"{PACKAGE}/version.py"] = f'__version__ = "{version()}"\n'.encode()
-    files[f"{PACKAGE}/libgaxtrel.so"] = linked()
+    files[f"{PACKAGE}/{CORE}"] = linked()
     files[f"{about}/METADATA"] = metadata().encode()
     files[f"{about}/WHEEL"] = (f"Wheel-Version: 1.0\nGenerator: {Path(__file__).stem}\nRoot-Is-Purelib: false\n"
                                f"Tag: {tag()}\n").encode()

@@ -2,7 +2,7 @@
    `part`, `first` and `end`. Patterns are extended. A text is one line, whatever its bytes are; places are of bytes,
    from 0. A part that cuts a character of UTF-8 is widened to all of it, and one that begins in the part before it is
    left out. */
-#include "kinds.h"
+#include "gaxtrel.h"
 #include <sqlite3ext.h>
 #include <string.h>
 
@@ -17,7 +17,7 @@ static int compile(gaxtrel_matcher *matcher, sqlite3_value *pattern, char **mess
     uint32_t answer = gaxtrel_compile(matcher, text, length, GAXTREL_EXTENDED, false, false, &fault);
     if (answer == GAXTREL_OK) return SQLITE_OK;
     if (answer == GAXTREL_REFUSED)
-        *message = sqlite3_mprintf("gaxtrel: %s at %llu", kind_name(fault.kind), (unsigned long long)fault.at);
+        *message = sqlite3_mprintf("gaxtrel: %s at %llu", gaxtrel_kind_name(fault.kind), (unsigned long long)fault.at);
     return *message ? SQLITE_ERROR : SQLITE_NOMEM;
 }
 

@@ -36,6 +36,8 @@ static int one(void) {
     /* over a matcher that is held */
     CHECK(11, gaxtrel_compile(&m, P("\\(a\\)\\1"), GAXTREL_BASIC, false, false, &fault) == GAXTREL_REFUSED);
     CHECK(12, fault.kind == GAXTREL_BACK_REFERENCE && fault.at == 5 && fault.pattern == 0);
+    CHECK(21, !strcmp(gaxtrel_kind_name(fault.kind), "BackReference") && !strcmp(gaxtrel_kind_name(16), "Unknown"));
+    CHECK(22, !strcmp(gaxtrel_kind_name(GAXTREL_TOO_MANY_PATTERNS), "TooManyPatterns") && *gaxtrel_kind_name(0) == 'U');
     CHECK(13, gaxtrel_is_match(&m, P("aa")) == GAXTREL_MISUSED);
     CHECK(14, gaxtrel_compile(&m, P("a"), 7, false, false, &fault) == GAXTREL_NO_SYNTAX);
     CHECK(15, gaxtrel_compile(&m, P("A.b"), GAXTREL_FIXED, true, true, &fault) == GAXTREL_OK);

@@ -207,6 +207,32 @@ class Objects(unittest.TestCase):
             with self.assertRaises(ValueError):
                 gaxtrel.Session(states)
 
+    def test_each_refused_request_of_python(self) -> None:
+        try:
+            from _testcapi import remove_mem_hooks, set_nomemory
+        except ImportError:
+            self.skipTest("this Python can't refuse memory")
+        pattern, session, line = gaxtrel.compile(b"a|(bc)+"), gaxtrel.Session(), bytearray(b"abcbc" * 300)
+        session.answer(b"file f 1\nab\n")
+        refusals = 0
+        for call, *words in ((pattern.fullmatch, b"bc"), (pattern.search, line, 1000), (pattern.finditer, line),
+                             (pattern._next_line, line, 1000), (session._answer, b"page 0 9\n"),
+                             (gaxtrel.compile(b"")._compile, b"a(", 1, False, False, False)):
+            wanted, refused, number = str(call(*words)).split(" at ")[0], True, 0
+            while refused:
+                refused, given = False, None
+                set_nomemory(number, number + 1)
+                try:
+                    given = call(*words)
+                except MemoryError:
+                    refused = True
+                finally:
+                    remove_mem_hooks()
+                refusals += refused
+                self.assertTrue(refused or str(given).split(" at ")[0] == wanted)
+                number += 1
+        self.assertGreater(refusals, 500)  # one for each part of finditer
+
     def test_one_session_for_all_threads(self) -> None:
         session = gaxtrel.Session(1)
         session.answer(b"patterns 1\n[ab]\n")

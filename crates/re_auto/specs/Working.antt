@@ -2,7 +2,6 @@ pub mod Positions
 pub mod SteppedSets
 pub mod Bits
 pub mod Ranges
-pub mod Preceding
 pub mod Beginnings
 pub mod Tables
 pub mod StateSets

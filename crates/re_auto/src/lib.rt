@@ -13,10 +13,11 @@ mod tables;
 
 pub use beginnings::Beginnings;
 pub use build::BuildFault;
+pub use build::ends::blank_set;
+pub use build::rows::cross_rows;
 pub use laws::{fronts_decide, positions_decide};
 pub use mode::Mode;
-pub use ranges::WordRange;
+pub use ranges::{WordRange, ranges_of};
 pub use re_meter::{Meter, fresh_meter};
 pub use step::automaton::Automaton;
-pub use step::preceding::Preceding;
 pub use step::state_set::StateSet;

@@ -1,5 +1,5 @@
 //! The words of a row that contain its members: usually few of them in a wide automaton.
-ghost use Rattle.std.specs.Prelude.{◌≡◌, ℕ, ◌*◌, ◌/◌, ◌<◌, ◌≤◌, ◌⊎◌, IfOk, List, length};
+ghost use Rattle.std.specs.Prelude.{◌≡◌, ℕ, ◌*◌, ◌/◌, ◌<◌, ◌≤◌, IfOk, length};
 ghost use Rattle.re_auto.specs.Working.Bits.{Has};
 ghost use Rattle.re_auto.specs.Working.Ranges.{Covers, CoverRows};
 ghost use Rattle.re_auto.specs.Working.Tables.{most_words};
@@ -14,44 +14,6 @@ pub struct WordRange {
     pub first: u8,
     /// The word after the last.
     pub past: u8,
-}
-
-impl WordRange {
-    /// All words from the first of the range and word `k` to the last.
-    #[inline(always)]
-    pub fn with(self, k: usize) -> WordRange
-        requires { k < most_words }
-        ensures { (a c : List ℕ) → Covers self a → (k < length c) → (length c ≡ length a) →
-            ((q : ℕ) → Has c q → Has a q ⊎ (q / 64 ≡ k)) → Covers result c }
-    {
-        let first = k as u8;
-        let past = first + 1;
-        if self.first == self.past {
-            return WordRange { first, past };
-        }
-        WordRange {
-            first: self.first.min(first),
-            past: self.past.max(past),
-        }
-    }
-
-    /// All words from the first of both to the last.
-    #[inline(always)]
-    pub fn joined(self, other: WordRange) -> WordRange
-        ensures { (a b c : List ℕ) → Covers self a → Covers other b → (length c ≡ length a) →
-            (length c ≡ length b) → ((q : ℕ) → Has c q → Has a q ⊎ Has b q) → Covers result c }
-    {
-        if self.first == self.past {
-            return other;
-        }
-        if other.first == other.past {
-            return self;
-        }
-        WordRange {
-            first: self.first.min(other.first),
-            past: self.past.max(other.past),
-        }
-    }
 }
 
 /// For each of the first `rows` rows the range from the first to the last word that has members.

@@ -1,5 +1,4 @@
 //! Stepping over a line: the automaton, and the sets of its positions.
 
 pub mod automaton;
-pub mod preceding;
 pub mod state_set;

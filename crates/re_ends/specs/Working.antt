@@ -1,5 +1,6 @@
 -- the terms of contracts: of this crate as a library, and of its private functions
 pub mod GreatestEnds
+pub mod Preceding
 pub mod Groups
 pub mod Closing
 pub mod KeptSteps

@@ -14,7 +14,8 @@ ghost use Rattle.re_ends.specs.Working.Groups.{group_of, half_of, AreGroupsFor, 
 ghost use Rattle.re_ends.specs.Working.Groups.{IsRow, IsStep, Names, numbers_of};
 
 use crate::list::Run;
-use re_auto::{Automaton, Preceding, WordRange, bits};
+use crate::preceding::Preceding;
+use re_auto::{Automaton, WordRange, bits};
 use re_trees::MOST_POSITIONS;
 use std::alloc::{AllocError, Global};
 
@@ -53,7 +54,7 @@ impl Groups {
         if size > MOST_POSITIONS {
             return Err(AllocError);
         }
-        let preceding = automaton.preceding(alloc)?;
+        let preceding = Preceding::of(alloc, automaton)?;
         let left = Vec::from_slice(alloc, automaton.taking(0))?;
         let met = vec![in alloc; 0u64; left.len()]?;
         let row = Vec::with_capacity(alloc, size)?;

@@ -6,6 +6,7 @@ mod groups;
 mod kept;
 mod list;
 mod pass;
+mod preceding;
 mod table;
 
 pub use pass::Asked;

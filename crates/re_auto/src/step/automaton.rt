@@ -9,7 +9,6 @@ ghost use Rattle.re_auto.specs.declared.mode.Mode.TheVariants.{Search};
 ghost use Rattle.re_auto.specs.Working.Bits.{Has, Are};
 ghost use Rattle.re_meter.specs.Meters.{many_built};
 ghost use Rattle.re_auto.specs.Working.Positions.{part_of, is_begin, is_end};
-ghost use Rattle.re_auto.specs.Working.Preceding.{ArePrecedingFor};
 ghost use Rattle.re_auto.specs.Working.SteppedSets.{MayBegin, IsNext};
 ghost use Rattle.re_auto.specs.Working.Tables.{words_for, CanBegin, IsRefused, Marks};
 ghost use Rattle.re_auto.specs.Working.StateSets.{IsMadeFor, IsNowhere, StandsAt, IsNextSet};
@@ -22,7 +21,6 @@ use crate::bits;
 use crate::build::BuildFault;
 use crate::build::fill::build_tables;
 use crate::mode::Mode;
-use crate::step::preceding::Preceding;
 use crate::step::state_set::StateSet;
 use crate::tables::Tables;
 use re_meter::Meter;
@@ -236,21 +234,14 @@ impl Automaton {
         &self.tables.last_inside
     }
 
-    // The positions that can come directly after position `p`.
+    /// The positions that can come directly after position `p`.
     #[inline(always)]
-    fn following(&self, p: usize) -> &[u64]
+    pub fn following(&self, p: usize) -> &[u64]
         requires { p < positions (expression_of self.now) }
         ensures { Are result.now (λ q. (part_of (expression_of self.now) 0).follow p q)
             (words_for (positions (expression_of self.now))) }
     {
         bits::row(&self.tables.follow, self.tables.width, p)
-    }
-
-    /// For each position, those that can come directly before it.
-    pub fn preceding(&self, alloc: Global) -> Result<Preceding, AllocError>
-        ensures { IfOk result (ArePrecedingFor (expression_of self.now)) }
-    {
-        Preceding::of(alloc, &self.tables)
     }
 
     /// The bytes that some position takes.

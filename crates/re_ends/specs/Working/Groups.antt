@@ -8,11 +8,11 @@ use Rattle.re_trees.specs.Expression.{Expression}
 use Rattle.re_trees.specs.Holds.{positions}
 use Rattle.re_trees.specs.Limits.{most_positions}
 use Rattle.re_auto.specs.Working.Positions.{Part}
-use Rattle.re_auto.specs.Working.Preceding.{ArePrecedingFor}
 use Rattle.re_auto.specs.Working.Tables.{words_for}
 use Rattle.re_ends.specs.declared.groups.Groups.{Groups}
 use Rattle.re_ends.specs.declared.list.Run.{Run}
 use Rattle.re_ends.specs.Working.GreatestEnds.{LeadsPast}
+use Rattle.re_ends.specs.Working.Preceding.{ArePrecedingFor}
 
 -- the ends of groups, and how many there is room for
 pub record Ends : Type 0 where

@@ -1,6 +1,6 @@
-use Rattle.re_auto.proofs.Prelude.{arith, inl, inr, suc, sym, subst, ◌≡◌, ◌<◌, ◌∙◌, ◌↔◌, length, Has, row_of}
-use Rattle.re_auto.proofs.step.preceding.add_chained.Goals.{then-is_only, else-is_only}
-use Rattle.re_auto.proofs.step.preceding.add_chained.Goals as goal
+use Rattle.re_ends.proofs.Prelude.{arith, inl, inr, suc, sym, subst, ◌≡◌, ◌<◌, ◌∙◌, ◌↔◌, length, Has, row_of}
+use Rattle.re_ends.proofs.preceding.add_chained.Goals.{then-is_only, else-is_only}
+use Rattle.re_ends.proofs.preceding.add_chained.Goals as goal
 
 pub positions-preserved : goal.positions-preserved
 positions-preserved c = elim c.if-is_only.branch [

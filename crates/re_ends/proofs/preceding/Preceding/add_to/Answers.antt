@@ -1,7 +1,7 @@
-use Rattle.re_auto.proofs.Prelude.{arith, get_or, refl, subst, inl, inr, ℕ, suc, ◌≡◌, ◌+◌, ◌*◌, ◌<◌, ◌∙◌, ◌↔◌, ◌⊎◌, bit_and, bit_at, bit_not, part_of, w64}
+use Rattle.re_ends.proofs.Prelude.{arith, get_or, refl, subst, inl, inr, ℕ, suc, ◌≡◌, ◌+◌, ◌*◌, ◌<◌, ◌∙◌, ◌↔◌, ◌⊎◌, bit_and, bit_at, bit_not, part_of, w64}
 use Rattle.std.proofs.lemmas.List.{get_or_read_under}
-use Rattle.re_auto.proofs.lemmas.RangeLemmas.{in_second, word_split}
-use Rattle.re_auto.proofs.step.preceding.Preceding.add_to.Goals as goal
+use Rattle.re_ends.proofs.lemmas.PrecedingLaws.{in_second, word_split}
+use Rattle.re_ends.proofs.preceding.Preceding.add_to.Goals as goal
 
 pub add_rows-requires-clause-made : goal.add_rows-requires-clause-made
 add_rows-requires-clause-made c =

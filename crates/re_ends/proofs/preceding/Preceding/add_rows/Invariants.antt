@@ -1,7 +1,7 @@
-use Rattle.re_auto.proofs.Prelude.{◌≡◌, ℕ, ◌+◌, ◌*◌, length, Covers, Expression, Has, part_of}
-use Rattle.re_auto.specs.Working.Preceding.{ArePrecedingFor}
+use Rattle.re_ends.proofs.Prelude.{◌≡◌, ℕ, ◌+◌, ◌*◌, length, Covers, Expression, Has, part_of}
+use Rattle.re_ends.specs.Working.Preceding.{ArePrecedingFor}
 use Rattle.re_auto.proofs.lemmas.BitLemmas.{AreAmong, AddsUp}
-use Rattle.re_auto.proofs.step.preceding.Preceding.add_rows.Given as goal
+use Rattle.re_ends.proofs.preceding.Preceding.add_rows.Given as goal
 
 -- what is already added and what is left to add are together the whole
 abbrev pub invariant-bits : goal.invariant-bits

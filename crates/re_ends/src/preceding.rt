@@ -1,19 +1,17 @@
 //! For each position of an automaton, the positions that can come directly before it.
-ghost use Rattle.std.specs.Prelude.{◌≡◌, ℕ, suc, ◌+◌, ◌*◌, ◌<◌, ◌≤◌, ◌↔◌, ◌⊎◌, IfOk, IsTrue, length};
+ghost use Rattle.std.specs.Prelude.{◌≡◌, ℕ, suc, ◌+◌, ◌*◌, ◌/◌, ◌<◌, ◌≤◌, ◌↔◌, ◌⊎◌, IfOk, IsTrue, List, length};
 ghost use Rattle.std.specs.Int.{bit_at};
 ghost use Rattle.re_trees.specs.Expression.{Expression};
 ghost use Rattle.re_trees.specs.Holds.{positions};
+ghost use Rattle.re_trees.specs.Limits.{most_positions};
+ghost use Rattle.re_trees.specs.Working.Trees.{expression_of};
 ghost use Rattle.re_auto.specs.Working.Bits.{Has, row_of};
 ghost use Rattle.re_auto.specs.Working.Positions.{part_of};
-ghost use Rattle.re_auto.specs.Working.Preceding.{ArePrecedingFor};
 ghost use Rattle.re_auto.specs.Working.Ranges.{Covers, CoverRows};
-ghost use Rattle.re_auto.specs.Working.Tables.{AreTablesOf, most_words, words_for};
+ghost use Rattle.re_auto.specs.Working.Tables.{most_words, words_for};
+ghost use Rattle.re_ends.specs.Working.Preceding.{ArePrecedingFor};
 
-use crate::bits;
-use crate::build::ends::blank_set;
-use crate::build::rows::cross_rows;
-use crate::ranges::{WordRange, ranges_of};
-use crate::tables::Tables;
+use re_auto::{Automaton, WordRange, bits, blank_set, cross_rows, ranges_of};
 use std::alloc::{AllocError, Global};
 
 /// For each position of an automaton, the positions that can come directly before it.
@@ -27,17 +25,17 @@ pub struct Preceding {
 }
 
 impl Preceding {
-    /// Those of the automaton that has these tables.
-    pub(crate) fn of(alloc: Global, tables: &Tables) -> Result<Preceding, AllocError>
-        requires { (e : Expression) × AreTablesOf e tables.now }
-        ensures { IfOk result
-            (λ p. (e : Expression) → AreTablesOf e tables.now → ArePrecedingFor e p) }
+    /// Those of this automaton.
+    pub fn of(alloc: Global, automaton: &Automaton) -> Result<Preceding, AllocError>
+        requires { positions (expression_of automaton.now) ≤ most_positions }
+        ensures { IfOk result (ArePrecedingFor (expression_of automaton.now)) }
     {
-        let width = tables.width;
+        let size = automaton.size();
+        let width = automaton.taking(0).len();
         let mut only = blank_set(alloc, width)?;
-        let mut rows = blank_set(alloc, tables.size * width)?;
-        turn(tables, &mut only, &mut rows);
-        let ranges = ranges_of(alloc, &rows, width, tables.size)?;
+        let mut rows = blank_set(alloc, size * width)?;
+        turn(automaton, &mut only, &mut rows);
+        let ranges = ranges_of(alloc, &rows, width, size)?;
         let mut chained = blank_set(alloc, width)?;
         add_chained(&mut chained, &rows, &ranges);
         Ok(Preceding {
@@ -105,7 +103,7 @@ impl Preceding {
         let row = bits::row(&self.rows, self.width, q);
         let more = self.ranges[q];
         bits::add_within(set, row, more);
-        range.joined(more)
+        joined(range, more)
     }
 }
 
@@ -120,12 +118,48 @@ fn add_before(set: &mut [u64], range: WordRange, k: usize, members: u64) -> Word
         ((b : ℕ) × (b < 64) × (bit_at members b ≡ 1) × (suc p ≡ k * 64 + b))) }
 {
     set[k] |= members / 2;
-    let here = range.with(k);
+    let here = with_word(range, k);
     if members % 2 == 0 || k == 0 {
         return here;
     }
     bits::insert(set, k * 64 - 1);
-    here.with(k - 1)
+    with_word(here, k - 1)
+}
+
+// All words from the first of the range and word `k` to the last.
+#[inline(always)]
+fn with_word(range: WordRange, k: usize) -> WordRange
+    requires { k < most_words }
+    ensures { (a c : List ℕ) → Covers range a → (k < length c) → (length c ≡ length a) →
+        ((q : ℕ) → Has c q → Has a q ⊎ (q / 64 ≡ k)) → Covers result c }
+{
+    let first = k as u8;
+    let past = first + 1;
+    if range.first == range.past {
+        return WordRange { first, past };
+    }
+    WordRange {
+        first: range.first.min(first),
+        past: range.past.max(past),
+    }
+}
+
+// All words from the first of both ranges to the last.
+#[inline(always)]
+fn joined(one: WordRange, other: WordRange) -> WordRange
+    ensures { (a b c : List ℕ) → Covers one a → Covers other b → (length c ≡ length a) →
+        (length c ≡ length b) → ((q : ℕ) → Has c q → Has a q ⊎ Has b q) → Covers result c }
+{
+    if one.first == one.past {
+        return other;
+    }
+    if other.first == other.past {
+        return one;
+    }
+    WordRange {
+        first: one.first.min(other.first),
+        past: one.past.max(other.past),
+    }
 }
 
 // Adds the positions that only the one right before them can come before, by the rows and ranges of
@@ -160,16 +194,18 @@ fn is_only(set: &[u64], range: WordRange, p: usize) -> bool
 }
 
 // Gives each position a row of those that can come directly before it. The rows have no members yet.
-fn turn(tables: &Tables, only: &mut [u64], rows: &mut [u64])
-    requires made { (e : Expression) × AreTablesOf e tables.now }
-    requires only { length only.old ≡ tables.now.width }
-    requires len { length rows.old ≡ tables.now.size * tables.now.width }
+fn turn(automaton: &Automaton, only: &mut [u64], rows: &mut [u64])
+    requires few { positions (expression_of automaton.now) ≤ most_positions }
+    requires only { length only.old ≡ words_for (positions (expression_of automaton.now)) }
+    requires len { length rows.old ≡ positions (expression_of automaton.now) * length only.old }
     requires none { (q : ℕ) → Has rows.old q → ⊥ }
     ensures len { length rows.new ≡ length rows.old }
-    ensures turned { (e : Expression) (x q : ℕ) → AreTablesOf e tables.now → x < tables.now.size →
-        Has (row_of rows.new tables.now.width x) q ↔ (part_of e 0).follow q x }
+    ensures turned { (x q : ℕ) → x < positions (expression_of automaton.now) →
+        Has (row_of rows.new (length only.old) x) q ↔
+        (part_of (expression_of automaton.now) 0).follow q x }
 {
-    'positions: for p in 0..tables.size {
+    let width = only.len();
+    'positions: for p in 0..automaton.size() {
         bits::clear(only);
         bits::insert(only, p);
         let first = (p / 64) as u8;
@@ -177,7 +213,6 @@ fn turn(tables: &Tables, only: &mut [u64], rows: &mut [u64])
             first,
             past: first + 1,
         };
-        let follow = bits::row(&tables.follow, tables.width, p);
-        cross_rows(rows, tables.width, follow, only, range);
+        cross_rows(rows, width, automaton.following(p), only, range);
     }
 }

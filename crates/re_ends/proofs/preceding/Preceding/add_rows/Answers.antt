@@ -1,6 +1,6 @@
-use Rattle.re_auto.proofs.Prelude.{arith, ◌+◌, ◌*◌, ◌∙◌, inl, refl, Has, part_of}
+use Rattle.re_ends.proofs.Prelude.{arith, ◌+◌, ◌*◌, ◌∙◌, inl, refl, Has, part_of}
 use Rattle.re_auto.proofs.lemmas.BitLemmas.{one_added, none_left, chained}
-use Rattle.re_auto.proofs.step.preceding.Preceding.add_rows.Goals as goal
+use Rattle.re_ends.proofs.preceding.Preceding.add_rows.Goals as goal
 
 pub bits-init : goal.bits-init
 bits-init c = record { len = refl; among = λ b lt h. h; covers = c.requires.covers; added = λ e p made. ((λ h. h), (λ h. h)) }

@@ -1,13 +1,13 @@
-use Rattle.re_auto.proofs.Prelude.{arith, inl, inr, ◌≡◌, ◌⊎◌, ◌%◌, ◌/◌, ◌+◌, ◌*◌, ◌∙◌, length-set, cases_lt}
+use Rattle.re_ends.proofs.Prelude.{arith, inl, inr, ◌≡◌, ◌⊎◌, ◌%◌, ◌/◌, ◌∙◌, length-set, cases_lt}
 use Rattle.std.proofs.lemmas.Nat.Bits.{bit_at_lowest}
-use Rattle.re_auto.proofs.lemmas.RangeLemmas.{before_added, not_first, word_added}
-use Rattle.re_auto.proofs.step.preceding.add_before.Goals.{then-members-eq0-via-then-members-eq0, then-members-eq0-via-else-members-eq0+then-k-eq0}
-use Rattle.re_auto.proofs.step.preceding.add_before.Goals as goal
+use Rattle.re_ends.proofs.lemmas.PrecedingLaws.{before_added, not_first, word_added}
+use Rattle.re_ends.proofs.preceding.add_before.Goals.{then-members-eq0-via-then-members-eq0, then-members-eq0-via-else-members-eq0+then-k-eq0}
+use Rattle.re_ends.proofs.preceding.add_before.Goals as goal
 
 pub returns-then-members-eq0-clause-covers : goal.returns-then-members-eq0-clause-covers
 returns-then-members-eq0-clause-covers c =
     let len = length-set c.args.set.now c.args.k _ in
-    c.with-here.ensures c.args.set.now _ c.requires.covers (omega (arith, len, c.requires.word.0)) len (λ q h. elim ((word_added c.args.set.now c.args.k (c.args.members / 2) c.requires.word.0 q).0 h) [ inl old ↦ inl old | inr new ↦ inr new.0 ])
+    c.with_word-here.ensures c.args.set.now _ c.requires.covers (omega (arith, len, c.requires.word.0)) len (λ q h. elim ((word_added c.args.set.now c.args.k (c.args.members / 2) c.requires.word.0 q).0 h) [ inl old ↦ inl old | inr new ↦ inr new.0 ])
 
 pub returns-then-members-eq0-clause-added : goal.returns-then-members-eq0-clause-added
 returns-then-members-eq0-clause-added c = λ p.
@@ -20,8 +20,8 @@ returns-then-members-eq0-clause-added c = λ p.
 pub returns-clause-covers : goal.returns-clause-covers
 returns-clause-covers c =
     let len = length-set c.args.set.now c.args.k _ in
-    let here = c.with-here.ensures c.args.set.now _ c.requires.covers (omega (arith, len, c.requires.word.0)) len (λ q h. elim ((word_added c.args.set.now c.args.k (c.args.members / 2) c.requires.word.0 q).0 h) [ inl old ↦ inl old | inr new ↦ inr new.0 ]) in
-    c.with.ensures _ c.insert.new.into here (omega (arith, c.insert.ensures.len, len, c.requires.word.0)) c.insert.ensures.len (λ q h. elim ((c.insert.ensures.inserted q).0 h) [ inl old ↦ inl old | inr same ↦ inr (omega (arith, same, c.if-k-eq0.false)) ])
+    let here = c.with_word-here.ensures c.args.set.now _ c.requires.covers (omega (arith, len, c.requires.word.0)) len (λ q h. elim ((word_added c.args.set.now c.args.k (c.args.members / 2) c.requires.word.0 q).0 h) [ inl old ↦ inl old | inr new ↦ inr new.0 ]) in
+    c.with_word.ensures _ c.insert.new.into here (omega (arith, c.insert.ensures.len, len, c.requires.word.0)) c.insert.ensures.len (λ q h. elim ((c.insert.ensures.inserted q).0 h) [ inl old ↦ inl old | inr same ↦ inr (omega (arith, same, c.if-k-eq0.false)) ])
 
 pub returns-clause-added : goal.returns-clause-added
 returns-clause-added c = λ p.

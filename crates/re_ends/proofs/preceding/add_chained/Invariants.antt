@@ -1,5 +1,5 @@
-use Rattle.re_auto.proofs.Prelude.{◌≡◌, ℕ, suc, ◌<◌, ◌↔◌, length, Has, row_of}
-use Rattle.re_auto.proofs.step.preceding.add_chained.Given as goal
+use Rattle.re_ends.proofs.Prelude.{◌≡◌, ℕ, suc, ◌<◌, ◌↔◌, length, Has, row_of}
+use Rattle.re_ends.proofs.preceding.add_chained.Given as goal
 
 -- those that are added are right
 abbrev pub invariant-positions : goal.invariant-positions

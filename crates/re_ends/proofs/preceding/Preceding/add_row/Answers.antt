@@ -1,5 +1,5 @@
-use Rattle.re_auto.proofs.Prelude.{arith, ap, sym, ◌∙◌, Some, slice_get-get_or}
-use Rattle.re_auto.proofs.step.preceding.Preceding.add_row.Goals as goal
+use Rattle.re_ends.proofs.Prelude.{arith, ap, sym, ◌∙◌, Some, slice_get-get_or}
+use Rattle.re_ends.proofs.preceding.Preceding.add_row.Goals as goal
 
 pub returns-clause-covers : goal.returns-clause-covers
 returns-clause-covers c =
