@@ -36,7 +36,7 @@ MOST_WORDS = {
     "docs/CHANGING.md": 1_620,
     "docs/ROADMAP.md": 570,
     "docs/GLOSSARY.md": 750,
-    "docs/LIBRARY.md": 870,
+    "docs/LIBRARY.md": 880,
     "crates/*/README.md": 3_130,
     "tests/README.md": 1_050,
     "capi/python/README.md": 500,
