@@ -5,7 +5,7 @@ ghost use Rattle.std.specs.Prelude.{replicate, true, vec_capacity};
 ghost use Rattle.re_syntax.specs.Bytes.{Text};
 ghost use Rattle.re_auto.specs.Meters.{Steps};
 ghost use Rattle.re_auto.specs.Searches.{AddsAtMost, FindsPart};
-ghost use Rattle.re_meter.specs.Meters.{AddsUpTo};
+ghost use Rattle.re_meter.specs.Meters.{AddsJust};
 ghost use Rattle.re_match.specs.Working.Aheads.{IsWindowOf, past};
 ghost use Rattle.re_search.specs.Working.LineParts.{AreAllEnds, AreEnds, AreEndsIn, ArePartsOf};
 ghost use Rattle.re_search.specs.Working.LineParts.{FindsBefore, spent};
@@ -144,7 +144,7 @@ impl LineParts {
         ensures seen { self.new.seen ≡ past line.now window.end }
         ensures room { self.new.room ≡ self.old.room }
         ensures same { IsSame matcher.old matcher.new }
-        ensures steps { AddsUpTo (window.end - window.start) 0 meter.old meter.new }
+        ensures steps { AddsJust (window.end - window.start) 0 meter.old meter.new }
     {
         self.open(line, window);
         matcher.add_ends(line, window, &mut self.ends, &mut self.spare, meter);

@@ -52,7 +52,7 @@ stretches-preserved c =
       room = c.look_at.ensures.room ∙ i.room;
       same = same_twice c.look_at.ensures.same (same_twice next same);
       steps = λ first before.
-          rw c.look_at.ensures.seen (window_steps c.stretches.parts.seen c.max-at.result c.in-In.window.start c.in-In.window.end _ first _ _ _ (omega (arith, c.max-at.ensures, c.seen.ensures)) on.1 is.0.0 is.1.0 (omega (arith, on.0)) (i.steps first before) c.in-In.ensures.steps.few c.look_at.ensures.steps);
+          rw c.look_at.ensures.seen (window_steps c.stretches.parts.seen c.max-at.result c.in-In.window.start c.in-In.window.end _ first _ _ _ (omega (arith, c.max-at.ensures, c.seen.ensures)) on.1 is.0.0 is.1.0 (omega (arith, on.0)) (i.steps first before) c.in-In.ensures.steps.few c.look_at.ensures.steps.few);
     }
 
 pub returns-in-Nothing-clause-reported : goal.returns-in-Nothing-clause-reported

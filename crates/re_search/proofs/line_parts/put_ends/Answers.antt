@@ -1,4 +1,4 @@
-use Rattle.re_search.proofs.Prelude.{◌≡◌, ◌∙◌, ◌+◌, ◌-◌, take, arith, length, take_all, length-map, length-replicate, get_or-replicate, ap, refl, get_or, matched_expression, expressions_of}
+use Rattle.re_search.proofs.Prelude.{◌≡◌, ◌∙◌, ◌+◌, ◌-◌, take, arith, length, take_all, length-map, length-replicate, get_or-replicate, ap, get_or, matched_expression, expressions_of}
 use Rattle.re_search.proofs.lemmas.OneMatcherMore.{one_more, steps_more}
 use Rattle.re_search.proofs.lemmas.KeptMatchers.{none_asked, one_kept}
 use Rattle.re_search.proofs.lemmas.LinePartsLaws.{no_ends, ends_more}

@@ -1,5 +1,5 @@
 use Rattle.re_search.proofs.Prelude.{◌≡◌, ◌+◌, None, Some, length, drop, ap, subst, arith, length-drop, take_rest, lines_of, expressions_of, sought_of, Sought, IsSought, FindsSought}
-use Rattle.re_search.proofs.lemmas.KeptMatchers.{none_asked, one_kept, same_over, same_sought}
+use Rattle.re_search.proofs.lemmas.KeptMatchers.{same_over, same_sought}
 use Rattle.re_search.proofs.lemmas.OneMatcher.{sought_alone}
 use Rattle.re_runs.proofs.lemmas.CountedBlocks.{counts_same}
 use Rattle.re_runs.proofs.lemmas.NextLines.{CountsTo, counts_next, counts_all}

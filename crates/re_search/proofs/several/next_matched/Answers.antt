@@ -1,5 +1,4 @@
 use Rattle.re_search.proofs.Prelude.{lines_of}
-use Rattle.re_search.proofs.lemmas.KeptMatchers.{none_asked, one_kept}
 use Rattle.re_search.proofs.lemmas.OneMatcher.{sought_alone}
 use Rattle.re_runs.proofs.lemmas.NextLines.{finds_same}
 use Rattle.re_search.proofs.several.next_matched.Goals as goal
