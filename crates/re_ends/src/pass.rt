@@ -203,10 +203,11 @@ fn walk_rows(
     ensures most { list.new.most ≡ list.old.most }
     ensures added { Adds asked.now stop from.place (max result.place 1) ends.old ends.new }
 {
+    let line = asked.line;
     let mut row = from.row;
     let mut place = from.place;
     'places: while place > stop {
-        let step = steps.step(row, asked.line[place - 1]);
+        let step = steps.step(row, line[place - 1]);
         if !steps.apply(step, list, place) {
             return Spot { place, row };
         }
