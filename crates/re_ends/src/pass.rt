@@ -97,6 +97,7 @@ impl Pass {
     }
 
     // Goes back over bytes whose steps are kept, and over one byte more.
+    #[inline(never)]
     fn onward(
         &mut self,
         asked: &Asked,
@@ -180,7 +181,7 @@ impl Pass {
 
 // Goes back over bytes whose steps are kept, down to `stop`. If it comes to the first place, that
 // has no end yet.
-#[inline(never)]
+#[inline(always)]
 fn walk_rows(
     steps: &KeptSteps,
     list: &mut EndList,
