@@ -97,6 +97,7 @@ impl Pass {
     }
 
     // Goes back over bytes whose steps are kept, and over one byte more.
+    #[inline(never)]
     fn onward(
         &mut self,
         asked: &Asked,
@@ -180,7 +181,7 @@ impl Pass {
 
 // Goes back over bytes whose steps are kept, down to `stop`. If it comes to the first place, that
 // has no end yet.
-#[inline(never)]
+#[inline(always)]
 fn walk_rows(
     steps: &KeptSteps,
     list: &mut EndList,
@@ -203,10 +204,11 @@ fn walk_rows(
     ensures most { list.new.most ≡ list.old.most }
     ensures added { Adds asked.now stop from.place (max result.place 1) ends.old ends.new }
 {
+    let line = asked.line;
     let mut row = from.row;
     let mut place = from.place;
     'places: while place > stop {
-        let step = steps.step(row, asked.line[place - 1]);
+        let step = steps.step(row, line[place - 1]);
         if !steps.apply(step, list, place) {
             return Spot { place, row };
         }

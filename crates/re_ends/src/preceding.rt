@@ -1,5 +1,6 @@
 //! For each position of an automaton, the positions that can come directly before it.
-ghost use Rattle.std.specs.Prelude.{◌≡◌, ℕ, suc, ◌+◌, ◌*◌, ◌/◌, ◌<◌, ◌≤◌, ◌↔◌, ◌⊎◌, IfOk, IsTrue, List, length};
+ghost use Rattle.std.specs.Prelude.{◌≡◌, ℕ, suc, ◌+◌, ◌*◌, ◌/◌, ◌<◌, ◌≤◌, ◌↔◌, ◌⊎◌};
+ghost use Rattle.std.specs.Prelude.{IfOk, IsTrue, List, length};
 ghost use Rattle.std.specs.Int.{bit_at};
 ghost use Rattle.re_trees.specs.Expression.{Expression};
 ghost use Rattle.re_trees.specs.Holds.{positions};
@@ -46,8 +47,8 @@ impl Preceding {
         })
     }
 
-    /// Adds the positions that can come directly before the members of word `k` of a set to another,
-    /// and returns a range of words that covers it, from one that covered it before.
+    /// Adds the positions that can come directly before the members of word `k` of a set to
+    /// another, and returns a range of words that covers it, from one that covered it before.
     #[inline(always)]
     pub fn add_to(&self, set: &mut [u64], range: WordRange, k: usize, members: u64) -> WordRange
         requires made { (e : Expression) × ArePrecedingFor e self.now ×
@@ -193,7 +194,8 @@ fn is_only(set: &[u64], range: WordRange, p: usize) -> bool
     set[k] == 1 << (p % 64)
 }
 
-// Gives each position a row of those that can come directly before it. The rows have no members yet.
+// Gives each position a row of those that can come directly before it. The rows have no members
+// yet.
 fn turn(automaton: &Automaton, only: &mut [u64], rows: &mut [u64])
     requires few { positions (expression_of automaton.now) ≤ most_positions }
     requires only { length only.old ≡ words_for (positions (expression_of automaton.now)) }
