@@ -139,12 +139,7 @@ pub fn next_matched(
 /// How many lines of a block of whole lines some matcher matches. `whole` is what all matchers
 /// answer to whether the whole line has to be matched. It takes at most one step for each matcher
 /// and byte, and passes at most as many bytes.
-pub fn count_matched(
-    matchers: &mut [Matcher],
-    whole: bool,
-    block: &[u8],
-    meter: &mut Meter,
-) -> u64
+pub fn count_matched(matchers: &mut [Matcher], whole: bool, block: &[u8], meter: &mut Meter) -> u64
     requires alike { AreAlike whole matchers.old }
     requires block { IsBlock block.now }
     ensures reported { CountsSought (sought_of whole matchers.old) (lines_of block.now) result }

@@ -28,9 +28,11 @@ returns-then-is_match-clause-reported c =
     let d = c.matcher-item.result in
     let es = c.loop-matcher.invariant.same_matchers.same_expressions in
     let ws = c.loop-matcher.invariant.same_matchers.same_wholes in
-    let h = c.loop-matcher-test.true in
-    (λ _. one_matches old _ c.requires.alike _ i _ _ (within wants_whole old now ws i d h).1 (value_at wants_whole old now ws i d h _) (within matched_expression old now es i d h).1 (value_at matched_expression old now es i d h _)
-    (c.if-is_match.ensures.reported.0 refl), λ _. refl)
+    let h = c.loop-matcher-test.true in (
+      λ _. one_matches old _ c.requires.alike _ i _ _ (within wants_whole old now ws i d h).1 (value_at wants_whole old now ws i d h _) (within matched_expression old now es i d h).1 (value_at matched_expression old now es i d h _)
+          (c.if-is_match.ensures.reported.0 refl),
+      λ _. refl,
+    )
 
 pub returns-then-is_match-clause-same_matchers : goal.returns-then-is_match-clause-same_matchers
 returns-then-is_match-clause-same_matchers c = one_kept c.loop-matcher.invariant.same_matchers _ c.matcher-item.result _ c.is_match.ensures.same
