@@ -37,6 +37,7 @@ impl Model for Patterns {
     ghost use Rattle.std.specs.Coded.{codes};
     ghost use Rattle.re_search.specs.Working.Matchers.{AreAlike};
     ghost use Rattle.re_search.specs.contracts.matcher.Matcher as matcher;
+    ghost use Rattle.grep_utility.specs.Working.ServingMatchers.{HaveRoom};
     ghost use Rattle.gaxtrel.specs.Kept.{Kept};
 
     ghost Value = { Kept };
@@ -45,7 +46,7 @@ impl Model for Patterns {
 
     ghost view = { λ p. record { matchers = p.matchers.items; whole = p.whole } };
 
-    ghost invariant = { λ p. AreAlike p.whole p.matchers.items };
+    ghost invariant = { λ p. AreAlike p.whole p.matchers.items × HaveRoom p.matchers.items };
 }
 
 impl Patterns {

@@ -36,7 +36,7 @@ pub use Rattle.grep_utility.specs.Working.Numbers.{digit_of}
 unfoldable pub use Rattle.grep_utility.specs.Working.Operands.{StandsAt}
 pub use Rattle.grep_utility.specs.Working.Prepared.{HasNumber, IsDue, IsPrepared, due_text}
 pub use Rattle.grep_utility.specs.Working.Returned.{HasReturned}
-pub use Rattle.grep_utility.specs.Working.ServingMatchers.{AreGrouped, ArePatterns, AreReadAs, AreStrings, IsJoined, ServeFor}
+pub use Rattle.grep_utility.specs.Working.ServingMatchers.{AreGrouped, ArePatterns, AreReadAs, AreStrings, IsJoined, ServeFor, most_kept}
 pub use Rattle.grep_utility.specs.Working.Tokens.{AreUsedUp, drafted, token_of, tokens_from, tokens_left, words_left}
 pub use Rattle.grep_utility.specs.Working.Worked.{BrokenFollows, RowFollows, broken_messages, broken_output, broken_text, broken_words, row_messages, row_output, row_text, row_words}
 pub use Rattle.grep_utility.specs.declared.patterns.FileRead.TheVariants.{Broken, Whole}
@@ -52,7 +52,7 @@ pub use Rattle.grep_utility.specs.declared.words.tokens.Meaning.TheVariants.{Tak
 pub use Rattle.re_search.specs.Meters.{Steps}
 pub use Rattle.re_search.specs.Reading.{IsOutOfMemory, IsReadable}
 pub use Rattle.re_search.specs.Working.Literals.{literal_meaning}
-pub use Rattle.re_search.specs.Working.Matchers.{expressions_of, matched_expression, wants_whole}
+pub use Rattle.re_search.specs.Working.Matchers.{expressions_of, matched_expression, room_of, wants_whole}
 pub use Rattle.re_search.specs.Working.Patterns.{IsCounted, IsPattern, meaning, meant_by, pattern_expression}
 pub use Rattle.re_search.specs.Working.Strings.{AddsStrings, string_expression}
 pub use Rattle.re_search.specs.declared.matcher.Matcher.{Matcher}

@@ -1,5 +1,5 @@
 -- Patterns that are joined into choices, one more at a time.
-use Rattle.grep_utility.proofs.Prelude.{◌≡◌, ◌≤◌, inl, inr, All, List, [], ◌∷◌, ◌++◌, Bool, length, length-append, map, refl, sym, ap, ◌∙◌, subst, arith, map-append, length-map, append_assoc, append-nil, All-push, Syntax, Text, Expression, alt, Matcher, matched_expression, expressions_of, wants_whole, Options, Pattern, meant_by, ArePatterns, AreGrouped, ServeFor, IsSameChoice}
+use Rattle.grep_utility.proofs.Prelude.{◌≡◌, ◌≤◌, inl, inr, All, List, [], ◌∷◌, ◌++◌, Bool, length, length-append, map, refl, sym, ap, ◌∙◌, subst, arith, map-append, length-map, append_assoc, append-nil, All-push, Syntax, Text, Expression, alt, Matcher, matched_expression, expressions_of, room_of, wants_whole, Options, Pattern, meant_by, ArePatterns, AreGrouped, ServeFor, most_kept, IsSameChoice}
 use Rattle.grep_core.proofs.lemmas.SameChoice.{alt-is_same}
 use Rattle.grep_utility.proofs.lemmas.ServingLemmas.{of_either, of_first, of_second, more_choices, patterns_meant}
 
@@ -8,15 +8,11 @@ pub not_none : {A : Type 0} (xs : List A) → (xs ≡ [] → ⊥) → 1 ≤ leng
 not_none [] h = absurd (h refl)
 not_none (x ∷ xs) h = omega arith
 
+-- one matcher more is as the others are
+more_alike : {A : Type 0} (f : Matcher → A) (P : A → Type 0) (matchers : List Matcher) (m : Matcher) (new : List Matcher) → new ≡ matchers ++ m ∷ [] → All P (map f matchers) → P (f m) → All P (map f new)
+more_alike f P matchers m new is all one = subst (All P) (sym (ap (map f) is ∙ map-append f matchers (m ∷ []))) (All-push P (map f matchers) (f m) all one)
+
 module _ (whole : Bool) where
-  abbrev Answer : List Matcher → Type 0
-  Answer matchers = All (λ w. w ≡ whole) (map wants_whole matchers)
-
-  -- one matcher more answers for the whole line as the others do
-  wholes_more : (matchers : List Matcher) (m : Matcher) (new : List Matcher) → new ≡ matchers ++ m ∷ [] → Answer matchers → wants_whole m ≡ whole → Answer new
-  wholes_more matchers m new is all one =
-      subst (All (λ w. w ≡ whole)) (sym (ap (map wants_whole) is ∙ map-append wants_whole matchers (m ∷ []))) (All-push (λ w. w ≡ whole) (map wants_whole matchers) (wants_whole m) all one)
-
   module _ (es : List Expression) (matchers : List Matcher) (choice : List Expression) (g : AreGrouped whole es matchers choice) where
     abbrev ms : List Expression
     ms = expressions_of matchers
@@ -27,14 +23,16 @@ module _ (whole : Bool) where
       same = subst (λ ds. IsSameChoice ds (es ++ e ∷ [])) (append_assoc ms choice (e ∷ []) ∙ ap (λ c. ms ++ c) (sym is)) (more_choices (ms ++ choice) es (e ∷ []) e g.same (omega arith) refl);
       fewer = omega (arith, g.fewer, ap length is, length-append choice (e ∷ []), length-append es (e ∷ []));
       wholes = g.wholes;
+      rooms = g.rooms;
     }
 
     -- the choice gets its matcher
-    pub choice_closes : (m : Matcher) (new : List Matcher) → new ≡ matchers ++ m ∷ [] → 1 ≤ length choice → matched_expression m ≡ alt choice → wants_whole m ≡ whole → AreGrouped whole es new []
-    choice_closes m new is some means answers = record {
+    pub choice_closes : (m : Matcher) (new : List Matcher) → new ≡ matchers ++ m ∷ [] → 1 ≤ length choice → matched_expression m ≡ alt choice → wants_whole m ≡ whole → room_of m ≤ most_kept → AreGrouped whole es new []
+    choice_closes m new is some means answers room = record {
       same = subst (λ ds. IsSameChoice ds es) (sym all) closed;
       fewer = omega (arith, g.fewer, some, ap length is, length-append matchers (m ∷ []));
-      wholes = wholes_more matchers m new is g.wholes answers;
+      wholes = more_alike wants_whole (λ w. w ≡ whole) matchers m new is g.wholes answers;
+      rooms = more_alike room_of (λ n. n ≤ most_kept) matchers m new is g.rooms room;
     }
       where
         all : expressions_of new ++ [] ≡ ms ++ alt choice ∷ []
@@ -47,11 +45,12 @@ module _ (whole : Bool) where
         )
 
   -- one expression more gets a matcher of its own
-  pub pattern_alone : (es : List Expression) (matchers : List Matcher) (g : AreGrouped whole es matchers []) (e : Expression) (m : Matcher) (new : List Matcher) → new ≡ matchers ++ m ∷ [] → matched_expression m ≡ e → wants_whole m ≡ whole → AreGrouped whole (es ++ e ∷ []) new []
-  pattern_alone es matchers g e m new is means answers = record {
+  pub pattern_alone : (es : List Expression) (matchers : List Matcher) (g : AreGrouped whole es matchers []) (e : Expression) (m : Matcher) (new : List Matcher) → new ≡ matchers ++ m ∷ [] → matched_expression m ≡ e → wants_whole m ≡ whole → room_of m ≤ most_kept → AreGrouped whole (es ++ e ∷ []) new []
+  pattern_alone es matchers g e m new is means answers room = record {
     same = subst (λ ds. IsSameChoice ds (es ++ e ∷ [])) (sym all) (more_choices (ms ++ []) es (e ∷ []) e g.same (omega arith) refl);
     fewer = omega (arith, g.fewer, ap length is, length-append matchers (m ∷ []), length-append es (e ∷ []));
-    wholes = wholes_more matchers m new is g.wholes answers;
+    wholes = more_alike wants_whole (λ w. w ≡ whole) matchers m new is g.wholes answers;
+    rooms = more_alike room_of (λ n. n ≤ most_kept) matchers m new is g.rooms room;
   }
     where
       ms : List Expression
@@ -71,5 +70,6 @@ groups_serve syntax options texts patterns matchers are g =
       same = subst (λ ds. IsSameChoice ds (map (meant_by options.ignore_case) patterns)) (append-nil (expressions_of matchers)) g.same;
       fewer = omega (arith, g.fewer, length-map matchers matched_expression);
       wholes = g.wholes;
+      rooms = g.rooms;
       readable = readable;
     }

@@ -1,5 +1,5 @@
 -- One matcher for strings serves for the patterns that are these.
-use Rattle.grep_utility.proofs.Prelude.{◌≡◌, ℕ, ◌≤◌, ◌⊎◌, inl, inr, ◌↔◌, Bool, true, false, All, Any, List, [], ◌∷◌, ◌++◌, length, map, refl, sym, ap, ◌∙◌, subst, arith, map-append, length-map, All-nil, All-cons, All-push, AllZip, Syntax, Text, Expression, alt, alt_more, choice, Holds, folded, IsMeant, literal_meaning, AddsStrings, string_expression, IsReadable, Matcher, matched_expression, wants_whole, Options, IsSameChoice, Pattern, meaning, meant_by, pattern_expression, IsCounted, ArePatterns, AreGrouped, AreReadAs, IsJoined}
+use Rattle.grep_utility.proofs.Prelude.{◌≡◌, ℕ, ◌≤◌, ◌⊎◌, inl, inr, ◌↔◌, Bool, true, false, All, Any, List, [], ◌∷◌, ◌++◌, length, map, refl, sym, ap, ◌∙◌, subst, arith, map-append, length-map, All-nil, All-cons, All-push, AllZip, Syntax, Text, Expression, alt, alt_more, choice, Holds, folded, IsMeant, literal_meaning, AddsStrings, string_expression, IsReadable, Matcher, matched_expression, room_of, wants_whole, Options, IsSameChoice, Pattern, meaning, meant_by, pattern_expression, IsCounted, ArePatterns, AreGrouped, AreReadAs, IsJoined, most_kept}
 use Rattle.re_syntax.proofs.lemmas.Decisions.{Any-first, Any-later, Any-cases, Any-none}
 use Rattle.re_search.proofs.lemmas.ReadingLaws.{read_meant}
 use Rattle.grep_core.proofs.lemmas.SameChoice.{alt-holds, alt-is_same}
@@ -100,4 +100,5 @@ joined_grouped options patterns strings matchers read some joined =
       same = λ line i j. (λ a. (read line i j).0 ((choice line i j).0 a), λ a. (choice line i j).1 ((read line i j).1 a));
       fewer = omega (arith, some, length-map patterns (meant_by options.ignore_case));
       wholes = All-push (λ w. w ≡ options.line_regexp) [] (wants_whole joined.one) (λ i d h. absurd (omega (arith, h))) joined.whole;
+      rooms = All-push (λ n. n ≤ most_kept) [] (room_of joined.one) (λ i d h. absurd (omega (arith, h))) (omega (arith, joined.room));
     })

@@ -1,5 +1,5 @@
 -- The matchers that a search uses for the patterns of a request.
-use Rattle.std.specs.Prelude.{◌≡◌, ◌≤◌, ◌+◌, Bool, List, [], ◌∷◌, ◌++◌, length, map, All}
+use Rattle.std.specs.Prelude.{◌≡◌, ℕ, ◌≤◌, ◌+◌, Bool, List, [], ◌∷◌, ◌++◌, length, map, All}
 use Rattle.std.specs.List.{AllZip}
 use Rattle.re_syntax.specs.declared.syntax.Syntax.{Syntax}
 use Rattle.re_syntax.specs.Bytes.{Text}
@@ -8,12 +8,20 @@ use Rattle.re_search.specs.declared.matcher.Matcher.{Matcher}
 use Rattle.re_search.specs.Reading.{IsReadable}
 use Rattle.re_search.specs.Working.Literals.{any_literal, literal_meaning}
 use Rattle.re_search.specs.Working.Matchers.{AreAlike, expressions_of, matched_expression}
-use Rattle.re_search.specs.Working.Matchers.{wants_whole}
+use Rattle.re_search.specs.Working.Matchers.{room_of, wants_whole}
 use Rattle.re_search.specs.declared.pattern.Pattern.{Pattern}
 use Rattle.re_search.specs.Working.Patterns.{meant_by, IsPattern}
 use Rattle.grep_core.specs.declared.options.Options.{Options}
 use Rattle.grep_core.specs.Files.{AreMeant}
 use Rattle.grep_core.specs.Working.SameChoice.{IsSameChoice}
+
+-- how many entries the cache of a matcher may have at most
+abbrev pub most_kept : ℕ
+most_kept = 16384
+
+-- no cache may have more
+abbrev pub HaveRoom : List Matcher → Type 0
+HaveRoom matchers = All (λ room. room ≤ most_kept) (map room_of matchers)
 
 -- matchers of the same choice as what the patterns mean, and no more than these; each pattern is
 -- readable
@@ -24,6 +32,7 @@ pub record ServeFor (syntax : Syntax) (options : Options) (texts : List Text)
   pub same : IsSameChoice (expressions_of matchers) es
   pub fewer : length (expressions_of matchers) ≤ length es
   pub wholes : AreAlike options.line_regexp matchers
+  pub rooms : HaveRoom matchers
   pub readable : All (IsReadable syntax options.ignore_case) texts
 
 -- what patterns are read as
@@ -37,6 +46,7 @@ pub record AreGrouped (whole : Bool) (es : List Expression) (matchers : List Mat
   pub same : IsSameChoice (expressions_of matchers ++ choice) es
   pub fewer : length matchers + length choice ≤ length es
   pub wholes : AreAlike whole matchers
+  pub rooms : HaveRoom matchers
 
 -- the patterns are strings: they mean the same choice as these
 abbrev pub AreReadAs : Bool → List Pattern → List Text → Type 0
@@ -56,3 +66,4 @@ pub record IsJoined (options : Options) (strings : List Text)
   pub expression : matched_expression one ≡
       any_literal (record { texts = strings; fold = options.ignore_case })
   pub whole : wants_whole one ≡ options.line_regexp
+  pub room : room_of one ≡ 0

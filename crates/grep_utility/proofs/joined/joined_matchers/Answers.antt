@@ -1,4 +1,4 @@
-use Rattle.grep_utility.proofs.Prelude.{◌≡◌, rules, [], ◌∷◌, ◌++◌, List, length, arith, refl, sym, ap, ◌∙◌, subst, append-nil, append_assoc, map, map-append, All-nil, All-head, All-tail, meant_by, IsCounted, AreGrouped, Pattern}
+use Rattle.grep_utility.proofs.Prelude.{◌≡◌, ◌≤◌, rules, [], ◌∷◌, ◌++◌, List, length, arith, refl, sym, ap, ◌∙◌, subst, append-nil, append_assoc, map, map-append, All-nil, All-head, All-tail, meant_by, IsCounted, AreGrouped, most_kept, Pattern}
 use Rattle.std.specs.Vec.Iter.{into_iter_items}
 use Rattle.re_syntax.specs.Working.Trees.{expression_of}
 use Rattle.grep_utility.proofs.joined.joined_matchers.Goals as goal
@@ -6,7 +6,7 @@ use Rattle.grep_utility.proofs.joined.joined_matchers.Goals as goal
 pub loop-pattern-init : goal.loop-pattern-init
 loop-pattern-init c =
     let options = c.args.options.now in
-    (search rules, search rules, search rules, rw (c.new.ensures.items, c.new-2.ensures) (record { same = λ line i j. (λ a. a, λ a. a); fewer = omega arith; wholes = All-nil (λ w. w ≡ options.line_regexp) }))
+    (search rules, search rules, search rules, rw (c.new.ensures.items, c.new-2.ensures) (record { same = λ line i j. (λ a. a, λ a. a); fewer = omega arith; wholes = All-nil (λ w. w ≡ options.line_regexp); rooms = All-nil (λ n. n ≤ most_kept) }))
 
 pub add-requires : goal.add-requires
 add-requires c = All-head (IsCounted c.args.options.now.ignore_case) c.in-Some.pattern (into_iter_items c.next.new.self) (rw c.in-Some.ensures.steps.0 at c.loop-pattern.invariant.2)

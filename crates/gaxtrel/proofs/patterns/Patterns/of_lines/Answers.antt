@@ -7,7 +7,7 @@ use Rattle.re_search.specs.Working.Matchers.{AreAlike}
 use Rattle.gaxtrel.proofs.patterns.Patterns.of_lines.Goals as goal
 
 pub invariant_of-result : goal.invariant_of-result
-invariant_of-result c = subst (λ w. AreAlike w c.in-Ok.matchers.items) c.reading-options.ensures.whole c.in-Ok.ensures.ok.wholes
+invariant_of-result c = (subst (λ w. AreAlike w c.in-Ok.matchers.items) c.reading-options.ensures.whole c.in-Ok.ensures.ok.wholes, c.in-Ok.ensures.ok.rooms)
 
 pub returns-clause-made : goal.returns-clause-made
 returns-clause-made c =

@@ -21,5 +21,5 @@ returns c es g =
     let none : c.push.new.self.choice ≡ [] = c.push.ensures.same ∙ c.in_ok-close.ensures.empty in
     IfOk-weaker c.push.result _ _
     (λ x pushed. subst (λ ts. AreGrouped options.line_regexp (es ++ e ∷ []) c.push.new.self.matchers.items (map expression_of ts)) (sym none)
-    (pattern_alone options.line_regexp es c.close.new.self.matchers.items (c.in_ok-close.ensures.closed es g) e c.in_ok-matcher.matcher c.push.new.self.matchers.items pushed c.in_ok-matcher.ensures.expression c.in_ok-matcher.ensures.whole))
+    (pattern_alone options.line_regexp es c.close.new.self.matchers.items (c.in_ok-close.ensures.closed es g) e c.in_ok-matcher.matcher c.push.new.self.matchers.items pushed c.in_ok-matcher.ensures.expression c.in_ok-matcher.ensures.whole c.in_ok-matcher.ensures.room))
     c.push.ensures.pushed

@@ -8,4 +8,4 @@ returns-clause-closed c = λ es g.
     let choice = c.args.self.now.choice in
     let some : 1 ≤ length (map expression_of choice) = omega (arith, not_none choice (λ none. false≢true (c.if-is_empty.ensures.1 none)), length-map choice expression_of) in
     let means = c.in_ok-matcher.ensures.expression ∙ ap (λ ts. alt (map expression_of ts)) c.replace-choice.ensures.value in
-    IfOk-weaker c.push.result _ _ (λ x pushed. choice_closes c.args.whole es c.args.self.now.matchers.items (map expression_of choice) g c.in_ok-matcher.matcher c.push.new.self.matchers.items pushed some means c.in_ok-matcher.ensures.whole) c.push.ensures.pushed
+    IfOk-weaker c.push.result _ _ (λ x pushed. choice_closes c.args.whole es c.args.self.now.matchers.items (map expression_of choice) g c.in_ok-matcher.matcher c.push.new.self.matchers.items pushed some means c.in_ok-matcher.ensures.whole c.in_ok-matcher.ensures.room) c.push.ensures.pushed
