@@ -57,7 +57,7 @@ pub use Rattle.re_search.specs.Reading.{IsOutOfMemory, IsReadable}
 pub use Rattle.re_search.specs.Searches.{AddsAtMost}
 pub use Rattle.re_search.specs.Working.Blocks.{HoldsOfMany, IsNext}
 pub use Rattle.re_search.specs.Working.LineParts.{ArePartsOf, spent}
-pub use Rattle.re_search.specs.Working.Matchers.{AreAlike, AreSame, IsSame, matched_expression, room_of, wants_whole}
+pub use Rattle.re_search.specs.Working.Matchers.{AreSame, IsSame, matched_expression, room_of, wants_whole}
 pub use Rattle.re_search.specs.declared.matcher.Matcher.{Matcher}
 pub use Rattle.re_syntax.specs.Bytes.{Text}
 pub use Rattle.re_syntax.specs.Expression.{Expression, byte, cat, sequence}
