@@ -113,9 +113,8 @@ fn search_request<F: Files, W: CountedWrite, N: CountedWrite>(
 /// write is tried again, and neither device is flushed at the end.
 ///
 /// The meter counts at most as many steps, and at most as many passed bytes, as one search of each
-/// line for each pattern costs. If parts are written, a line costs one more search for each of its
-/// parts and one for its end, but at most four, unless the allocation for that line's list of ends
-/// failed. Before the files are searched nothing is counted.
+/// line for each pattern costs. The parts of a line cost one more search of it, however many they
+/// are. Before the files are searched nothing is counted.
 pub fn run_grep<F: Files, W: CountedWrite, M: CountedWrite>(
     alloc: Global,
     words: &[String],
