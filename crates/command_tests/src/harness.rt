@@ -1,7 +1,11 @@
 //! Files, devices and runs for the tests of searches and commands.
+ghost use Rattle.re_search.specs.Working.Matchers.{AreAlike};
+
 use crate::marks::{refuse, was_refused};
-use grep_cmd::{PatternSource, Request, read_words, run_grep, searchers_of};
-use grep_core::{CountedWrite, Limited, RunFault, SearchRequest, Status, Tally, search_all};
+use grep_cmd::{Matchers, PatternSource, Request, read_words, run_grep, searchers_of};
+use grep_core::{
+    CountedWrite, Limited, RunFault, SearchRequest, Sources, Status, Tally, search_all,
+};
 use memory_files::{Content, MemoryFile, MemoryFiles};
 use re_auto::fresh_meter;
 use std::alloc::{AllocError, Global};
@@ -191,16 +195,29 @@ pub fn searched_without<'a>(
         alloc,
         options: request.options,
     };
-    let answer = search_all(
-        &search,
-        &mut memory,
-        &mut matchers,
+    let answer = search_by(&search, &mut memory, &mut matchers, &mut devices);
+    let refused = was_refused(alloc);
+    Ok((devices.outcome(answer), refused))
+}
+
+// `search_all`, for sources whose type has lifetimes: see `Matchers`.
+fn search_by<S: Sources, L: Matchers>(
+    search: &SearchRequest,
+    sources: &mut S,
+    matchers: &mut L,
+    devices: &mut Devices,
+) -> Result<Status, RunFault>
+    requires in_order { S.stands_at sources.old 0 }
+    requires alike { AreAlike search.now.options.line_regexp (L.items matchers.old) }
+{
+    search_all(
+        search,
+        sources,
+        matchers.lend(),
         &mut devices.out,
         &mut devices.messages,
         &mut fresh_meter(),
-    );
-    let refused = was_refused(alloc);
-    Ok((devices.outcome(answer), refused))
+    )
 }
 
 /// Compares what a run of this line wrote; the place is one more number that identifies the run.

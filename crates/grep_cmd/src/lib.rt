@@ -6,7 +6,7 @@ mod reports;
 mod script;
 
 pub use grep_utility::{
-    FAILED, Files, OUT_OF_MEMORY, PatternSource, Request, USAGE, UsageFault, WRITE_ERROR,
+    FAILED, Files, Matchers, OUT_OF_MEMORY, PatternSource, Request, USAGE, UsageFault, WRITE_ERROR,
     read_words, run_grep, searchers_of, write_usage_fault,
 };
 pub use laws::editors_follow;

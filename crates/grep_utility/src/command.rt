@@ -20,7 +20,7 @@ use std::alloc::Global;
 
 /// Several matchers. A call that names [`Matcher`], which holds what is `'static`, can't be proved
 /// where a type argument has a lifetime, as that of [`Operands`].
-trait Matchers {
+pub trait Matchers {
     /// The matchers.
     ghost items: { Self → List Matcher };
 

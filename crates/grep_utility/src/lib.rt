@@ -18,7 +18,7 @@ mod texts;
 mod usage;
 mod words;
 
-pub use command::run_grep;
+pub use command::{Matchers, run_grep};
 pub use files::Files;
 pub use laws::{broken_follows, failures_decide, row_follows, words_decide};
 pub use message_texts::{fail, send_messages};
