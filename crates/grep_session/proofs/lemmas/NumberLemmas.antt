@@ -37,15 +37,15 @@ has_without p n m gone stay (x ∷ ns) =
 
 has_below : (p n : ℕ) → n < p → (ns : List ℕ) → has_number n (without p ns) ≡ has_number n ns
 has_below p n h = has_without p n n (λ x e. grind (arith, nat_tests, h, e)) (λ x e. elim (cases_lt p x) [
-    | inl more ↦ rw (lt_yes p x more) (eq_no (x - 1) n (λ same. let no : ⊥ = omega (arith, same, more, h) in no) ∙ sym (eq_no x n (λ same. let no : ⊥ = omega (arith, same, more, h) in no)))
-    | inr less ↦ rw (lt_no p x less) refl
-  ])
+  | inl more ↦ rw (lt_yes p x more) (eq_no (x - 1) n (λ same. let no : ⊥ = omega (arith, same, more, h) in no) ∙ sym (eq_no x n (λ same. let no : ⊥ = omega (arith, same, more, h) in no)))
+  | inr less ↦ rw (lt_no p x less) refl
+])
 
 has_above : (p n : ℕ) → p ≤ n → (ns : List ℕ) → has_number n (without p ns) ≡ has_number (n + 1) ns
 has_above p n h = has_without p n (n + 1) (λ x e. grind (arith, nat_tests, h, e)) (λ x e. elim (cases_lt p x) [
-    | inl more ↦ rw (lt_yes p x more) (grind (arith, nat_tests, more))
-    | inr less ↦ rw (lt_no p x less) (grind (arith, nat_tests, h, e, less))
-  ])
+  | inl more ↦ rw (lt_yes p x more) (grind (arith, nat_tests, more))
+  | inr less ↦ rw (lt_no p x less) (grind (arith, nat_tests, h, e, less))
+])
 
 module _ (line : Text) (entire : Bool) where
   abbrev pub M : Expression → Type 0
@@ -129,9 +129,9 @@ module _ (line : Text) (entire : Bool) where
   -- one expression is removed
   pub AreMatching-drop : (p : ℕ) (es : List Expression) (ns : List ℕ) → p < length es → AreMatching line entire 0 es ns → AreMatching line entire 0 (remove es p) (without p ns)
   AreMatching-drop p es ns h a = by_number (remove es p) (without p ns) (λ n d. elim (cases_lt n p) [
-      | inl low ↦ one n n d (has_below p n low ns) (get_or-remove_below es p d n low h) (λ q. omega (arith, low, h)) (λ q. omega (arith, low, h, fewer))
-      | inr high ↦ one n (n + 1) d (has_above p n high ns) (get_or-remove_above es p d n high h) (λ q. omega (arith, q, fewer)) (λ q. omega (arith, q, fewer))
-    ])
+    | inl low ↦ one n n d (has_below p n low ns) (get_or-remove_below es p d n low h) (λ q. omega (arith, low, h)) (λ q. omega (arith, low, h, fewer))
+    | inr high ↦ one n (n + 1) d (has_above p n high ns) (get_or-remove_above es p d n high h) (λ q. omega (arith, q, fewer)) (λ q. omega (arith, q, fewer))
+  ])
     where
       fewer : length (remove es p) + 1 ≡ length es
       fewer = length-remove es p h

@@ -46,9 +46,9 @@ module _ (line : Text) (entire : Bool) where
   -- patterns that do not match the line are added
   pub parts_survive : (es fs : List Expression) → (Any M fs → ⊥) → (from : ℕ) (ps : List (ℕ × ℕ)) → ArePartsFrom es line entire from ps → ArePartsFrom (es ++ fs) line entire from ps
   parts_survive es fs none = same_parts es (es ++ fs) (λ e m at. (at.0, omega (arith, at.1, length-append es fs), get_or-append es fs e at.0 at.1 ∙ at.2)) (λ e m at. elim (cases_lt at.0 (length es)) [
-      | inl low ↦ (at.0, low, sym (get_or-append es fs e at.0 low) ∙ at.2)
-      | inr high ↦ absurd (none (at.0 - length es, e, omega (arith, at.1, high, length-append es fs), sym (get_or-append_right es fs at.0 e high) ∙ at.2, m))
-    ])
+    | inl low ↦ (at.0, low, sym (get_or-append es fs e at.0 low) ∙ at.2)
+    | inr high ↦ absurd (none (at.0 - length es, e, omega (arith, at.1, high, length-append es fs), sym (get_or-append_right es fs at.0 e high) ∙ at.2, m))
+  ])
 
   module _ (es : List Expression) (p : ℕ) (d : Expression) (h : p < length es) (none : M (get_or es p d) → ⊥) where
     not_it : (e : Expression) (k : ℕ) → M e → get_or es k e ≡ e → k ≡ p → ⊥
@@ -57,22 +57,22 @@ module _ (line : Text) (entire : Bool) where
     -- one is removed
     pub parts_without : (from : ℕ) (ps : List (ℕ × ℕ)) → ArePartsFrom es line entire from ps → ArePartsFrom (remove es p) line entire from ps
     parts_without = same_parts es (remove es p) (λ e m at. elim (cases_lt at.0 p) [
-        | inl low ↦ (at.0, omega (arith, low, h, length-remove es p h), get_or-remove_below es p e at.0 low h ∙ at.2)
-        | inr high ↦ (
-            let more : p + 1 ≤ at.0 = elim (cases_lt p at.0) [ inl l ↦ omega (arith, l) | inr g ↦ absurd (not_it e at.0 m at.2 (omega (arith, high, g))) ] in
-            let next : at.0 - 1 + 1 ≡ at.0 = omega (arith, more) in
-            (at.0 - 1, omega (arith, at.1, more, length-remove es p h), get_or-remove_above es p e (at.0 - 1) (omega (arith, more)) h ∙ ap (λ n. get_or es n e) next ∙ at.2))
-      ]) (λ e m at. elim (cases_lt at.0 p) [
-        | inl low ↦ (at.0, omega (arith, low, h), sym (get_or-remove_below es p e at.0 low h) ∙ at.2)
-        | inr high ↦ (at.0 + 1, omega (arith, at.1, length-remove es p h), sym (get_or-remove_above es p e at.0 high h) ∙ at.2)
-      ])
+      | inl low ↦ (at.0, omega (arith, low, h, length-remove es p h), get_or-remove_below es p e at.0 low h ∙ at.2)
+      | inr high ↦ (
+          let more : p + 1 ≤ at.0 = elim (cases_lt p at.0) [ inl l ↦ omega (arith, l) | inr g ↦ absurd (not_it e at.0 m at.2 (omega (arith, high, g))) ] in
+          let next : at.0 - 1 + 1 ≡ at.0 = omega (arith, more) in
+          (at.0 - 1, omega (arith, at.1, more, length-remove es p h), get_or-remove_above es p e (at.0 - 1) (omega (arith, more)) h ∙ ap (λ n. get_or es n e) next ∙ at.2))
+    ]) (λ e m at. elim (cases_lt at.0 p) [
+      | inl low ↦ (at.0, omega (arith, low, h), sym (get_or-remove_below es p e at.0 low h) ∙ at.2)
+      | inr high ↦ (at.0 + 1, omega (arith, at.1, length-remove es p h), sym (get_or-remove_above es p e at.0 high h) ∙ at.2)
+    ])
 
     -- one is replaced
     pub parts_replaced : (y : Expression) → (M y → ⊥) → (from : ℕ) (ps : List (ℕ × ℕ)) → ArePartsFrom es line entire from ps → ArePartsFrom (set es p y) line entire from ps
     parts_replaced y no_more = same_parts es (set es p y) (λ e m at. elim (cases_eq at.0 p) [
-        | inl here ↦ absurd (not_it e at.0 m at.2 here)
-        | inr apart ↦ (at.0, omega (arith, at.1, length-set es p y), get_or-set_other es p at.0 y e apart ∙ at.2)
-      ]) (λ e m at. elim (cases_eq at.0 p) [
-        | inl here ↦ absurd (no_more (subst M (sym at.2 ∙ ap (λ n. get_or (set es p y) n e) here ∙ get_or-set_same es p y e h) m))
-        | inr apart ↦ (at.0, omega (arith, at.1, length-set es p y), sym (get_or-set_other es p at.0 y e apart) ∙ at.2)
-      ])
+      | inl here ↦ absurd (not_it e at.0 m at.2 here)
+      | inr apart ↦ (at.0, omega (arith, at.1, length-set es p y), get_or-set_other es p at.0 y e apart ∙ at.2)
+    ]) (λ e m at. elim (cases_eq at.0 p) [
+      | inl here ↦ absurd (no_more (subst M (sym at.2 ∙ ap (λ n. get_or (set es p y) n e) here ∙ get_or-set_same es p y e h) m))
+      | inr apart ↦ (at.0, omega (arith, at.1, length-set es p y), sym (get_or-set_other es p at.0 y e apart) ∙ at.2)
+    ])
