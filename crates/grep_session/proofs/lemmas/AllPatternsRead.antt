@@ -1,5 +1,6 @@
 -- All patterns were read again.
-use Rattle.grep_session.proofs.Prelude.{◌≡◌, Bool, true, false, IsTrue, MatchBool, List, [], map, Option, None, Some, IfSome, Result, Ok, Err, All, inl, inr, refl, sym, ap, subst, ◌∙◌, AllZip, Text, AreParts, IsMeant, Matcher, KeptFile, KeptLine, PartsOnly, WasKept, WasFileKept, Syntax, Expression, IsReadable, matched_expression, Flag, Count, IgnoreCase, FilesWithMatches, LineNumber, OnlyMatching, Quiet, NoMessages, InvertMatch, LineRegexp, Options, Inputs, EditFault, NoSuchFile, FileIsMissing, OutOfRange, LineHasNewline, NoSuchPattern, Pattern, TooManyPatterns, Memory, ReadsAgain, read_as, SetFlag, SetSyntax, Applies, EditGives, option_of, with_option, AreMatching, IsKept, IsFileKept, kept_lines, span_places, AreMatchers, RefusesFirst, false≢true, All-weaker, AreAlike}
+use Rattle.grep_session.proofs.Prelude.{◌≡◌, Bool, true, false, IsTrue, MatchBool, List, [], map, Option, None, Some, IfSome, Result, Ok, Err, All, inl, inr, refl, sym, ap, subst, ◌∙◌, AllZip, Text, AreParts, IsMeant, Matcher, KeptFile, KeptLine, PartsOnly, WasKept, WasFileKept, Syntax, Expression, IsReadable, matched_expression, Flag, Count, IgnoreCase, FilesWithMatches, LineNumber, OnlyMatching, Quiet, NoMessages, InvertMatch, LineRegexp, Options, Inputs, EditFault, NoSuchFile, FileIsMissing, OutOfRange, LineHasNewline, NoSuchPattern, Pattern, TooManyPatterns, Memory, ReadsAgain, read_as, SetFlag, SetSyntax, Applies, EditGives, option_of, with_option, AreMatching, IsKept, IsFileKept, kept_lines, span_places, AreMatchers, RefusesFirst, false≢true, All-weaker}
+use Rattle.re_search.specs.Working.Matchers.{AreAlike}
 use Rattle.std.specs.Bool.{⊤}
 
 -- some pattern was refused, or memory ran out

@@ -1,4 +1,5 @@
-use Rattle.grep_session.proofs.Prelude.{◌≡◌, [], refl, Ok, map, inl, sym, ap, subst, ◌∙◌, matched_expression, AreMatchers, Inputs, Edit, Applies, Touches, TakesSteps, parts_alone, read_as, inputs_of, all_lines, AreAlike}
+use Rattle.grep_session.proofs.Prelude.{◌≡◌, [], refl, Ok, map, inl, sym, ap, subst, ◌∙◌, matched_expression, AreMatchers, Inputs, Edit, Applies, Touches, TakesSteps, parts_alone, read_as, inputs_of, all_lines}
+use Rattle.re_search.specs.Working.Matchers.{AreAlike}
 use Rattle.grep_session.proofs.lemmas.EditLemmas.{left_session, searched_session}
 use Rattle.grep_session.proofs.lemmas.AllPatternsRead.{ready_files, AreMatchers-options}
 use Rattle.grep_session.proofs.lemmas.StepLemmas.{takes_parts}
