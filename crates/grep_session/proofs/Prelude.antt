@@ -33,11 +33,11 @@ pub use Rattle.line_marks.specs.Stretches.{Marked, Splices, lost, new_mark, whol
 pub use Rattle.grep_session.specs.Touched.{Costs, CostsAccepted, CostsAs, Narrows, NeedsNoMemory, TakesSteps, Touched, Touches, all_lines, pairs_cost, parting, parts_alone, searched_by, touched_by_flag}
 pub use Rattle.grep_session.specs.Working.Again.{AreReadable, ReadsAgain, read_as}
 pub use Rattle.grep_session.specs.Working.Changed.{HasChanged, HasNewParts, IsNarrower, IsParted, IsSought, IsWithin, SearchesEach, WasFileKept, WasKept, is_narrower, searched_for}
-pub use Rattle.grep_session.specs.Working.Columns.{AddsColumn, AddsColumns, AddsLater, AddsPairs, AddsSought, AreAllParts, AreLeft, AreMatches, ArePartsAgain, Grows, IsAmong, IsAmongOld, IsNextLine, KeepsAll, StaysSame, WereMatched, first_sought, has_new_parts, has_number, has_pair, is_parted, later_numbers, left_numbers, marked_cost, next_line_cost, past_sought, sought}
+pub use Rattle.grep_session.specs.Working.Columns.{AddsColumn, AddsColumns, AddsPairs, AddsSought, AreAllParts, AreLeft, AreMatches, ArePartsAgain, Grows, IsAmong, IsAmongOld, IsNextLine, KeepsAll, StaysSame, WereMatched, first_sought, has_new_parts, has_pair, is_parted, left_numbers, marked_cost, next_line_cost, past_sought, sought}
 pub use Rattle.grep_session.specs.Working.Counts.{SelectedFrom}
 pub use Rattle.grep_session.specs.Working.Effects.{LosesAll}
 pub use Rattle.grep_session.specs.Working.Found.{IsColumn, chunks_of, chunks_of_files, lines_of_files}
-pub use Rattle.grep_session.specs.Working.Kept.{AddsMatching, AreMatching, ArePartsKept, IsFileKept, IsKept, file_with, kept_file, kept_lines, span_places}
+pub use Rattle.grep_session.specs.Working.Kept.{AddsMatching, AreMatching, ArePartsKept, IsFileKept, IsKept, file_with, has_number, kept_file, kept_lines, span_places}
 pub use Rattle.grep_session.specs.Working.ListedParts.{listed_spans}
 pub use Rattle.grep_session.specs.Working.PatternRefusals.{RefusesFirst, reported_at, reported_by}
 pub use Rattle.grep_session.specs.Working.Report.{FileFits, LinesFit, OnLine, PartsFit, Reports, ReportsMessages, any_missing, any_selected, around_rows, end_of, end_with, file_rows, has_selected, has_selected_in, is_faulty, is_selected, matches_none, part_rows, report_rows, reported_from, reported_like, row, rows_after_laws, rows_as, rows_from, rows_with, selected_count, selected_rows, shown_rows, some_selected, status_by_files, status_given, text_rows}

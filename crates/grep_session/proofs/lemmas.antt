@@ -1,3 +1,4 @@
+pub mod NumberLemmas
 pub mod FindingLemmas
 pub mod SessionLemmas
 pub mod EditLemmas
@@ -10,10 +11,8 @@ pub mod ReadingLemmas
 pub mod AllPatternsRead
 pub mod DroppingLemmas
 pub mod AddingLemmas
-pub mod ReplacingLemmas
 pub mod PuttingLemmas
 pub mod SurvivingLemmas
-pub mod FindsLemmas
 pub mod StepLemmas
 pub mod MarkedLemmas
 pub mod ChangeLemmas

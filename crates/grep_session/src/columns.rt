@@ -32,10 +32,8 @@ fn is_same(change: Change, old: &Matches, new: &Matches) -> bool
 {
     match change {
         Change::Added(_) => old.len() == new.len(),
-        Change::Rebuild => false,
-        Change::PartsOnly => false,
-        Change::Dropped(_) => false,
         Change::Replaced(_, _) => old.len() == 0 && new.len() == 0,
+        _ => false,
     }
 }
 

@@ -10,7 +10,7 @@ ghost use Rattle.line_chunks.specs.Working.Chunks.{line_text};
 ghost use Rattle.line_chunks.specs.Working.Finds.{AreBelow};
 ghost use Rattle.grep_session.specs.Working.Changed.{IsWithin, is_narrower};
 ghost use Rattle.grep_session.specs.Working.Columns.{first_sought, past_sought, AreLeft, AddsColumn};
-ghost use Rattle.grep_session.specs.Working.Columns.{AddsLater, AreMatches, AddsPairs};
+ghost use Rattle.grep_session.specs.Working.Columns.{AreMatches, AddsPairs};
 ghost use Rattle.grep_session.specs.Working.Columns.{IsAmong, has_pair, marked_cost};
 
 use crate::change::Change;
@@ -89,11 +89,8 @@ fn is_narrower(change: Change) -> bool
     ensures { result ≡ is_narrower change }
 {
     match change {
-        Change::Rebuild => false,
-        Change::PartsOnly => false,
-        Change::Added(_) => false,
-        Change::Dropped(_) => false,
         Change::Replaced(_, narrower) => narrower,
+        _ => false,
     }
 }
 
@@ -103,10 +100,9 @@ fn first_sought(change: Change, many: usize) -> usize
 {
     match change {
         Change::Rebuild => 0,
-        Change::PartsOnly => many,
         Change::Added(first) => first,
-        Change::Dropped(_) => many,
         Change::Replaced(p, _) => p,
+        _ => many,
     }
 }
 
@@ -116,15 +112,12 @@ fn past_sought(change: Change, many: usize) -> usize
     ensures { result ≡ past_sought change many }
 {
     match change {
-        Change::Rebuild => many,
-        Change::PartsOnly => many,
-        Change::Added(_) => many,
-        Change::Dropped(_) => many,
         Change::Replaced(p, _) => p + 1,
+        _ => many,
     }
 }
 
-/// The old pairs that stay after a change: of patterns before those that are searched for.
+/// The old pairs that stay after a change.
 fn left_matches(
     search: &SearchContext,
     change: Change,
@@ -136,8 +129,6 @@ fn left_matches(
 {
     match change {
         Change::Rebuild => Ok(Matches::new(search.alloc)),
-        Change::PartsOnly => old.copied(search.alloc),
-        Change::Added(_) => old.copied(search.alloc),
         Change::Dropped(p) => {
             let mut matches = old.copied(search.alloc)?;
             matches.drop_number(p);
@@ -145,33 +136,10 @@ fn left_matches(
         }
         Change::Replaced(p, _) => {
             let mut matches = old.copied(search.alloc)?;
-            matches.keep_before(p);
+            matches.keep_others(p);
             Ok(matches)
         }
-    }
-}
-
-/// Adds the old pairs that stay after a change of patterns after those that are searched for.
-fn add_later(
-    search: &SearchContext,
-    change: Change,
-    size: usize,
-    old: &Matches,
-    matches: &mut Matches,
-) -> Result<(), AllocError>
-    requires { AreBelow size old.now }
-    ensures { IfOk result (λ _. AddsLater change size old.now matches.old matches.new) }
-{
-    match change {
-        Change::Rebuild => Ok(()),
-        Change::PartsOnly => Ok(()),
-        Change::Added(_) => Ok(()),
-        Change::Dropped(_) => Ok(()),
-        Change::Replaced(p, _) => {
-            let mut later = old.copied(search.alloc)?;
-            later.keep_after(p);
-            matches.append(later)
-        }
+        _ => old.copied(search.alloc),
     }
 }
 
@@ -200,8 +168,7 @@ pub fn find_matches(
         (marked_cost (has_pair (first_sought change (length matchers.old)) old.now) 1
         (map line_text chunk.now) (length chunk.now)) meter.old meter.new }
 {
-    let size = chunk.len();
-    let mut matches = left_matches(search, change, size, old)?;
+    let mut matches = left_matches(search, change, chunk.len(), old)?;
     let first = first_sought(change, matchers.len());
     if is_narrower(change) {
         narrow_column(
@@ -213,13 +180,11 @@ pub fn find_matches(
             &mut matches,
             meter,
         )?;
-        add_later(search, change, size, old, &mut matches)?;
         return Ok(matches);
     }
     let past = past_sought(change, matchers.len());
     for number in first..past {
         add_column(&mut matchers[number], number, chunk, &mut matches, meter)?;
     }
-    add_later(search, change, size, old, &mut matches)?;
     Ok(matches)
 }

@@ -34,8 +34,6 @@ fn marks_anew(
         ≡ has_new_parts change (numbers_at k old.now) (numbers_at k new.now)) }
 {
     match change {
-        Change::Rebuild => new.marks(search.alloc, size, 0),
-        Change::PartsOnly => new.marks(search.alloc, size, 0),
         Change::Added(_) => new.marks(search.alloc, size, old.len()),
         Change::Dropped(p) => old.marks_of(search.alloc, size, p),
         Change::Replaced(p, _) => {
@@ -43,6 +41,7 @@ fn marks_anew(
             new.add_marks_of(p, &mut marks);
             Ok(marks)
         }
+        _ => new.marks(search.alloc, size, 0),
     }
 }
 

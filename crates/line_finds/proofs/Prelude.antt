@@ -1,7 +1,7 @@
 -- The words of specs and of std that proofs of this crate use, passed on from one place. Declares nothing.
 pub use Rattle.line_finds.specs.Working.Finds.{AreBelow, Finds, FoundIn, finds_at, is_paired, lowered, no_finds, numbers_at, paired_before, without}
 pub use Rattle.line_finds.specs.Working.Marked.{AreAdded, AreMarks, set_before}
-pub use Rattle.line_finds.specs.Working.Pairs.{is_after, is_before, is_other, is_outside, lowered_pair, marked, marked_of, moved_pair, moved_to, pair_of, pairs_of}
+pub use Rattle.line_finds.specs.Working.Pairs.{is_other, is_outside, lowered_pair, marked, marked_of, moved_pair, moved_to, pair_of, pairs_of}
 pub use Rattle.line_finds.specs.Working.Spans.{AreLists, all_spans, cut_lists, ends_from}
 pub use Rattle.line_finds.specs.declared.matches.Match.{Match}
 pub use Rattle.re_trees.specs.declared.span.Span.{Span}

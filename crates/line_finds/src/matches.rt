@@ -1,10 +1,9 @@
 //! Which patterns match which lines of a chunk.
 ghost use Rattle.std.specs.Prelude.{◌≡◌, ℕ, ◌+◌, ◌-◌, ◌<◌, ◌≤◌, [], ◌∷◌, ◌++◌, false, length, map, take, drop, get_or};
-ghost use Rattle.std.specs.Prelude.{IfOk, OnErr, nat_eq, nat_lt, ◌||◌, replicate};
+ghost use Rattle.std.specs.Prelude.{IfOk, OnErr, not, nat_eq, ◌||◌, replicate};
 ghost use Rattle.std.specs.List.{filter, list_any};
 ghost use Rattle.line_finds.specs.Working.Finds.{numbers_at, is_paired, AreBelow, without};
 ghost use Rattle.line_finds.specs.Working.Pairs.{pairs_of, lowered_pair, is_other, is_outside, moved_pair, marked, marked_of, moved_to};
-ghost use Rattle.line_finds.specs.Working.Pairs.{is_before, is_after};
 
 use std::alloc::{AllocError, Global};
 use std::marker::Model;
@@ -16,8 +15,7 @@ struct Match {
     number: u32,
 }
 
-/// Which patterns match which lines: pairs of a line's number and a pattern's. Those of a line are
-/// in ascending order of the patterns; lines are in any order.
+/// Which patterns match which lines: pairs of a line's number and a pattern's, in any order.
 #[derive(Drop)]
 pub struct Matches {
     pairs: Vec<Match>,
@@ -81,31 +79,13 @@ impl Matches {
         drop_pattern(&mut self.pairs, p);
     }
 
-    /// Removes the patterns from `p` on. Nothing is allocated.
-    pub fn keep_before(&mut self, p: usize)
+    /// Removes the pairs of pattern `p`; later patterns keep their numbers. Nothing is allocated.
+    pub fn keep_others(&mut self, p: usize)
         ensures numbers { (k : ℕ) → numbers_at k self.new ≡
-            filter (λ n. nat_lt n p) (numbers_at k self.old) }
+            filter (λ n. not (nat_eq n p)) (numbers_at k self.old) }
         ensures within { (size : ℕ) → AreBelow size self.old → AreBelow size self.new }
     {
-        drop_from(&mut self.pairs, p);
-    }
-
-    /// Removes the patterns up to and with `p`; later patterns stay where they are. Nothing is
-    /// allocated.
-    pub fn keep_after(&mut self, p: usize)
-        ensures numbers { (k : ℕ) → numbers_at k self.new ≡
-            filter (λ n. nat_lt p n) (numbers_at k self.old) }
-        ensures within { (size : ℕ) → AreBelow size self.old → AreBelow size self.new }
-    {
-        drop_through(&mut self.pairs, p);
-    }
-
-    /// Adds other pairs. After a refusal the pairs are what they were.
-    pub fn append(&mut self, mut more: Matches) -> Result<(), AllocError>
-        ensures ok { IfOk result (λ _. self.new ≡ self.old ++ more) }
-        ensures err { OnErr result (self.new ≡ self.old) }
-    {
-        append_pairs(&mut self.pairs, &mut more.pairs)
+        drop_pairs(&mut self.pairs, p);
     }
 
     /// Of each of `size` lines whether some pair after the first `first` ones is of it.
@@ -241,29 +221,6 @@ fn drop_pairs(pairs: &mut Vec<Match>, p: usize)
     ensures { pairs.new.items ≡ filter (is_other p) pairs.old.items }
 {
     pairs.retain(|pair| pair.number as usize != p);
-}
-
-/// Removes the pairs of the patterns from `p` on.
-fn drop_from(pairs: &mut Vec<Match>, p: usize)
-    ensures { pairs.new.items ≡ filter (is_before p) pairs.old.items }
-{
-    pairs.retain(|pair| (pair.number as usize) < p);
-}
-
-/// Removes the pairs of the patterns up to and with `p`.
-fn drop_through(pairs: &mut Vec<Match>, p: usize)
-    ensures { pairs.new.items ≡ filter (is_after p) pairs.old.items }
-{
-    pairs.retain(|pair| p < pair.number as usize);
-}
-
-/// Adds other pairs, all or none.
-fn append_pairs(pairs: &mut Vec<Match>, more: &mut Vec<Match>) -> Result<(), AllocError>
-    ensures ok { IfOk result (λ _. pairs.new.items ≡ pairs.old.items ++ more.old.items) }
-    ensures err { OnErr result (pairs.new.items ≡ pairs.old.items) }
-{
-    pairs.append(more)?;
-    Ok(())
 }
 
 /// A pair after pattern `p` is removed.

@@ -1,13 +1,14 @@
 -- What is found in the lines of a chunk after a change, from what is found in each line.
-use Rattle.grep_session.proofs.Prelude.{◌≡◌, ℕ, ◌+◌, ◌-◌, ◌*◌, ◌<◌, ◌≤◌, ◌==◌, Bool, true, false, not, ◌||◌, inl, Decides, take, Matches, has_number, IsAmongOld, StaysSame, WereMatched, Chosen, IsSought, IsParted, is_narrower, is_parted, has_pair, marked_cost, pairs_cost, parting, List, [], ◌∷◌, ◌++◌, All, length, map, get_or, refl, sym, ap, subst, ◌∙◌, arith, length-append, append-nil, append_assoc, false≢true, nat_tests, length-map, length-drop, nil_from_length, get_or_default, All-append, Text, Expression, terminated, Span, AddsAtMost, Steps, Options, FoundIn, finds_at, is_paired, numbers_at, Matched, AreBelow, KeptLine, no_line, line_text, seen, Change, Rebuild, PartsOnly, Added, Dropped, Replaced, HasChanged, HasNewParts, IsWithin, SearchesEach, WasKept, searched_for, AreAllParts, AreMatches, Grows, KeepsAll, first_sought, has_new_parts, later_numbers, left_numbers, past_sought, sought, AddsMatching, IsKept}
+use Rattle.grep_session.proofs.Prelude.{◌≡◌, ℕ, ◌+◌, ◌-◌, ◌*◌, ◌<◌, ◌≤◌, ◌==◌, Bool, true, false, not, ◌||◌, inl, Decides, take, Matches, has_number, IsAmongOld, StaysSame, WereMatched, Chosen, IsSought, IsParted, is_narrower, is_parted, has_pair, marked_cost, pairs_cost, parting, List, [], ◌∷◌, ◌++◌, All, length, map, get_or, refl, sym, ap, subst, ◌∙◌, arith, length-append, append-nil, false≢true, nat_tests, length-map, length-drop, nil_from_length, get_or_default, All-append, Text, Expression, terminated, Span, AddsAtMost, Steps, Options, FoundIn, finds_at, is_paired, numbers_at, Matched, AreBelow, KeptLine, no_line, line_text, seen, Change, Rebuild, PartsOnly, Added, Dropped, Replaced, HasChanged, HasNewParts, IsWithin, SearchesEach, WasKept, searched_for, AreAllParts, AreMatches, Grows, KeepsAll, first_sought, has_new_parts, left_numbers, past_sought, sought, AddsMatching, IsKept}
 use Rattle.std.proofs.Math.ListN.{get_or-map}
 use Rattle.std.proofs.lemmas.List.{get_or-set_same}
 use Rattle.re_syntax.proofs.lemmas.Decisions.{Any-first}
 use Rattle.std.proofs.lemmas.Bool.Decides.{Decides-and}
 use Rattle.re_meter.proofs.lemmas.Adding.{adds_both, adds_within}
-use Rattle.line_chunks.proofs.lemmas.PairLaws.{lt_no, numbers_at-append}
+use Rattle.line_chunks.proofs.lemmas.PairLaws.{lt_no}
 use Rattle.line_chunks.proofs.lemmas.SeenLaws.{length-seen, line_seen}
-use Rattle.grep_session.proofs.lemmas.ChangeLemmas.{LineChanges, decided_single, line_changes, line_right, number_decides, some_decides}
+use Rattle.grep_session.proofs.lemmas.ChangeLemmas.{LineChanges, decided_single, line_changes, line_right}
+use Rattle.grep_session.proofs.lemmas.NumberLemmas.{number_decides, some_decides}
 use Rattle.grep_session.proofs.lemmas.MarkedLemmas.{marked_lines, terminated_cost}
 use Rattle.grep_session.proofs.lemmas.StepLemmas.{not_searched}
 
@@ -33,25 +34,20 @@ were_matched before options lines old own p gone within at all k high =
     let inside : k < length lines = omega (arith, high, length-map lines line_text) in
     let line = get_or lines k no_line in
     let text : line_text line ≡ get_or (map line_text lines) k [] = sym (get_or-map line_text lines k no_line) in
-    let place : 0 + p ≡ p = omega arith in
     let entire = options.line_regexp in
-    let numbers = subst (λ q. Decides (has_number q line.found.numbers) (Matches (get_or before p gone) line.text entire)) place (number_decides line.text entire 0 p before line.found.numbers gone within (all k no_line inside).matching) in
+    let numbers = number_decides line.text entire before line.found.numbers (all k no_line inside).matching p gone within in
     let one = decided_single (λ e. Matches e line.text entire) gone _ (subst (λ e. Decides (has_number p line.found.numbers) (Matches e line.text entire)) (sym at) numbers) in
     subst (λ t. Decides (has_number p (numbers_at k old)) (Matched (gone ∷ []) options t)) text (subst (λ ns. Decides (has_number p ns) (Matched (gone ∷ []) options line.text)) (sym (own k inside)) one)
 
 -- the lines that a narrower one matches are among those
 is_among : (change : Change) (es before changed : List Expression) (options : Options) (lines : List KeptLine) (old : List (ℕ × ℕ)) → IsWithin change (length es) → HasChanged change es before changed options → All (WasKept change before options) lines
     → ((k : ℕ) → k < length lines → numbers_at k old ≡ (get_or lines k no_line).found.numbers) → IsAmongOld change (map line_text lines) options.line_regexp es old
-is_among Rebuild es before changed options lines old within h all own on e at = absurd (false≢true on)
-is_among PartsOnly es before changed options lines old within h all own on e at = absurd (false≢true on)
-is_among (Added first) es before changed options lines old within h all own on e at = absurd (false≢true on)
-is_among (Dropped p) es before changed options lines old within h all own on e at = absurd (false≢true on)
-is_among (Replaced p false) es before changed options lines old within h all own on e at = absurd (false≢true on)
 is_among (Replaced p true) es before changed options lines old within h all own on e at = λ k high m.
     let text = get_or (map line_text lines) k [] in
     let is : e ≡ h.1 = at ∙ ap (λ (l : List Expression). get_or l p e) h.4 ∙ get_or-set_same before p h.1 e h.2 in
     let matched = h.6 refl text (subst (λ c. Matches c text options.line_regexp) is m) in
     (were_matched before options lines old own p h.0 h.2 h.3 all k high).1 (Any-first (λ c. Matches c text options.line_regexp) h.0 [] matched)
+is_among change es before changed options lines old within h all own on e at = absurd (false≢true on)
 
 module _ (change : Change) (es before changed : List Expression) (options : Options) (lines : List KeptLine) (old new : List (ℕ × ℕ))
     (within : IsWithin change (length es)) (h : HasChanged change es before changed options) (all : All (WasKept change before options) lines)
@@ -68,10 +64,8 @@ module _ (change : Change) (es before changed : List Expression) (options : Opti
       let high : k < length (map line_text lines) = omega (arith, inside, length-map lines line_text) in
       let text : get_or (map line_text lines) k [] ≡ line_text line = get_or-map line_text lines k no_line in
       let left : numbers_at k m.left ≡ left_numbers change line.found.numbers = m.are_left.numbers k ∙ ap (left_numbers change) (own k inside) in
-      let adds = subst (λ t. AddsMatching t options.line_regexp first (sought change es) (numbers_at k m.left) (numbers_at k m.mid)) text ((m.sought.adds among).numbers k high) in
-      let later : numbers_at k new ≡ numbers_at k m.mid ++ later_numbers change line.found.numbers =
-      ap (numbers_at k) m.later.added ∙ numbers_at-append k m.mid m.later.more ∙ ap (λ ns. numbers_at k m.mid ++ ns) (m.later.numbers k ∙ ap (later_numbers change) (own k inside)) in
-      line_changes es before changed options line (numbers_at k new) change within h (all k no_line inside) (numbers_at k m.mid) (subst (λ ns. AddsMatching line.text options.line_regexp first (sought change es) ns (numbers_at k m.mid)) left adds) later
+      let adds = subst (λ t. AddsMatching t options.line_regexp first (sought change es) (numbers_at k m.left) (numbers_at k new)) text ((m.sought.adds among).numbers k high) in
+      line_changes es before changed options line (numbers_at k new) change within h (all k no_line inside) (subst (λ ns. AddsMatching line.text options.line_regexp first (sought change es) ns (numbers_at k new)) left adds)
 
   -- whether their parts are searched anew is known
   column_decides : (k : ℕ) → k < length (map line_text lines) → Decides (is_parted change old new k) (IsParted change changed es options (get_or (map line_text lines) k []))
@@ -110,14 +104,12 @@ module _ (change : Change) (es before changed : List Expression) (options : Opti
 
       same_pairs : (c : Change) → StaysSame c old new → KeepsAll c old m.left → new ≡ old
       same_pairs (Added first) many left =
-          let more = m.sought.pairs.more ++ m.later.more in
-          let whole : new ≡ old ++ more = m.later.added ∙ ap (λ l. l ++ m.later.more) m.sought.pairs.added ∙ append_assoc m.left m.sought.pairs.more m.later.more ∙ ap (λ l. l ++ more) left in
+          let more = m.sought.pairs.more in
+          let whole : new ≡ old ++ more = m.sought.pairs.added ∙ ap (λ l. l ++ more) left in
           let nothing : more ≡ [] = none_more old more (many ∙ ap length whole) in
           whole ∙ ap (λ l. old ++ l) nothing ∙ append-nil old
       same_pairs (Replaced p narrower) none left = nil_from_length new none.1 ∙ sym (nil_from_length old none.0)
-      same_pairs Rebuild wrong left = absurd wrong
-      same_pairs PartsOnly wrong left = absurd wrong
-      same_pairs (Dropped p) wrong left = absurd wrong
+      same_pairs c wrong left = absurd wrong
 
       few_numbers : (c : Change) → StaysSame c old new → (k : ℕ) (ms : List ℕ) → numbers_at k old ≡ ms → has_new_parts c ms (numbers_at k new) ≡ false
       few_numbers (Added first) many k ms e =
@@ -127,9 +119,7 @@ module _ (change : Change) (es before changed : List Expression) (options : Opti
           let old_none : ms ≡ [] = sym e ∙ ap (numbers_at k) (nil_from_length old none.0) in
           let new_none : numbers_at k new ≡ [] = ap (numbers_at k) (nil_from_length new none.1) in
           λ i. has_number p (old_none i) || has_number p (new_none i)
-      few_numbers Rebuild wrong k ms e = absurd wrong
-      few_numbers PartsOnly wrong k ms e = absurd wrong
-      few_numbers (Dropped p) wrong k ms e = absurd wrong
+      few_numbers c wrong k ms e = absurd wrong
 
 -- ---- steps
 
@@ -166,16 +156,12 @@ module _ (es before changed : List Expression) (options : Options) (lines : List
       (texts, all_chosen (IsSought change changed options) texts all, subst (λ n. AddsAtMost n begun ended) cost few)
 
   searched : (change : Change) → HasChanged change es before changed options → All (WasKept change before options) lines → ((k : ℕ) → k < length lines → numbers_at k old ≡ (get_or lines k no_line).found.numbers) → Plain change → Narrow change → Searched change
-  searched Rebuild h all own plain narrow = plainly Rebuild h (λ line. tt) (plain refl)
-  searched PartsOnly h all own plain narrow = plainly PartsOnly h (λ line. tt) (plain refl)
-  searched (Added first) h all own plain narrow = plainly (Added first) h (λ line. tt) (plain refl)
-  searched (Dropped p) h all own plain narrow = plainly (Dropped p) h (λ line. tt) (plain refl)
-  searched (Replaced p false) h all own plain narrow = plainly (Replaced p false) h (λ line. tt) (plain refl)
   searched (Replaced p true) h all own plain narrow =
       let texts = map line_text lines in
       let were = subst (λ l. WereMatched (take 1 l) options texts p old) (sym h.5) (were_matched before options lines old own p h.0 h.2 h.3 all) in
       let s = marked_lines (has_pair p old) 1 texts (Matched (take 1 changed) options) were (length lines) (length-map lines line_text) in
       (s.0, s.1, subst (λ n. AddsAtMost n begun ended) s.2 (narrow refl))
+  searched change h all own plain narrow = plainly change h (λ line. tt) (plain refl)
 
   -- before the search for parts
   pub chunk_begun : (change : Change) → HasChanged change es before changed options → All (WasKept change before options) lines → ((k : ℕ) → k < length lines → numbers_at k old ≡ (get_or lines k no_line).found.numbers) → Plain change → Narrow change
@@ -200,17 +186,12 @@ module _ (es before changed : List Expression) (options : Options) (lines : List
 module _ (change : Change) (texts : List Text) (entire : Bool) (es : List Expression) (old new : List (ℕ × ℕ)) (m : AreMatches change texts entire es old new) where
   -- they are of its lines
   pub matches_below : AreBelow (length texts) new
-  matches_below =
-      let below = subst (AreBelow (length texts)) (sym m.sought.pairs.added) (All-append (λ (pair : ℕ × ℕ). pair.0 < length texts) m.left m.sought.pairs.more m.are_left.within m.sought.pairs.within) in
-      subst (AreBelow (length texts)) (sym m.later.added) (All-append (λ (pair : ℕ × ℕ). pair.0 < length texts) m.mid m.later.more below m.later.within)
+  matches_below = subst (AreBelow (length texts)) (sym m.sought.pairs.added) (All-append (λ (pair : ℕ × ℕ). pair.0 < length texts) m.left m.sought.pairs.more m.are_left.within m.sought.pairs.within)
 
   -- where patterns were added they are the old ones and more
   pub matches_grow : Grows change old new
   matches_grow = by_change change m.are_left.all
     where
       by_change : (c : Change) → KeepsAll c old m.left → Grows c old new
-      by_change (Added first) left = (m.sought.pairs.more ++ m.later.more, m.later.added ∙ ap (λ l. l ++ m.later.more) m.sought.pairs.added ∙ append_assoc m.left m.sought.pairs.more m.later.more ∙ ap (λ l. l ++ (m.sought.pairs.more ++ m.later.more)) left)
-      by_change Rebuild left = tt
-      by_change PartsOnly left = tt
-      by_change (Dropped p) left = tt
-      by_change (Replaced p narrower) left = tt
+      by_change (Added first) left = (m.sought.pairs.more, m.sought.pairs.added ∙ ap (λ l. l ++ m.sought.pairs.more) left)
+      by_change c left = tt

@@ -1,13 +1,5 @@
 -- What is found in all lines, one line or one file more at a time.
-use Rattle.grep_session.proofs.Prelude.{All, ◌≡◌, ℕ, suc, ◌+◌, ◌<◌, List, [], ◌∷◌, ◌++◌, length, map, take, drop, get_or, refl, sym, ap, subst, ◌∙◌, append_assoc, append-nil, zero, add-one, drop-cons, take-suc, map-append, flat_map-append, File, lines_of_files}
-
--- ---- lists by their first elements and the rest
-
-pub front_and_rest : {A : Type 0} (n : ℕ) (l : List A) → take n l ++ drop n l ≡ l
-front_and_rest zero [] = refl
-front_and_rest (suc n) [] = refl
-front_and_rest zero (x ∷ l) = refl
-front_and_rest (suc n) (x ∷ l) = ap (λ t. x ∷ t) (front_and_rest n l)
+use Rattle.grep_session.proofs.Prelude.{All, take-append-drop, ◌≡◌, ℕ, suc, ◌+◌, ◌<◌, List, [], ◌∷◌, ◌++◌, length, map, take, drop, get_or, sym, ap, subst, ◌∙◌, append_assoc, append-nil, add-one, drop-cons, take-suc, map-append, flat_map-append, File, lines_of_files}
 
 module _ {X Y : Type 0} (f : X → Y) (xs : List X) (i : ℕ) (x : X) (h : i < length xs) (is : x ≡ get_or xs i x) where
   -- the first elements and one more
@@ -17,7 +9,7 @@ module _ {X Y : Type 0} (f : X → Y) (xs : List X) (i : ℕ) (x : X) (h : i < l
   -- the first, the next, and the rest
   pub map_with_parts : map f (take i xs) ++ (f x ∷ map f (drop (suc i) xs)) ≡ map f xs
   map_with_parts =
-      ap (λ y. map f (take i xs) ++ (f y ∷ map f (drop (suc i) xs))) is ∙ sym (map-append f (take i xs) (get_or xs i x ∷ drop (suc i) xs)) ∙ ap (λ l. map f (take i xs ++ l)) (sym (drop-cons xs i x h)) ∙ ap (map f) (front_and_rest i xs)
+      ap (λ y. map f (take i xs) ++ (f y ∷ map f (drop (suc i) xs))) is ∙ sym (map-append f (take i xs) (get_or xs i x ∷ drop (suc i) xs)) ∙ ap (λ l. map f (take i xs ++ l)) (sym (drop-cons xs i x h)) ∙ ap (map f) (take-append-drop i xs)
 
 -- what holds of all holds of the next
 pub kept_at : {X : Type 0} (P : X → Type 0) (xs : List X) (i : ℕ) (x : X) → i < length xs → x ≡ get_or xs i x → All P xs → P x

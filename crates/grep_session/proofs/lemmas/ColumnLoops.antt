@@ -1,7 +1,8 @@
 -- The lines of a chunk that an expression matches, noted one after the other.
-use Rattle.grep_session.proofs.Prelude.{AddsPairs, AddsSought, is_narrower, sought, true, false≢true, add-one, take-suc, drop-append_seam, ◌≡◌, ℕ, zero, suc, take, drop, length-take, length-drop, ◌+◌, ◌<◌, ◌≤◌, Bool, List, [], ◌∷◌, ◌++◌, inl, inr, length, get_or, refl, sym, ap, subst, ◌∙◌, arith, append-nil, append_assoc, if◌then◌else◌, Some, ◌⊎◌, Text, Expression, Matches, numbers_at, AreBelow, Change, Rebuild, PartsOnly, Added, Dropped, Replaced, IsWithin, AddsColumn, IsNextLine, first_sought, past_sought, AddsMatching, cases_lt, All-push, All-nil, All-append}
+use Rattle.grep_session.proofs.Prelude.{AddsPairs, AddsSought, is_narrower, sought, true, false≢true, take_more, drop-append_seam, ◌≡◌, ℕ, take, drop, length-take, length-drop, ◌+◌, ◌<◌, ◌≤◌, Bool, List, [], ◌∷◌, ◌++◌, inl, inr, length, get_or, refl, sym, ap, subst, ◌∙◌, arith, append-nil, append_assoc, if◌then◌else◌, Some, ◌⊎◌, Text, Expression, Matches, numbers_at, AreBelow, Change, Added, Replaced, IsWithin, AddsColumn, IsNextLine, first_sought, past_sought, AddsMatching, cases_lt, All-push, All-nil, All-append}
+use Rattle.std.proofs.Math.Seq.{drop-append-le}
 use Rattle.line_chunks.proofs.lemmas.PairLaws.{eq_yes, eq_no, numbers_at-append}
-use Rattle.grep_session.proofs.lemmas.FindingLemmas.{adds_one_matching, passes_one_matching, adds_none_matching, adds_more_matching}
+use Rattle.grep_session.proofs.lemmas.NumberLemmas.{adds_one_matching, passes_one_matching, adds_none_matching, adds_more_matching}
 
 -- one pair more at its line, and at another
 pub one_here : (k n : ℕ) (xs : List (ℕ × ℕ)) → numbers_at k (xs ++ (k, n) ∷ []) ≡ numbers_at k xs ++ n ∷ []
@@ -79,13 +80,6 @@ module _ (e : Expression) (entire : Bool) (number : ℕ) (texts : List Text) whe
 
 -- ---- several expressions
 
--- one element more behind those that are left out
-drop_push : {X : Type 0} (n : ℕ) (xs : List X) (x : X) → n ≤ length xs → drop n (xs ++ x ∷ []) ≡ drop n xs ++ x ∷ []
-drop_push zero [] x h = refl
-drop_push zero (y ∷ xs) x h = refl
-drop_push (suc n) [] x h = absurd (omega (arith, h))
-drop_push (suc n) (y ∷ xs) x h = drop_push n xs x (omega (arith, h))
-
 module _ (texts : List Text) (entire : Bool) where
   -- no expression
   pub columns_none : (first : ℕ) (old : List (ℕ × ℕ)) → AddsColumn texts entire first [] old old
@@ -110,7 +104,7 @@ module _ (texts : List Text) (entire : Bool) where
       → AddsColumn texts entire first (drop first (take (number + 1) es)) old new
   columns_next first number es e old mid new low high next a b =
       let many : length (take number es) ≡ number = omega (arith, length-take number es, high) in
-      columns_more first number (drop first (take number es)) (e ∷ []) (drop first (take (number + 1) es)) old mid new (omega (arith, length-drop first (take number es), many, low)) (ap (drop first) next ∙ drop_push first (take number es) e (omega (arith, low, many))) a b
+      columns_more first number (drop first (take number es)) (e ∷ []) (drop first (take (number + 1) es)) old mid new (omega (arith, length-drop first (take number es), many, low)) (ap (drop first) next ∙ drop-append-le first (take number es) (e ∷ []) (omega (arith, low, many))) a b
 
 -- no pair is added, and one
 pub pairs_none : (size : ℕ) (old : List (ℕ × ℕ)) → AddsPairs size old old
@@ -129,6 +123,12 @@ added_sought change texts entire es old left mid a = record { pairs = record { m
 
 -- ---- a narrower expression
 
+-- one expression alone
+pub sought_alone : (es : List Expression) (p : ℕ) (d : Expression) → p < length es → drop p (take (p + 1) es) ≡ get_or es p d ∷ []
+sought_alone es p d h =
+    let many : length (take p es) ≡ p = omega (arith, length-take p es, h) in
+    ap (drop p) (take_more es p d h) ∙ ap (λ n. drop n (take p es ++ get_or es p d ∷ [])) (sym many) ∙ drop-append_seam (take p es) (get_or es p d ∷ [])
+
 module _ (change : Change) (is : is_narrower change ≡ true) where
   -- it is one of all
   pub narrower_within : (many : ℕ) → IsWithin change many → first_sought change many < many
@@ -136,28 +136,18 @@ module _ (change : Change) (is : is_narrower change ≡ true) where
     where
       by_change : (c : Change) → is_narrower c ≡ true → IsWithin c many → first_sought c many < many
       by_change (Replaced p narrower) is within = within
-      by_change Rebuild off within = absurd (false≢true off)
-      by_change PartsOnly off within = absurd (false≢true off)
-      by_change (Added first) off within = absurd (false≢true off)
-      by_change (Dropped p) off within = absurd (false≢true off)
+      by_change c off within = absurd (false≢true off)
 
   -- it alone is searched for
   pub narrower_alone : (es : List Expression) (d : Expression) → IsWithin change (length es) → sought change es ≡ get_or es (first_sought change (length es)) d ∷ []
   narrower_alone es d within = by_change change is within
     where
       by_change : (c : Change) → is_narrower c ≡ true → IsWithin c (length es) → sought c es ≡ get_or es (first_sought c (length es)) d ∷ []
-      by_change (Replaced p narrower) is within =
-          let many : length (take p es) ≡ p = omega (arith, length-take p es, within) in
-          ap (λ n. drop p (take n es)) (add-one p) ∙ ap (drop p) (take-suc es p d within) ∙ ap (λ n. drop n (take p es ++ get_or es p d ∷ [])) (sym many) ∙ drop-append_seam (take p es) (get_or es p d ∷ [])
-      by_change Rebuild off within = absurd (false≢true off)
-      by_change PartsOnly off within = absurd (false≢true off)
-      by_change (Added first) off within = absurd (false≢true off)
-      by_change (Dropped p) off within = absurd (false≢true off)
+      by_change (Replaced p narrower) is within = sought_alone es p d within
+      by_change c off within = absurd (false≢true off)
 
 -- the expressions that are searched for are some of all
 pub sought_within : (change : Change) (many : ℕ) → IsWithin change many → (first_sought change many ≤ past_sought change many) × (past_sought change many ≤ many)
-sought_within Rebuild many h = (omega arith, omega arith)
-sought_within PartsOnly many h = (omega arith, omega arith)
 sought_within (Added first) many h = (h, omega arith)
-sought_within (Dropped p) many h = (omega arith, omega arith)
 sought_within (Replaced p narrower) many h = (omega arith, omega (arith, h))
+sought_within change many h = (omega arith, omega arith)

@@ -1,43 +1,7 @@
--- What is found in a line, one matcher or one part more at a time.
-use Rattle.grep_session.proofs.Prelude.{◌≡◌, ℕ, suc, ◌+◌, ◌*◌, ◌≤◌, Bool, true, List, [], ◌∷◌, ◌++◌, inl, inr, length, map, refl, sym, ap, subst, ◌∙◌, append_assoc, append-nil, arith, map-append, Text, Expression, Matches, IsFound, IsPart, ArePartsFrom, AreParts, Span, Steps, AddsAtMost, Options, IfHolds, search_cost, parting, if◌then◌else◌, AreMatching, AddsMatching, span_places}
+-- The parts of a line, one more at a time.
+use Rattle.grep_session.proofs.Prelude.{◌≡◌, ℕ, ◌+◌, ◌*◌, ◌≤◌, true, List, [], ◌∷◌, ◌++◌, length, map, refl, sym, ap, subst, ◌∙◌, append_assoc, append-nil, map-append, Text, Expression, IsFound, IsPart, ArePartsFrom, AreParts, Span, Steps, AddsAtMost, Options, search_cost, parting, if◌then◌else◌, span_places}
 use Rattle.re_syntax.proofs.lemmas.PartsLaws.{IsPart-unique}
 use Rattle.re_syntax.proofs.lemmas.PartsExist.{AreParts-exist}
-
--- ---- the numbers of the expressions that match a line
-
-module _ (line : Text) (entire : Bool) where
-  -- the numbers of more expressions are appended
-  pub AreMatching-append : (first : ℕ) (es fs : List Expression) (ns ms : List ℕ) → AreMatching line entire first es ns → AreMatching line entire (first + length es) fs ms → AreMatching line entire first (es ++ fs) (ns ++ ms)
-  AreMatching-append first [] fs ns ms a b =
-      let same : first + 0 ≡ first = omega arith in
-      subst (AreMatching line entire first fs) (sym (ap (λ t. t ++ ms) a)) (subst (λ n. AreMatching line entire n fs ms) same b)
-  AreMatching-append first (e ∷ es) fs ns ms a b =
-      let next : first + suc (length es) ≡ suc first + length es = omega arith in
-      let choice : IfHolds (Matches e line entire) (ns ++ ms ≡ first ∷ (a.0 ++ ms)) (ns ++ ms ≡ a.0 ++ ms) =
-      elim a.1 [ inl h ↦ inl (h.0, ap (λ t. t ++ ms) h.1) | inr h ↦ inr (h.0, ap (λ t. t ++ ms) h.1) ] in
-      (a.0 ++ ms, choice, AreMatching-append (suc first) es fs a.0 ms a.2 (subst (λ n. AreMatching line entire n fs ms) next b))
-
-  -- no expression, no number
-  pub adds_none_matching : (first : ℕ) (old : List ℕ) → AddsMatching line entire first [] old old
-  adds_none_matching first old = record { found = []; are_found = refl; added = sym (append-nil old) }
-
-  -- one expression, which matches
-  pub adds_one_matching : (first : ℕ) (e : Expression) (old new : List ℕ) → Matches e line entire → new ≡ old ++ first ∷ [] → AddsMatching line entire first (e ∷ []) old new
-  adds_one_matching first e old new m added = record { found = first ∷ []; are_found = ([], inl (m, refl), refl); added = added }
-
-  -- one expression, which does not
-  pub passes_one_matching : (first : ℕ) (e : Expression) (old : List ℕ) → (Matches e line entire → ⊥) → AddsMatching line entire first (e ∷ []) old old
-  passes_one_matching first e old m = record { found = []; are_found = ([], inr (m, refl), refl); added = sym (append-nil old) }
-
-  -- the numbers of more expressions are added
-  pub adds_more_matching : (first next : ℕ) (es fs all : List Expression) (old mid new : List ℕ) → next ≡ first + length es → all ≡ es ++ fs → AddsMatching line entire first es old mid → AddsMatching line entire next fs mid new → AddsMatching line entire first all old new
-  adds_more_matching first next es fs all old mid new place both a b = record {
-    found = a.found ++ b.found;
-    are_found = subst (λ l. AreMatching line entire first l (a.found ++ b.found)) (sym both) (AreMatching-append first es fs a.found b.found a.are_found (subst (λ n. AreMatching line entire n fs b.found) place b.are_found));
-    added = b.added ∙ ap (λ l. l ++ b.found) a.added ∙ append_assoc old a.found b.found;
-  }
-
--- ---- the parts of a line
 
 module _ (es : List Expression) (options : Options) (line : Text) where
   -- the parts before a place are known, and these are the parts from there on

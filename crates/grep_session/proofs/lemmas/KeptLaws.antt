@@ -1,11 +1,12 @@
 -- If what is kept is right, the verdicts from it, the messages and the status are those of grep.
-use Rattle.grep_session.proofs.Prelude.{◌≡◌, ℕ, suc, ◌==◌, ◌≤◌, Bool, true, false, ◌&&◌, not, IsTrue, ◌↔◌, Decides, List, [], ◌∷◌, ◌++◌, length, map, All, Any, Option, None, Some, MatchBool, IfSome, refl, sym, ap, ◌∙◌, inl, inr, arith, if◌then◌else◌, list_any, Text, Expression, Matches, ArePartsFrom, AreParts, Span, Options, Status, EachGives, File, Selected, HasSelected, message, FaultMet, Stops, Reached, Message, Messages, AnySelected, StatusOf, is_fault, ending_of, status_by, KeptLine, line_text, KeptFile, span_places, kept_lines, file_with, kept_file, AreMatching, IsKept, IsFileKept, matches_none, is_selected, has_selected_in, has_selected, end_with, end_of, OnLine, PartsFit, LinesFit, FileFits, reported_like, reported_from, is_faulty, any_selected, any_missing, status_by_files, status_given, false≢true, nat_tests, All-head, All-tail, All-nil, All-cons}
+use Rattle.grep_session.proofs.Prelude.{◌≡◌, ℕ, ◌≤◌, Bool, true, false, ◌&&◌, not, IsTrue, ◌↔◌, Decides, List, [], ◌∷◌, ◌++◌, map, All, Any, Option, None, Some, MatchBool, IfSome, refl, sym, ap, ◌∙◌, inl, inr, arith, if◌then◌else◌, list_any, Text, Expression, ArePartsFrom, AreParts, Span, Options, Status, EachGives, File, Selected, HasSelected, message, FaultMet, Stops, Reached, Message, Messages, AnySelected, StatusOf, is_fault, ending_of, status_by, KeptLine, line_text, KeptFile, span_places, kept_lines, file_with, kept_file, IsKept, IsFileKept, matches_none, is_selected, has_selected_in, has_selected, end_with, end_of, OnLine, PartsFit, LinesFit, FileFits, reported_like, reported_from, is_faulty, any_selected, any_missing, status_by_files, status_given, false≢true, All-head, All-tail, All-nil, All-cons}
 use Rattle.std.specs.Prelude.{⊤}
 use Rattle.re_syntax.proofs.lemmas.Decisions.{Any-none, Any-first, Any-later, Any-cases}
 use Rattle.grep_core.specs.declared.status.Status.TheVariants.{Selected as selected}
 use Rattle.grep_core.proofs.lemmas.PassLemmas.{or_decides}
 use Rattle.grep_core.proofs.lemmas.StatusLaws.{StatusOf-quiet, StatusOf-error, StatusOf-selected, StatusOf-none}
 use Rattle.grep_core.proofs.lemmas.Verdicts.{decided_yes, decided_no}
+use Rattle.grep_session.proofs.lemmas.NumberLemmas.{some_decides}
 
 -- the status of a run that did not stop
 pub status_in_turn : (quiet some : Bool) (status : Status) → (quiet && some) ≡ false → status ≡ (if quiet && some then selected else status)
@@ -18,21 +19,6 @@ mapped_reported f p P K reported_too (x ∷ xs) k =
     or_decides (p x) (list_any p xs) (reported_too x (All-head K x xs k)) (mapped_reported f p P K reported_too xs (All-tail K x xs k)) (λ h. Any-first P (f x) (map f xs) h) (λ h. Any-later P (f x) (map f xs) h)
     (λ s none_here none_later. elim (Any-cases P (f x) (map f xs) s) [ inl h ↦ none_here h | inr h ↦ none_later h ])
 
--- a list that has an element is not empty
-not_empty : (x : ℕ) (xs : List ℕ) → not (length (x ∷ xs) == 0) ≡ true
-not_empty x xs = grind (arith, nat_tests)
-
--- some expression matches a line if and only if the numbers of those that do are not empty
-matching_decides : (line : Text) (entire : Bool) (first : ℕ) (es : List Expression) (numbers : List ℕ) → AreMatching line entire first es numbers → IsTrue (not (length numbers == 0)) ↔ Any (λ e. Matches e line entire) es
-matching_decides line entire first [] numbers h = ((λ t. absurd (false≢true (ap (λ l. not (length l == 0)) (sym h) ∙ t))), (λ a. absurd (Any-none (λ e. Matches e line entire) a)))
-matching_decides line entire first (e ∷ es) numbers (rest, inl (matches, is), h) =
-    ((λ _. Any-first (λ e. Matches e line entire) e es matches), (λ _. ap (λ l. not (length l == 0)) is ∙ not_empty first rest))
-matching_decides line entire first (e ∷ es) numbers (rest, inr (fails, is), h) =
-    let later = matching_decides line entire (suc first) es rest h in (
-      (λ t. Any-later (λ e. Matches e line entire) e es (later.0 (ap (λ l. not (length l == 0)) (sym is) ∙ t))),
-      (λ a. elim (Any-cases (λ e. Matches e line entire) e es a) [ inl here ↦ absurd (fails here) | inr there ↦ ap (λ l. not (length l == 0)) is ∙ later.1 there ]),
-    )
-
 module _ (es : List Expression) (options : Options) where
   pub parts_asked : (line : KeptLine) → IsTrue options.only_matching → IsKept es options line → AreParts es (line_text line) options.line_regexp (map span_places line.found.spans)
   parts_asked line asked k = by_flag options.only_matching asked k.parts
@@ -44,7 +30,7 @@ module _ (es : List Expression) (options : Options) where
   -- ---- verdicts
 
   pub selected_reported : (line : KeptLine) → IsKept es options line → Decides (is_selected options line) (Selected es options (line_text line))
-  selected_reported line k = by_flag options.invert_match (matches_none line) (matching_decides (line_text line) options.line_regexp 0 es line.found.numbers k.matching)
+  selected_reported line k = by_flag options.invert_match (matches_none line) (some_decides (line_text line) options.line_regexp 0 es line.found.numbers k.matching)
     where
       by_flag : {M : Type 0} (inverted none : Bool) → IsTrue (not none) ↔ M → Decides (if inverted then not (not none) else not none) (MatchBool inverted (M → ⊥) M)
       by_flag false none m = m

@@ -1,12 +1,11 @@
 -- A pattern's text is in that of another: it matches each line that the other one matches.
-use Rattle.grep_session.proofs.Prelude.{◌≡◌, ℕ, ◌+◌, ◌≤◌, Bool, true, false, List, [], ◌∷◌, ◌++◌, length, map, take, drop, Option, None, Some, is_some, Decides, MatchBool, if◌then◌else◌, refl, sym, ap, subst, ◌∙◌, arith, length-append, map-append, drop-append_seam, false≢true, Text, Expression, byte, cat, sequence, Holds, Matches, folded, Syntax, Fixed, IsMeant, IsSpelled, Options, FindsNeedle, Narrows, IsNarrower}
+use Rattle.grep_session.proofs.Prelude.{take-append-drop, ◌≡◌, ℕ, ◌+◌, ◌≤◌, Bool, true, false, List, [], ◌∷◌, ◌++◌, length, map, take, drop, Option, None, Some, is_some, Decides, MatchBool, if◌then◌else◌, refl, sym, ap, subst, ◌∙◌, arith, length-append, map-append, drop-append_seam, false≢true, Text, Expression, byte, cat, sequence, Holds, Matches, folded, Syntax, Fixed, IsMeant, IsSpelled, Options, FindsNeedle, Narrows, IsNarrower}
 use Rattle.re_syntax.specs.Spelled.{as_fixed}
 use Rattle.re_syntax.proofs.lemmas.FixedStrings.{sequence-cat, cat-sequence}
 use Rattle.re_syntax.proofs.lemmas.FoldedLaws.{folded-cat}
 use Rattle.re_syntax.proofs.lemmas.HoldsDecided.{Holds-le}
 use Rattle.re_syntax.proofs.lemmas.SpelledUnique.{spells_one}
 use Rattle.re_runs.proofs.lemmas.Occurrences.{occurs-stands, stands-occurs}
-use Rattle.grep_session.proofs.lemmas.ColumnLemmas.{front_and_rest}
 
 -- ---- sequences
 
@@ -81,6 +80,6 @@ finds_inside old new None none = (λ h. absurd (false≢true h), λ s. absurd (n
         let more : length (old ++ s.1) ≡ length old + length s.1 = length-append old s.1 in
         none (length s.0) (omega arith) (omega (arith, long, more)) (stands-occurs new old s.1 (length s.0) (omega (arith, long)) there)
 finds_inside old new (Some k) finds = (
-  λ h. (take k new, drop (length old) (drop k new), sym (front_and_rest k new) ∙ ap (λ t. take k new ++ t) (occurs-stands new old k finds.1)),
+  λ h. (take k new, drop (length old) (drop k new), sym (take-append-drop k new) ∙ ap (λ t. take k new ++ t) (occurs-stands new old k finds.1)),
   λ s. refl,
 )

@@ -1,26 +1,15 @@
 -- Patterns are added: the matchers after that, and the steps that it takes.
-use Rattle.grep_session.proofs.Prelude.{◌≡◌, ℕ, ◌+◌, ◌<◌, ◌≤◌, List, [], ◌∷◌, ◌++◌, Err, All, inl, inr, length, map, take, drop, refl, sym, ap, subst, ◌∙◌, arith, map-append, length-append, length-map, All-append, take-map, drop-map, Syntax, Text, Expression, list_of, IsMeant, Matcher, IsReadable, matched_expression, room_of, wants_whole, Steps, Options, Inputs, AreMeant, Added, EditFault, IsSought, HasChanged, SearchesEach, AreSame, IsSession, inputs_of, Inside, AddPatterns, EditGives, with_patterns, most_patterns, AreMatchers, RefusesFirst, TakesSteps, all_lines, pairs_cost}
+use Rattle.grep_session.proofs.Prelude.{◌≡◌, ℕ, ◌+◌, ◌<◌, ◌≤◌, List, [], ◌++◌, Err, All, inl, inr, length, map, take, drop, refl, sym, ap, subst, ◌∙◌, arith, map-append, length-append, length-map, All-append, take-append_seam, drop-append_seam, take-map, drop-map, Syntax, Text, Expression, list_of, IsMeant, Matcher, IsReadable, matched_expression, room_of, wants_whole, Steps, Options, Inputs, AreMeant, Added, EditFault, IsSought, HasChanged, SearchesEach, AreSame, IsSession, inputs_of, Inside, AddPatterns, EditGives, with_patterns, most_patterns, AreMatchers, RefusesFirst, TakesSteps, all_lines, pairs_cost}
 use Rattle.grep_session.proofs.lemmas.StepLemmas.{chosen_all, takes_touched}
 use Rattle.grep_core.proofs.lemmas.MatcherLemmas.{AllZip-append}
-
--- the first elements of two lists joined, and the others
-take_front : {X : Type 0} (xs ys : List X) → take (length xs) (xs ++ ys) ≡ xs
-take_front [] [] = refl
-take_front [] (y ∷ ys) = refl
-take_front (x ∷ xs) ys = ap (λ l. x ∷ l) (take_front xs ys)
-
-drop_front : {X : Type 0} (xs ys : List X) → drop (length xs) (xs ++ ys) ≡ ys
-drop_front [] [] = refl
-drop_front [] (y ∷ ys) = refl
-drop_front (x ∷ xs) ys = drop_front xs ys
 
 -- f of the old elements, and of the added ones
 module _ {X Y : Type 0} (f : X → Y) (xs ys all : List X) (first : ℕ) (both : all ≡ xs ++ ys) (at : first ≡ length xs) where
   were_there : map f xs ≡ take first (map f all)
-  were_there = sym (ap (λ n. take n (map f all)) at ∙ take-map f (length xs) all ∙ ap (λ l. map f (take (length xs) l)) both ∙ ap (map f) (take_front xs ys))
+  were_there = sym (ap (λ n. take n (map f all)) at ∙ take-map f (length xs) all ∙ ap (λ l. map f (take (length xs) l)) both ∙ ap (map f) (take-append_seam xs ys))
 
   have_come : map f ys ≡ drop first (map f all)
-  have_come = sym (ap (λ n. drop n (map f all)) at ∙ drop-map f (length xs) all ∙ ap (λ l. map f (drop (length xs) l)) both ∙ ap (map f) (drop_front xs ys))
+  have_come = sym (ap (λ n. drop n (map f all)) at ∙ drop-map f (length xs) all ∙ ap (λ l. map f (drop (length xs) l)) both ∙ ap (map f) (drop-append_seam xs ys))
 
   -- the added elements are removed again
   taken_off : (now new : List X) → map f now ≡ map f all → new ≡ take first now → map f new ≡ map f xs

@@ -5,7 +5,8 @@ use Rattle.re_syntax.proofs.lemmas.Decisions.{Any-first}
 use Rattle.re_syntax.proofs.lemmas.SomeOfJoined.{Any-single}
 use Rattle.grep_session.proofs.lemmas.SessionLemmas.{map-remove}
 use Rattle.grep_session.proofs.lemmas.StepLemmas.{pairs_cost-none, takes_touched}
-use Rattle.grep_session.proofs.lemmas.DroppingLemmas.{AllZip-remove, AreMatchers-remove, length-remove}
+use Rattle.std.proofs.lemmas.List.Edits.{length-remove}
+use Rattle.grep_session.proofs.lemmas.DroppingLemmas.{AllZip-remove, AreMatchers-remove}
 use Rattle.grep_session.proofs.lemmas.EditLemmas.{searched_session}
 use Rattle.grep_session.proofs.lemmas.RoomLemmas.{keep_without}
 

@@ -1,6 +1,6 @@
 -- What is found in the lines of a chunk after a change of the patterns, and put in a column.
-use Rattle.std.specs.Prelude.{◌≡◌, ℕ, zero, suc, ◌<◌, ⊤, Bool, true, false, List, [], ◌++◌, All, length, drop, get_or, nat_eq, nat_lt, slice_range, ◌+◌, ◌≤◌, ◌&&◌, Option, Some, None, if◌then◌else◌, IsTrue, take, ◌||◌}
-use Rattle.std.specs.List.{AllZip, list_any, filter}
+use Rattle.std.specs.Prelude.{◌≡◌, ℕ, zero, suc, ◌<◌, ⊤, Bool, true, false, List, [], ◌++◌, All, length, drop, get_or, nat_eq, nat_lt, not, slice_range, ◌+◌, ◌≤◌, ◌&&◌, Option, Some, None, if◌then◌else◌, IsTrue, take, ◌||◌}
+use Rattle.std.specs.List.{AllZip, filter}
 use Rattle.std.specs.Bool.{Decides}
 use Rattle.re_syntax.specs.Bytes.{Text}
 use Rattle.re_syntax.specs.Expression.{Expression}
@@ -16,7 +16,7 @@ use Rattle.grep_session.specs.declared.change.Change.{Change}
 use Rattle.grep_session.specs.declared.change.Change.TheVariants.{Rebuild, Added, Dropped, Replaced}
 use Rattle.grep_session.specs.Working.Changed.{HasChanged, WasKept, is_narrower}
 use Rattle.grep_session.specs.Working.Found.{IsColumn}
-use Rattle.grep_session.specs.Working.Kept.{AddsMatching, ArePartsKept}
+use Rattle.grep_session.specs.Working.Kept.{AddsMatching, ArePartsKept, has_number}
 
 -- ---- the numbers of a line
 
@@ -36,21 +36,12 @@ past_sought _ many = many
 abbrev pub sought : Change → List Expression → List Expression
 sought change es = drop (first_sought change (length es)) (take (past_sought change (length es)) es)
 
--- the numbers that stay, of those that were kept of a line: those before the ones that are searched
--- for, and those after them
+-- the numbers that stay, of those that were kept of a line
 abbrev pub left_numbers : Change → List ℕ → List ℕ
 left_numbers Rebuild numbers = []
 left_numbers (Dropped p) numbers = without p numbers
-left_numbers (Replaced p narrower) numbers = filter (λ n. nat_lt n p) numbers
+left_numbers (Replaced p narrower) numbers = filter (λ n. not (nat_eq n p)) numbers
 left_numbers _ numbers = numbers
-
-abbrev pub later_numbers : Change → List ℕ → List ℕ
-later_numbers (Replaced p narrower) numbers = filter (λ n. nat_lt p n) numbers
-later_numbers _ numbers = []
-
--- whether this number is among them
-abbrev pub has_number : ℕ → List ℕ → Bool
-has_number p numbers = list_any (λ n. nat_eq n p) numbers
 
 -- the pairs are those of `old` that stay; where patterns are added, all do
 abbrev pub KeepsAll : Change → List (ℕ × ℕ) → List (ℕ × ℕ) → Type 0
@@ -71,13 +62,6 @@ pub record AddsColumn (texts : List Text) (entire : Bool) (first : ℕ) (es : Li
   pub within : AreBelow (length texts) more
   pub numbers : (k : ℕ) → k < length texts →
       AddsMatching (get_or texts k []) entire first es (numbers_at k old) (numbers_at k new)
-
--- the pairs that stay of later patterns were added
-pub record AddsLater (change : Change) (size : ℕ) (old mid new : List (ℕ × ℕ)) : Type 0 where
-  pub more : List (ℕ × ℕ)
-  pub added : new ≡ mid ++ more
-  pub within : AreBelow size more
-  pub numbers : (k : ℕ) → numbers_at k more ≡ later_numbers change (numbers_at k old)
 
 -- pairs of so many lines were added
 pub record AddsPairs (size : ℕ) (old new : List (ℕ × ℕ)) : Type 0 where
@@ -116,10 +100,8 @@ pub record AddsSought (change : Change) (texts : List Text) (entire : Bool) (es 
 pub record AreMatches (change : Change) (texts : List Text) (entire : Bool) (es : List Expression)
     (old new : List (ℕ × ℕ)) : Type 0 where
   pub left : List (ℕ × ℕ)
-  pub mid : List (ℕ × ℕ)
   pub are_left : AreLeft change (length texts) old left
-  pub sought : AddsSought change texts entire es old left mid
-  pub later : AddsLater change (length texts) old mid new
+  pub sought : AddsSought change texts entire es old left new
 
 -- ---- the parts of a line
 

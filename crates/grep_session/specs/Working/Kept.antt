@@ -1,6 +1,8 @@
 -- What a session keeps of its patterns and files, and the inputs that it represents.
-use Rattle.std.specs.Prelude.{◌≡◌, ℕ, suc, Bool, List, [], ◌∷◌, ◌++◌, map, Option, None, Some}
-use Rattle.std.specs.Prelude.{IfSome, MatchBool, All, ⊤}
+use Rattle.std.specs.Prelude.{◌≡◌, ℕ, ◌+◌, ◌-◌, ◌<◌, ◌≤◌, Bool, List, [], ◌++◌, length, map, get_or}
+use Rattle.std.specs.Prelude.{Option, None, Some, IfSome, MatchBool, All, ⊤, nat_eq}
+use Rattle.std.specs.Bool.{Decides}
+use Rattle.std.specs.List.{list_any}
 use Rattle.std.specs.Option.{option_map}
 use Rattle.re_syntax.specs.Bytes.{Text}
 use Rattle.re_syntax.specs.Expression.{Expression}
@@ -8,19 +10,21 @@ use Rattle.re_syntax.specs.Holds.{Matches}
 use Rattle.re_syntax.specs.Parts.{AreParts}
 use Rattle.re_trees.specs.declared.span.Span.{Span}
 use Rattle.grep_core.specs.declared.options.Options.{Options}
-use Rattle.grep_core.specs.Choose.{IfHolds}
 use Rattle.grep_core.specs.Files.{File, whole, missing}
 use Rattle.line_chunks.specs.Working.Chunks.{KeptLine, line_text, all_of}
 use Rattle.grep_session.specs.declared.kept.KeptFile.{KeptFile}
 
 -- ---- what is found in a line
 
--- the numbers, counted from `first` on, of the expressions that match the line
+-- whether this number is among them
+abbrev pub has_number : ℕ → List ℕ → Bool
+has_number p numbers = list_any (λ n. nat_eq n p) numbers
+
+-- the numbers are those, counted from `first` on, of the expressions that match the line
 abbrev pub AreMatching : Text → Bool → ℕ → List Expression → List ℕ → Type 0
-AreMatching line entire first [] numbers = numbers ≡ []
-AreMatching line entire first (e ∷ es) numbers =
-    (rest : List ℕ) × IfHolds (Matches e line entire) (numbers ≡ first ∷ rest) (numbers ≡ rest) ×
-    AreMatching line entire (suc first) es rest
+AreMatching line entire first es numbers =
+    (n : ℕ) (d : Expression) → Decides (has_number n numbers)
+    ((first ≤ n) × (n < first + length es) × Matches (get_or es (n - first) d) line entire)
 
 -- these numbers were added to others
 pub record AddsMatching (line : Text) (entire : Bool) (first : ℕ) (es : List Expression)

@@ -3,8 +3,7 @@ use Rattle.std.specs.Prelude.{ℕ, zero, suc, ◌+◌, ◌-◌, ◌<◌, ◌==�
 use Rattle.std.specs.List.{filter}
 use Rattle.re_trees.specs.declared.span.Span.{Span}
 
--- the numbers of the patterns that match a line, in ascending order, and the parts of it that are
--- kept
+-- the numbers of the patterns that match a line, and the parts of it that are kept
 pub record Finds : Type 0 where
   pub numbers : List ℕ
   pub spans : List Span

@@ -15,13 +15,6 @@ pairs_of pairs = map pair_of pairs
 abbrev pub is_other : ℕ → Match → Bool
 is_other p pair = not (nat_eq pair.number p)
 
--- whether the pair is of an earlier pattern, or of a later one
-abbrev pub is_before : ℕ → Match → Bool
-is_before p pair = nat_lt pair.number p
-
-abbrev pub is_after : ℕ → Match → Bool
-is_after p pair = nat_lt p pair.number
-
 -- a pair after pattern p is removed
 abbrev pub lowered_pair : ℕ → Match → Match
 lowered_pair p pair = record { line = pair.line; number = lowered p pair.number }

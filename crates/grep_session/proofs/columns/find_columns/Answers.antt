@@ -1,6 +1,5 @@
 use Rattle.grep_session.proofs.Prelude.{◌≡◌, ◌<◌, ◌≤◌, ◌∙◌, All, length, map, take, get_or, take_all, sym, refl, ap, subst, arith, [], AllZip, most_patterns, Expression, HasChanged, IsWithin, List, SearchesEach, WasFileKept, FitsColumn, IsColumn, IsFileKept, chunks_of, chunks_of_files, lines_of_files, AddsColumns, kept_file, matched_expression}
-use Rattle.re_search.proofs.lemmas.KeptMatchers.{still_alike}
-use Rattle.re_search.proofs.lemmas.KeptMatchers.{none_asked, same_over}
+use Rattle.re_search.proofs.lemmas.KeptMatchers.{none_asked, same_over, still_alike}
 use Rattle.grep_core.proofs.lemmas.CostLaws.{same_length}
 use Rattle.grep_session.proofs.lemmas.FoundLemmas.{adds_columns, adds_no_column, chunks_on, files_by_chunk, no_chunks, its_chunks, its_lines, was_kept}
 use Rattle.grep_session.proofs.lemmas.ColumnLemmas.{files_next, files_with_parts, kept_at}

@@ -1,4 +1,4 @@
-use Rattle.grep_session.proofs.Prelude.{true, refl, IsAmong, IsWithin, is_narrower, ◌≡◌, ◌+◌, ◌-◌, ◌*◌, ◌<◌, ◌≤◌, length, map, take, drop, get_or, sym, ap, subst, ◌∙◌, length-take, arith, ◌∷◌, [], length-map, drop_all, terminated, AddsAtMost, line_text, AddsColumn, AddsLater, AreLeft, first_sought, past_sought, matched_expression, wants_whole}
+use Rattle.grep_session.proofs.Prelude.{true, refl, IsAmong, IsWithin, is_narrower, ◌≡◌, ◌+◌, ◌-◌, ◌*◌, ◌<◌, ◌≤◌, length, map, take, drop, get_or, sym, ap, subst, ◌∙◌, length-take, arith, ◌∷◌, [], length-map, drop_all, terminated, AddsAtMost, line_text, AddsColumn, AreLeft, first_sought, past_sought, matched_expression, wants_whole}
 use Rattle.re_search.proofs.lemmas.KeptMatchers.{none_asked, one_kept}
 use Rattle.re_search.proofs.lemmas.OneMatcherMore.{one_more, value_at, within}
 use Rattle.re_meter.proofs.lemmas.Adding.{adds_none}
@@ -18,7 +18,7 @@ returns-then-is_narrower-clause-ok c =
     let entire = c.args.search.now.options.line_regexp in
     let left = c.in_ok-matches.matches in
     let mid = c.narrow_column.new.matches in
-    let size : c.len-size.result ≡ length texts = c.len-size.ensures ∙ sym (length-map c.args.chunk.now line_text) in
+    let size : c.len.result ≡ length texts = c.len.ensures ∙ sym (length-map c.args.chunk.now line_text) in
     let first = c.first_sought-first.result in
     let d = c.index-matchers-first.result in
     let e = matched_expression (get_or old first d) in
@@ -29,11 +29,9 @@ returns-then-is_narrower-clause-ok c =
     let column = subst (λ w. IsAmong e w texts first c.args.old.now → AddsColumn texts w first (e ∷ []) left mid) asks c.in_ok-narrow_column.ensures.ok in
     record {
       left = left;
-      mid = mid;
       are_left = subst (λ n. AreLeft change n c.args.old.now left) size c.in_ok-matches.ensures;
       sought = narrow_sought change texts entire (map matched_expression old) c.args.old.now left mid first e is (subst (IsWithin change) many c.requires.within) (c.first_sought-first.ensures ∙ ap (first_sought change) many)
           (sym (value_at matched_expression old old refl first d h e)) c.in_ok-narrow_column.ensures.pairs column;
-      later = subst (λ n. AddsLater change n c.args.old.now mid c.add_later.new.matches) size c.in_ok-add_later.ensures;
     }
 
 pub returns-then-is_narrower-clause-same_matchers : goal.returns-then-is_narrower-clause-same_matchers
@@ -49,7 +47,7 @@ loop-number-init c =
     let entire = c.args.search.now.options.line_regexp in
     let first = c.first_sought-first.result in
     let left = c.in_ok-matches.matches in
-    let size : c.len-size.result ≡ length texts = c.len-size.ensures ∙ sym (length-map c.args.chunk.now line_text) in
+    let size : c.len.result ≡ length texts = c.len.ensures ∙ sym (length-map c.args.chunk.now line_text) in
     let sought = sought_within c.args.change (length c.args.matchers.now) c.requires.within in
     let none : drop first (take first es) ≡ [] = drop_all first (take first es) (omega (arith, length-take first es)) in
     record {
@@ -113,28 +111,18 @@ returns-clause-ok c =
     let left = s.found.0 in
     let mid = c.loop-number.matches in
     let many : length c.args.matchers.now ≡ length es = sym (length-map c.args.matchers.now matched_expression) in
-    let size : c.len-size.result ≡ length texts = c.len-size.ensures ∙ sym (length-map c.args.chunk.now line_text) in
     let begins : first ≡ first_sought c.args.change (length es) = c.first_sought-first.ensures ∙ ap (first_sought c.args.change) many in
     let reached : c.loop-number.number ≡ c.past_sought-past.result = omega (arith, s.high, c.loop-number-test.false) in
     let ends : c.loop-number.number ≡ past_sought c.args.change (length es) = reached ∙ c.past_sought-past.ensures ∙ ap (past_sought c.args.change) many in
     let adds = subst (λ n. AddsColumn texts entire first (drop first (take n es)) left mid) ends s.found.2 in
     record {
       left = left;
-      mid = mid;
       are_left = s.found.1;
       sought = added_sought c.args.change texts entire es c.args.old.now left mid (subst (λ n. AddsColumn texts entire n (drop n (take (past_sought c.args.change (length es)) es)) left mid) begins adds);
-      later = subst (λ n. AddsLater c.args.change n c.args.old.now mid c.add_later-2.new.matches) size c.in_ok-add_later-2.ensures;
     }
 
 pub returns-clause-steps : goal.returns-clause-steps
 returns-clause-steps c = λ plain.
-    let s = c.loop-number.invariant in
-    let many = length c.args.matchers.now in
-    let last : c.loop-number.number - c.first_sought-first.result ≡ past_sought c.args.change many - first_sought c.args.change many = omega (arith, s.high, c.loop-number-test.false, c.first_sought-first.ensures, c.past_sought-past.ensures) in
-    subst (λ n. AddsAtMost (n * length (terminated (map line_text c.args.chunk.now))) c.args.meter.now c.loop-number.meter) last s.steps
-
-pub returns-in_err-add_later-2-clause-steps : goal.returns-in_err-add_later-2-clause-steps
-returns-in_err-add_later-2-clause-steps c = λ plain.
     let s = c.loop-number.invariant in
     let many = length c.args.matchers.now in
     let last : c.loop-number.number - c.first_sought-first.result ≡ past_sought c.args.change many - first_sought c.args.change many = omega (arith, s.high, c.loop-number-test.false, c.first_sought-first.ensures, c.past_sought-past.ensures) in
@@ -145,9 +133,3 @@ returns-in_err-narrow_column-clause-same_matchers c = one_kept none_asked c.firs
 
 pub returns-in_err-narrow_column-clause-narrow : goal.returns-in_err-narrow_column-clause-narrow
 returns-in_err-narrow_column-clause-narrow c = λ on. rw c.first_sought-first.ensures at c.narrow_column.ensures.steps
-
-pub returns-in_err-add_later-clause-same_matchers : goal.returns-in_err-add_later-clause-same_matchers
-returns-in_err-add_later-clause-same_matchers c = one_kept none_asked c.first_sought-first.result c.index-matchers-first.result c.narrow_column.new.matcher c.narrow_column.ensures.same
-
-pub returns-in_err-add_later-clause-narrow : goal.returns-in_err-add_later-clause-narrow
-returns-in_err-add_later-clause-narrow c = λ on. rw c.first_sought-first.ensures at c.narrow_column.ensures.steps

@@ -1,5 +1,4 @@
-use Rattle.grep_session.proofs.Prelude.{◌≡◌, ◌++◌, [], All, List, length, map, sym, ap, subst, refl, ◌∙◌, arith, into_iter_items, Text, matched_expression, all_of, line_text, with_columns, FitColumns, Rebuild, SearchesEach, IsKept}
-use Rattle.grep_session.proofs.lemmas.EditLemmas.{empty_map}
+use Rattle.grep_session.proofs.Prelude.{◌≡◌, nil_from_length, length-map, ◌++◌, [], All, List, length, map, sym, ap, subst, refl, ◌∙◌, arith, into_iter_items, Text, matched_expression, all_of, line_text, with_columns, FitColumns, Rebuild, SearchesEach, IsKept}
 use Rattle.grep_session.proofs.lemmas.FoundLemmas.{fit_all, right_all, texts_with_columns, all_anew, all_anew_chunks}
 use Rattle.grep_session.proofs.lemmas.StepLemmas.{not_searched}
 use Rattle.grep_session.proofs.search.search_new.Goals as goal
@@ -19,7 +18,7 @@ returns-clause-steps c =
 
 pub returns-in_err-find_in_lines-clause-memory : goal.returns-in_err-find_in_lines-clause-memory
 returns-in_err-find_in_lines-clause-memory c = λ e.
-    let none = empty_map line_text (all_of c.kept_of-lines.result) (c.kept_of-lines.ensures.same ∙ e) in
+    let none = nil_from_length (all_of c.kept_of-lines.result) (sym (length-map (all_of c.kept_of-lines.result) line_text) ∙ ap length (c.kept_of-lines.ensures.same ∙ e)) in
     absurd (let no : ⊥ = omega (arith, c.if-len-eq0.false, c.len.ensures, ap length none) in no)
 
 pub put_columns-requires : goal.put_columns-requires

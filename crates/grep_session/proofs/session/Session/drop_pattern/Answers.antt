@@ -1,4 +1,4 @@
-use Rattle.grep_session.proofs.Prelude.{◌≡◌, ◌≤◌, ◌<◌, Ok, length, map, inl, refl, sym, subst, arith, All, length-map, matched_expression, wants_whole, most_patterns, IsFileKept, inputs_of, DropPattern}
+use Rattle.grep_session.proofs.Prelude.{◌≡◌, ◌≤◌, ◌<◌, Ok, length, map, inl, refl, sym, subst, arith, All, length-map, matched_expression, wants_whole, most_patterns, IsFileKept, inputs_of, DropPattern, TakesSteps}
 use Rattle.re_search.proofs.lemmas.KeptMatchers.{none_asked}
 use Rattle.grep_core.proofs.lemmas.CostLaws.{same_length}
 use Rattle.grep_session.proofs.lemmas.DroppingLemmas.{All-remove}
@@ -7,11 +7,20 @@ use Rattle.grep_session.proofs.lemmas.PatternLemmas.{has_matcher, has_dropped, t
 use Rattle.grep_session.proofs.lemmas.SessionLemmas.{map-remove}
 use Rattle.grep_session.proofs.lemmas.StepLemmas.{takes_none}
 use Rattle.grep_session.proofs.session.Session.drop_pattern.Goals as goal
-use Rattle.grep_session.proofs.session.Session.drop_pattern.Goals.{Else-p-len}
+use Rattle.grep_session.proofs.session.Session.drop_pattern.Goals.{After-find_columns, Else-p-len}
 
 -- there is such a pattern
 inside : (c : Else-p-len) → c.args.p < length (inputs_of c.self.inside).patterns
 inside c = omega (arith, length-map c.self.inside.texts.items (λ text. text.items))
+
+-- the steps of the search for parts
+taken : (c : After-find_columns) → TakesSteps (DropPattern c.args.p) (inputs_of c.self.inside) c.args.meter.now c.find_columns.new.meter
+taken c =
+    let s = c.self.inside in
+    let p = c.args.p in
+    let within : p < length (inputs_of s).patterns = omega (arith, length-map s.texts.items (λ text. text.items)) in
+    let changed = has_dropped s p c.self.invariant within c.remove-gone.result c.remove-gone.new.self.items c.remove-gone.ensures.value c.remove-gone.ensures.items in
+    takes_drop p (inputs_of s) _ _ (matched_expression c.remove-gone.result) _ _ within c.self.invariant.matchers.meant changed (c.find_columns.ensures.steps _ _ changed c.self.invariant.kept)
 
 pub returns-then-p-len-clause-steps : goal.returns-then-p-len-clause-steps
 returns-then-p-len-clause-steps c = takes_none (DropPattern c.args.p) _ _
@@ -76,20 +85,10 @@ invariant_of-self-in-Err c =
     left_session s _ refl refl c.self.invariant (bounded_back s.matchers.items c.remove-gone.new.self.items c.find_columns.new.matchers.items _ p c.remove-gone.result there c.remove-gone.ensures.value c.remove-gone.ensures.items c.find_columns.ensures.same_matchers c.put_back.ensures) c.in-Err.ensures.err refl
 
 pub returns-in-Err-clause-steps : goal.returns-in-Err-clause-steps
-returns-in-Err-clause-steps c =
-    let s = c.self.inside in
-    let p = c.args.p in
-    let within = inside (goal.at.returns-in-Err-clause-steps c).Else-p-len in
-    let changed = has_dropped s p c.self.invariant within c.remove-gone.result c.remove-gone.new.self.items c.remove-gone.ensures.value c.remove-gone.ensures.items in
-    rw (← c.self.view_is) (takes_drop p (inputs_of s) _ _ (matched_expression c.remove-gone.result) _ _ within c.self.invariant.matchers.meant changed (c.find_columns.ensures.steps _ _ changed c.self.invariant.kept))
+returns-in-Err-clause-steps c = rw (← c.self.view_is) (taken (goal.at.returns-in-Err-clause-steps c).After-find_columns)
 
 pub returns-clause-steps : goal.returns-clause-steps
-returns-clause-steps c =
-    let s = c.self.inside in
-    let p = c.args.p in
-    let within = inside (goal.at.returns-clause-steps c).Else-p-len in
-    let changed = has_dropped s p c.self.invariant within c.remove-gone.result c.remove-gone.new.self.items c.remove-gone.ensures.value c.remove-gone.ensures.items in
-    rw (← c.self.view_is) (takes_drop p (inputs_of s) _ _ (matched_expression c.remove-gone.result) _ _ within c.self.invariant.matchers.meant changed (c.find_columns.ensures.steps _ _ changed c.self.invariant.kept))
+returns-clause-steps c = rw (← c.self.view_is) (taken (goal.at.returns-clause-steps c).After-find_columns)
 
 pub invariant_of-self-2 : goal.invariant_of-self-2
 invariant_of-self-2 c =

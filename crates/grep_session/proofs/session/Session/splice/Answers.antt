@@ -1,5 +1,5 @@
-use Rattle.grep_session.proofs.Prelude.{◌≡◌, ◌+◌, Ok, IfSome, length, map, refl, sym, subst, ◌∙◌, ap, get_or, set, All, arith, matched_expression, KeptFile, Splice, Applies, HasPlace, TakesSteps, splice, spliced, file_at, with_files, IsKept, IsFileKept, kept_file, kept_lines, all_of, line_text, inputs_of, watched_of}
-use Rattle.grep_session.proofs.lemmas.EditLemmas.{asked_session, left_session, splice_steps, applies_splice, in_kept, kept_put, files_same, files_spliced, files_kept, needs_for_lines, empty_map}
+use Rattle.grep_session.proofs.Prelude.{◌≡◌, ◌+◌, Ok, IfSome, length, length-map, nil_from_length, map, refl, sym, subst, ◌∙◌, ap, get_or, set, All, arith, matched_expression, KeptFile, Splice, Applies, HasPlace, TakesSteps, splice, spliced, file_at, with_files, IsKept, IsFileKept, kept_file, kept_lines, all_of, line_text, inputs_of, watched_of}
+use Rattle.grep_session.proofs.lemmas.EditLemmas.{asked_session, left_session, splice_steps, applies_splice, in_kept, kept_put, files_same, files_spliced, files_kept, needs_for_lines}
 use Rattle.grep_session.proofs.lemmas.StepLemmas.{takes_none}
 use Rattle.grep_session.proofs.lemmas.SessionLemmas.{inputs_are}
 use Rattle.grep_session.proofs.lemmas.FitLemmas.{as_many, fit_as, fit_spliced, given_splice, lines_spliced, mark_within, mark_rest, mark_spliced}
@@ -95,7 +95,7 @@ returns-in-Err-search_new-clause-memory c =
 
 pub returns-in-Err-put_in-clause-memory : goal.returns-in-Err-put_in-clause-memory
 returns-in-Err-put_in-clause-memory c =
-    rw (← c.self.view_is) (λ need. absurd (needs_for_lines (inputs_of c.self.inside) _ _ _ _ (there (goal.at.returns-in-Err-put_in-clause-memory c).After-search_new) (λ empty. c.in-Err-put_in.ensures.memory (empty_map line_text (all_of c.in-Ok-search_new.kept) (c.in-Ok-search_new.ensures.texts ∙ empty))) need))
+    rw (← c.self.view_is) (λ need. absurd (needs_for_lines (inputs_of c.self.inside) _ _ _ _ (there (goal.at.returns-in-Err-put_in-clause-memory c).After-search_new) (λ empty. c.in-Err-put_in.ensures.memory (nil_from_length (all_of c.in-Ok-search_new.kept) (sym (length-map (all_of c.in-Ok-search_new.kept) line_text) ∙ ap length (c.in-Ok-search_new.ensures.texts ∙ empty)))) need))
 
 pub index_mut-requires : goal.index_mut-requires
 index_mut-requires c =
