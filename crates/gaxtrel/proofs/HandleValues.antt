@@ -1,4 +1,4 @@
--- The machine values of a `Handle` and of a `LiveHandle`, and what they own. Assumes `Logic`.
+-- The machine values of a `Handle`, and what they own. Assumes `Logic`.
 use Rattle.std.proofs.Common.{◌≡◌, List, [], ◌∷◌, ◌++◌, refl, subst}
 use Rattle.std.specs.Prelude.{Option}
 use seplogic.Ra.Ura.{Ura}
@@ -23,20 +23,14 @@ use Rattle.core.proofs.cell.Inside.{Good}
 use Rattle.std.specs.contracts.alloc.Global as global
 use Rattle.std.specs.contracts.impls.GlobalAllocator.TheImpl as heap
 use Rattle.std.proofs.alloc.Global.TheLaws as global_laws
-use Rattle.gaxtrel.specs.Kept.{Kept}
-use Rattle.gaxtrel.specs.contracts.patterns.Patterns as patterns
+use Rattle.gaxtrel.specs.declared.held.Held.{Held}
+use Rattle.gaxtrel.specs.contracts.held.Held as kind
 use Rattle.gaxtrel.specs.contracts.handle.Handle as handle
 use Rattle.gaxtrel.specs.Held.{held_owns}
-use Rattle.gaxtrel.specs.Live.{LiveKept}
-use Rattle.gaxtrel.specs.contracts.live.Live as live
-use Rattle.gaxtrel.specs.contracts.live_handle.LiveHandle as live_handle
 use Rattle.gaxtrel.proofs.Values as loose
 
 abbrev pub R : RattleType
-R = patterns.the_row
-
-abbrev pub Live : RattleType
-Live = live.the_row
+R = kind.the_row
 
 abbrev pub Z : RattleType
 Z = global.the_row
@@ -50,14 +44,8 @@ g = heap.ghosts
 abbrev pub Loose : RattleType
 Loose = loose.Loose R Z L g
 
-abbrev pub LiveLoose : RattleType
-LiveLoose = loose.Loose Live Z L g
-
 abbrev pub Handle : RattleType
 Handle = handle.the_row
-
-abbrev pub LiveHandle : RattleType
-LiveHandle = live_handle.the_row
 
 abbrev pub al : Al
 al = record { row = Z; laws = L; g = g; d = impl [] tnil dnil; drops = impl [] tnil dnil }
@@ -66,7 +54,7 @@ pub handle_good : (h : Val) → Good (layout Z) h → T (has_ty (layout Z) h && 
 handle_good h fits = (and_tt (has_ty (layout Z) h) fits.0, (record { fits = lit< tt }, (fits.1, tt)))
 
 module _ {M : Type 1} {𝓤 : Ura M} {𝓛 : Logic 𝓤} {K : Type 0} {Γ : List (Item 𝓤)} {G : Goal 𝓤 𝓛.H} where
-  pub handle_in : K → (p : Ptr) (h : Val) (a : Z.Denot) (x : Option Kept)
+  pub handle_in : K → (p : Ptr) (h : Val) (a : Z.Denot) (x : Option Held)
       → Step K 𝓛 (‵ (Handle.own_val (record { at = p; alloc = a; held = x }) (loose.both (ptr_val p) h ∷ [])) ∷ Γ) G (‵ (held_owns R a p x) ∷ ‵ (Z.own_val a (h ∷ [])) ∷ Γ) G
   handle_in t p h a x = step (λ s. let v : Val = loose.both (ptr_val p) h in
       nothing t $ move t (2 ∷ 0 ∷ []) $ fjoin t $ feq_i t (List Val) (ptr_val p ∷ []) (ptr_val p ∷ []) refl $ fjoin t $ feq_i t (List Val) (v ∷ []) (v ∷ []) refl $ fjoin t $
@@ -76,18 +64,5 @@ module _ {M : Type 1} {𝓤 : Ura M} {𝓛 : Logic 𝓤} {K : Type 0} {Γ : List
       → ((h : Val) → vs ≡ loose.both (ptr_val d.at) h ∷ [] → Good (layout Z) h → Seq K 𝓛 (‵ (held_owns R d.alloc d.at d.held) ∷ ‵ (Z.own_val d.alloc (h ∷ [])) ∷ Γ) G)
       → Seq K 𝓛 (‵ (Handle.own_val d vs) ∷ Γ) G
   handle_out t d vs k =
-      fsplit t $ fpick t (λ vss. fsplit t $ feq_l t (λ ev. fsplit t $ feq_l t (λ ep. fsplit t $ handle_tells al t d.alloc vss.1.0 (λ h ea fits. move t (1 ∷ []) $ drop t $ move t (1 ∷ []) $ k h
-      (subst (λ (ws : List Val). vs ≡ vstruct (of_list (ptr_val d.at ∷ (ws ++ []))) ∷ []) ea (subst (λ (ps : List Val). vs ≡ vstruct (of_list (ps ++ (vss.1.0 ++ []))) ∷ []) ep ev)) fits))))
-
-  pub live_in : K → (p : Ptr) (h : Val) (a : Z.Denot) (x : Option LiveKept)
-      → Step K 𝓛 (‵ (LiveHandle.own_val (record { at = p; alloc = a; held = x }) (loose.both (ptr_val p) h ∷ [])) ∷ Γ) G (‵ (held_owns Live a p x) ∷ ‵ (Z.own_val a (h ∷ [])) ∷ Γ) G
-  live_in t p h a x = step (λ s. let v : Val = loose.both (ptr_val p) h in
-      nothing t $ move t (2 ∷ 0 ∷ []) $ fjoin t $ feq_i t (List Val) (ptr_val p ∷ []) (ptr_val p ∷ []) refl $ fjoin t $ feq_i t (List Val) (v ∷ []) (v ∷ []) refl $ fjoin t $
-      fpack t (Valss (RawPtr ∷ (global.the_field).row ∷ [])) (within (shape live_handle.the_type) (p, ((global.the_field).into a, tt)) (v ∷ [])) (ptr_val p ∷ [], (h ∷ [], tt)) $ fjoin t $ s)
-
-  pub live_out : K → (d : LiveHandle.Denot) (vs : List Val)
-      → ((h : Val) → vs ≡ loose.both (ptr_val d.at) h ∷ [] → Good (layout Z) h → Seq K 𝓛 (‵ (held_owns Live d.alloc d.at d.held) ∷ ‵ (Z.own_val d.alloc (h ∷ [])) ∷ Γ) G)
-      → Seq K 𝓛 (‵ (LiveHandle.own_val d vs) ∷ Γ) G
-  live_out t d vs k =
       fsplit t $ fpick t (λ vss. fsplit t $ feq_l t (λ ev. fsplit t $ feq_l t (λ ep. fsplit t $ handle_tells al t d.alloc vss.1.0 (λ h ea fits. move t (1 ∷ []) $ drop t $ move t (1 ∷ []) $ k h
       (subst (λ (ws : List Val). vs ≡ vstruct (of_list (ptr_val d.at ∷ (ws ++ []))) ∷ []) ea (subst (λ (ps : List Val). vs ≡ vstruct (of_list (ps ++ (vss.1.0 ++ []))) ∷ []) ep ev)) fits))))

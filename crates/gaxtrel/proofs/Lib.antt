@@ -8,5 +8,4 @@ pub mod KeptLemmas
 pub mod ServedLemmas
 pub mod CommandLemmas
 -- what may go to another thread
-pub mod PatternsSend
-pub mod LiveSend
+pub mod HeldSend

@@ -1,5 +1,5 @@
 -- What is found of a search that serves for another is found for that.
-use Rattle.std.proofs.Common.{◌≡◌, ◌≢◌, ◌∙◌, ℕ, ◌+◌, ◌*◌, ◌≤◌, ◌↔◌, List, Option, None, Some, length, refl, sym, ap, subst, arith}
+use Rattle.std.proofs.Common.{◌≡◌, ◌∙◌, ℕ, ◌+◌, ◌↔◌, List, Option, None, Some, length, refl, sym, ap, subst, arith}
 use Rattle.re_syntax.specs.Bytes.{Text}
 use Rattle.re_syntax.specs.Parts.{ArePartsFrom}
 use Rattle.re_trees.specs.declared.span.Span.{Span}
@@ -10,7 +10,10 @@ use Rattle.re_runs.proofs.lemmas.NextLines.{finds_same}
 use Rattle.re_search.specs.Working.Sought.{CountsSought, IsSought, Sought}
 use Rattle.grep_core.proofs.lemmas.CostLaws.{adds_for_more}
 use Rattle.grep_core.proofs.lemmas.SameChoice.{Any-Matches, ArePartsFrom-same, IsFound-same, IsPart-same, other_way}
-use Rattle.gaxtrel.specs.Kept.{IsFor, Kept, Serves, expressions_in, sought_in}
+use Rattle.gaxtrel.specs.declared.held.Held.{Held}
+use Rattle.gaxtrel.specs.declared.held.Held.TheVariants.{Patterns}
+use Rattle.gaxtrel.specs.Held.{IsFor, patterns_in}
+use Rattle.gaxtrel.specs.Kept.{Kept, Serves, sought_in}
 use Rattle.gaxtrel.specs.Calls.{FindsLine, PutsParts, line_cost}
 use Rattle.gaxtrel.specs.declared.part.GaxtrelPart.{GaxtrelPart}
 
@@ -18,15 +21,14 @@ use Rattle.gaxtrel.specs.declared.part.GaxtrelPart.{GaxtrelPart}
 pub serves_itself : (asked sought : Sought) → asked ≡ sought → Serves asked sought
 serves_itself asked sought is = subst (Serves asked) is (record { same = λ line i j. (λ a. a, λ a. a); fewer = omega arith; whole = refl })
 
--- what is held serves for what is searched for, and so does what is held after a call
-module _ (held : Option Kept) (sought : Sought) (is : IsFor held sought) (kept : Kept) (there : held ≡ Some kept) where
-  pub serves_held : Serves (sought_in kept) sought
-  serves_held =
-      let same : is.kept ≡ kept = (let both : Some is.kept ≡ Some kept = sym is.is_there ∙ there in cc) in
-      subst (λ (k : Kept). Serves (sought_in k) sought) same is.serves
-
-  pub still_for : (after : Option Kept) (now : Kept) → after ≡ Some now → sought_in now ≡ sought_in kept → IsFor after sought
-  still_for after now holds same = record { kept = now; is_there = holds; serves = subst (λ s. Serves s sought) (sym same) serves_held }
+-- what was taken out serves for what is searched for, and so does what is held after a call
+pub served : (held : Option Held) (sought : Sought) → IsFor held sought → (boxed now : Held) (kept : Kept) → held ≡ Some boxed → now ≡ boxed → now ≡ Patterns kept
+    → Serves (sought_in kept) sought × ((after : Option Held) (last : Kept) → after ≡ Some (Patterns last) → sought_in last ≡ sought_in kept → IsFor after sought)
+served held sought is boxed now kept taken value kind =
+    let both : Some is.kept ≡ Some kept = sym is.is_there ∙ ap patterns_in (taken ∙ ap Some (sym value ∙ kind)) in
+    let same : is.kept ≡ kept = cc both in
+    let serves = subst (λ (k : Kept). Serves (sought_in k) sought) same is.serves in
+    (serves, λ after last holds stays. record { kept = last; is_there = ap patterns_in holds; serves = subst (λ s. Serves s sought) (sym stays) serves })
 
 module _ (asked sought : Sought) (serves : Serves asked sought) where
   is_here : (line : Text) → IsSought asked line → IsSought sought line

@@ -11,6 +11,7 @@ use Rattle.re_syntax.specs.Parts.{ArePartsFrom}
 use Rattle.re_syntax.specs.Profile.{most_patterns}
 use Rattle.re_meter.specs.Meters.{Steps, AddsAtMost, fresh}
 use Rattle.re_search.specs.Working.Sought.{FindsSought, Sought}
+use Rattle.gaxtrel.specs.declared.held.Held.{Held}
 use Rattle.gaxtrel.specs.declared.numbers.GaxtrelFault.{GaxtrelFault}
 use Rattle.gaxtrel.specs.declared.part.GaxtrelPart.{GaxtrelPart}
 use Rattle.gaxtrel.specs.declared.work.GaxtrelWork.{GaxtrelWork}
@@ -62,8 +63,12 @@ steps_of work =
     record { built = work.built; reused = work.reused; passed = work.passed }
 
 -- nothing is held, and no work is shown
-abbrev pub IsEmpty : {K : Type 0} → Option K → GaxtrelWork → Type 0
+abbrev pub IsEmpty : Option Held → GaxtrelWork → Type 0
 IsEmpty held work = (held ≡ None) × (steps_of work ≡ fresh)
+
+-- the answer to a call for what is not held: 3, with what is held as it was, and no work
+abbrev pub IsMisused : ℕ → Option Held → Option Held → GaxtrelWork → Type 0
+IsMisused answer old new work = (answer ≡ 3) × (new ≡ old) × (steps_of work ≡ fresh)
 
 -- a search of a line by so many matchers
 abbrev pub line_cost : ℕ → Text → ℕ

@@ -1,5 +1,5 @@
 -- What C keeps of patterns.
-use Rattle.std.specs.Prelude.{◌≡◌, ◌≤◌, Bool, List, Option, Some, length}
+use Rattle.std.specs.Prelude.{◌≡◌, ◌≤◌, Bool, List, length}
 use Rattle.re_syntax.specs.Expression.{Expression}
 use Rattle.re_search.specs.declared.matcher.Matcher.{Matcher}
 use Rattle.re_search.specs.Working.Matchers.{expressions_of}
@@ -24,9 +24,3 @@ pub record Serves (asked sought : Sought) : Type 0 where
   pub same : IsSameChoice asked.expressions sought.expressions
   pub fewer : length asked.expressions ≤ length sought.expressions
   pub whole : asked.whole ≡ sought.whole
-
--- something is kept, and it searches for this
-pub record IsFor (held : Option Kept) (sought : Sought) : Type 0 where
-  pub kept : Kept
-  pub is_there : held ≡ Some kept
-  pub serves : Serves (sought_in kept) sought

@@ -9,12 +9,13 @@ ghost use Rattle.re_syntax.specs.Profile.{most_patterns};
 ghost use Rattle.re_syntax.specs.Spelled.{IsMeant};
 ghost use Rattle.re_search.specs.Reading.{IsSmallFor, IsReadable, IsRefusedFor};
 ghost use Rattle.grep_core.specs.Matchers.{IsFirstRefused};
-ghost use Rattle.gaxtrel.specs.Kept.{IsFor};
+ghost use Rattle.gaxtrel.specs.Held.{IsFor, patterns_in};
 ghost use Rattle.re_meter.specs.Meters.{fresh};
 ghost use Rattle.gaxtrel.specs.Calls.{IsEmpty, syntax_number, kind_number, steps_of};
 ghost use Rattle.gaxtrel.specs.Calls.{too_many_patterns};
 
-use crate::kept::GaxtrelMatcher;
+use crate::held::Held;
+use crate::holder::GaxtrelHolder;
 use crate::numbers::{GaxtrelFault, TOO_MANY_PATTERNS, fault_of, syntax_of};
 use crate::patterns::Patterns;
 use grep_utility::has_more_than;
@@ -28,7 +29,7 @@ use std::alloc::Global;
 #[unsafe(no_mangle)]
 pub extern "C" fn gaxtrel_compile(
     alloc: Global,
-    matcher: &mut GaxtrelMatcher,
+    matcher: &mut GaxtrelHolder,
     pattern: &[u8],
     syntax: u32,
     fold: bool,
@@ -50,7 +51,7 @@ pub extern "C" fn gaxtrel_compile(
     ensures work { steps_of matcher.new.work ≡ fresh }
     ensures no_fault { (result ≡ 1 → ⊥) → fault.new ≡ fault.old }
 {
-    *matcher = GaxtrelMatcher::empty(alloc);
+    *matcher = GaxtrelHolder::empty(alloc);
     let Some(syntax) = syntax_of(syntax) else {
         return 3;
     };
@@ -72,7 +73,7 @@ pub extern "C" fn gaxtrel_compile(
 #[unsafe(no_mangle)]
 pub extern "C" fn gaxtrel_compile_lines(
     alloc: Global,
-    matcher: &mut GaxtrelMatcher,
+    matcher: &mut GaxtrelHolder,
     patterns: &[u8],
     syntax: u32,
     fold: bool,
@@ -97,7 +98,7 @@ pub extern "C" fn gaxtrel_compile_lines(
     ensures work { steps_of matcher.new.work ≡ fresh }
     ensures no_fault { (result ≡ 1 → ⊥) → fault.new ≡ fault.old }
 {
-    *matcher = GaxtrelMatcher::empty(alloc);
+    *matcher = GaxtrelHolder::empty(alloc);
     let Some(syntax) = syntax_of(syntax) else {
         return 3;
     };
@@ -118,24 +119,24 @@ pub extern "C" fn gaxtrel_compile_lines(
 }
 
 // Holds the patterns: 0, or 2 if memory is refused.
-fn hold(alloc: Global, patterns: Patterns, matcher: &mut GaxtrelMatcher) -> u32
+fn hold(alloc: Global, patterns: Patterns, matcher: &mut GaxtrelHolder) -> u32
     requires { IsEmpty matcher.old.handle.held matcher.old.work }
     ensures two { (result ≡ 0) ⊎ (result ≡ 2) }
-    ensures held { result ≡ 0 → matcher.new.handle.held ≡ Some patterns }
+    ensures held { result ≡ 0 → patterns_in matcher.new.handle.held ≡ Some patterns }
     ensures none { result ≡ 2 → matcher.new.handle.held ≡ None }
     ensures work { steps_of matcher.new.work ≡ fresh }
 {
-    let Ok(boxed) = Box::new(alloc, patterns) else {
+    let Ok(boxed) = Box::new(alloc, Held::Patterns(patterns)) else {
         return 2;
     };
-    *matcher = GaxtrelMatcher::of(boxed, &fresh_meter());
+    *matcher = GaxtrelHolder::of(boxed, &fresh_meter());
     0
 }
 
 /// Frees what `matcher` holds. It then holds none.
 #[unsafe(no_mangle)]
-pub extern "C" fn gaxtrel_free(alloc: Global, matcher: &mut GaxtrelMatcher)
+pub extern "C" fn gaxtrel_free(alloc: Global, matcher: &mut GaxtrelHolder)
     ensures { IsEmpty matcher.new.handle.held matcher.new.work }
 {
-    *matcher = GaxtrelMatcher::empty(alloc);
+    *matcher = GaxtrelHolder::empty(alloc);
 }

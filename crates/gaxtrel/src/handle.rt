@@ -1,28 +1,28 @@
-//! The pointer to boxed patterns that C keeps.
+//! The pointer that C keeps.
 ghost use Rattle.std.specs.Prelude.{◌≡◌, Some, None, Option};
 ghost use Rattle.std.specs.Coded.{codes};
-ghost use Rattle.gaxtrel.specs.Kept.{Kept};
-ghost use Rattle.gaxtrel.specs.contracts.patterns.Patterns as patterns;
+ghost use Rattle.gaxtrel.specs.declared.held.Held.{Held as Kind};
+ghost use Rattle.gaxtrel.specs.contracts.held.Held as kind;
 
+use crate::held::Held;
 use crate::loose::Loose;
-use crate::patterns::Patterns;
 use std::alloc::Global;
 use std::marker::Model;
 
-/// The pointer to boxed patterns, or to nothing. Dropping it leaks them.
+/// The pointer to what is boxed, or to nothing. Dropping it leaks that.
 #[repr(C)]
 #[derive(Drop)]
 pub struct Handle {
     pub(crate) at: *mut u8,
     pub(crate) alloc: Global,
-    pub ghost held: { Option Kept } by { Prim.hlevel (codes, patterns.the_row.coded) },
+    pub ghost held: { Option Kind } by { Prim.hlevel (codes, kind.the_row.coded) },
 }
 
 impl Model for Handle {
     ghost use Rattle.gaxtrel.specs.Held.{held_owns};
-    ghost use Rattle.gaxtrel.specs.contracts.patterns.Patterns as patterns;
+    ghost use Rattle.gaxtrel.specs.contracts.held.Held as kind;
 
-    ghost also_owns = { λ h. held_owns patterns.the_row h.alloc h.at h.held };
+    ghost also_owns = { λ h. held_owns kind.the_row h.alloc h.at h.held };
 }
 
 impl Handle {
@@ -36,8 +36,8 @@ impl Handle {
         }
     }
 
-    /// Holds the patterns.
-    pub(crate) fn of(loose: Loose<Patterns, Global>) -> Handle
+    /// Holds what is boxed.
+    pub(crate) fn of(loose: Loose<Held, Global>) -> Handle
         ensures { result.held ≡ Some loose.value }
     {
         let Loose { at, alloc } = loose;
@@ -47,14 +47,14 @@ impl Handle {
         }
     }
 
-    /// The patterns that it holds.
-    pub(crate) fn into_loose(self) -> Loose<Patterns, Global>
-        requires { (kept : Kept) × (self.held ≡ Some kept) }
+    /// What it holds.
+    pub(crate) fn into_loose(self) -> Loose<Held, Global>
+        requires { (held : Kind) × (self.held ≡ Some held) }
         ensures { self.held ≡ Some result.value }
     {
         let Handle { at, alloc } = self;
         Loose {
-            at: at as *mut Patterns,
+            at: at as *mut Held,
             alloc,
         }
     }

@@ -4,11 +4,10 @@
 
 mod compile;
 mod handle;
-mod kept;
-mod kept_live;
+mod held;
+mod holder;
 mod line_parts;
 mod live;
-mod live_handle;
 mod loose;
 mod numbers;
 mod part;
@@ -19,8 +18,7 @@ mod text_reader;
 mod text_search;
 mod work;
 
-pub use kept::GaxtrelMatcher;
-pub use kept_live::GaxtrelSession;
+pub use holder::GaxtrelHolder;
 pub use numbers::GaxtrelFault;
 pub use part::GaxtrelPart;
 pub use work::GaxtrelWork;

@@ -5,41 +5,45 @@ ghost use Rattle.re_trees.specs.declared.span.Span.{Span};
 ghost use Rattle.re_meter.specs.Meters.{AddsAtMost, fresh};
 ghost use Rattle.re_auto.specs.Searches.{FindsPart};
 ghost use Rattle.re_search.specs.Working.Sought.{CountsSought, IsSought, Sought};
-ghost use Rattle.gaxtrel.specs.Kept.{IsFor};
-ghost use Rattle.gaxtrel.specs.Calls.{FindsLine, IsEmpty, PutsParts, Tells, line_cost, steps_of};
+ghost use Rattle.gaxtrel.specs.Held.{IsFor, patterns_in};
+ghost use Rattle.gaxtrel.specs.Calls.{FindsLine, IsMisused, PutsParts, Tells, line_cost, steps_of};
 
-use crate::kept::GaxtrelMatcher;
+use crate::held::Held;
+use crate::holder::GaxtrelHolder;
 use crate::part::{GaxtrelPart, put_found};
 use re_auto::fresh_meter;
 use std::alloc::Global;
 
-/// Whether the line is matched: 1 if so, 0 if not; 3 if `matcher` holds none.
+/// Whether the line is matched: 1 if so, 0 if not; 3 if `matcher` holds no patterns.
 #[unsafe(no_mangle)]
-pub extern "C" fn gaxtrel_is_match(alloc: Global, matcher: &mut GaxtrelMatcher, line: &[u8]) -> u32
+pub extern "C" fn gaxtrel_is_match(alloc: Global, matcher: &mut GaxtrelHolder, line: &[u8]) -> u32
     ensures answered { (sought : Sought) → IsFor matcher.old.handle.held sought →
         IsFor matcher.new.handle.held sought
         × (result < 2) × ((result ≡ 1) ↔ IsSought sought line.now) }
     ensures work { (sought : Sought) → IsFor matcher.old.handle.held sought →
         AddsAtMost (line_cost (length sought.expressions) line.now) fresh
         (steps_of matcher.new.work) }
-    ensures none { matcher.old.handle.held ≡ None →
-        (result ≡ 3) × IsEmpty matcher.new.handle.held matcher.new.work }
+    ensures none { patterns_in matcher.old.handle.held ≡ None → IsMisused result
+        matcher.old.handle.held matcher.new.handle.held matcher.new.work }
 {
     let Some(mut boxed) = matcher.take(alloc) else {
         return 3;
     };
+    let Held::Patterns(patterns) = &mut *boxed else {
+        return matcher.put_back(boxed);
+    };
     let mut meter = fresh_meter();
-    let matched = boxed.is_match(line, &mut meter);
-    *matcher = GaxtrelMatcher::of(boxed, &meter);
+    let matched = patterns.is_match(line, &mut meter);
+    *matcher = GaxtrelHolder::of(boxed, &meter);
     matched as u32
 }
 
 /// The part of the line that begins earliest at `from` or later, and of those that begin there the
-/// longest: 1 if there is one, 0 if not; 3 if `matcher` holds none.
+/// longest: 1 if there is one, 0 if not; 3 if `matcher` holds no patterns.
 #[unsafe(no_mangle)]
 pub extern "C" fn gaxtrel_find(
     alloc: Global,
-    matcher: &mut GaxtrelMatcher,
+    matcher: &mut GaxtrelHolder,
     line: &[u8],
     from: usize,
     part: &mut GaxtrelPart,
@@ -51,26 +55,29 @@ pub extern "C" fn gaxtrel_find(
     ensures work { (sought : Sought) → IsFor matcher.old.handle.held sought →
         AddsAtMost (line_cost (length sought.expressions) line.now) fresh
         (steps_of matcher.new.work) }
-    ensures none { matcher.old.handle.held ≡ None →
-        (result ≡ 3) × IsEmpty matcher.new.handle.held matcher.new.work }
+    ensures none { patterns_in matcher.old.handle.held ≡ None → IsMisused result
+        matcher.old.handle.held matcher.new.handle.held matcher.new.work }
     ensures no_part { (result ≡ 1 → ⊥) → part.new ≡ part.old }
 {
     let Some(mut boxed) = matcher.take(alloc) else {
         return 3;
     };
+    let Held::Patterns(patterns) = &mut *boxed else {
+        return matcher.put_back(boxed);
+    };
     let mut meter = fresh_meter();
-    let found = boxed.find(line, from, &mut meter);
-    *matcher = GaxtrelMatcher::of(boxed, &meter);
+    let found = patterns.find(line, from, &mut meter);
+    *matcher = GaxtrelHolder::of(boxed, &meter);
     put_found(found, part)
 }
 
 /// All parts of the line from a place on: how many there are goes to `count`, and the first ones
 /// over `parts`, as many as it has room for. Answers 1 if there is one, 0 if not; 2 if memory is
-/// refused, and 3 if `matcher` holds none: then nothing is written.
+/// refused, and 3 if `matcher` holds no patterns: then nothing is written.
 #[unsafe(no_mangle)]
 pub extern "C" fn gaxtrel_parts(
     alloc: Global,
-    matcher: &mut GaxtrelMatcher,
+    matcher: &mut GaxtrelHolder,
     line: &[u8],
     from: usize,
     parts: &mut [GaxtrelPart],
@@ -86,16 +93,19 @@ pub extern "C" fn gaxtrel_parts(
         (steps_of matcher.new.work) }
     ensures refused { result ≡ 2 → (parts.new ≡ parts.old) × (count.new ≡ count.old)
         × (steps_of matcher.new.work ≡ fresh) }
-    ensures none { matcher.old.handle.held ≡ None →
-        (result ≡ 3) × IsEmpty matcher.new.handle.held matcher.new.work × (parts.new ≡ parts.old)
+    ensures none { patterns_in matcher.old.handle.held ≡ None → IsMisused result
+        matcher.old.handle.held matcher.new.handle.held matcher.new.work × (parts.new ≡ parts.old)
         × (count.new ≡ count.old) }
 {
     let Some(mut boxed) = matcher.take(alloc) else {
         return 3;
     };
+    let Held::Patterns(patterns) = &mut *boxed else {
+        return matcher.put_back(boxed);
+    };
     let mut meter = fresh_meter();
-    let found = boxed.parts(alloc, line, from, parts, &mut meter);
-    *matcher = GaxtrelMatcher::of(boxed, &meter);
+    let found = patterns.parts(alloc, line, from, parts, &mut meter);
+    *matcher = GaxtrelHolder::of(boxed, &meter);
     let Ok(found) = found else {
         return 2;
     };
@@ -104,11 +114,11 @@ pub extern "C" fn gaxtrel_parts(
 }
 
 /// The first matched line of what is left of a text from `from` on, by its place in the text
-/// without its newline: 1 if there is one, 0 if not; 3 if `matcher` holds none.
+/// without its newline: 1 if there is one, 0 if not; 3 if `matcher` holds no patterns.
 #[unsafe(no_mangle)]
 pub extern "C" fn gaxtrel_next_line(
     alloc: Global,
-    matcher: &mut GaxtrelMatcher,
+    matcher: &mut GaxtrelHolder,
     text: &[u8],
     from: usize,
     line: &mut GaxtrelPart,
@@ -118,25 +128,28 @@ pub extern "C" fn gaxtrel_next_line(
         × ((place : Option Span)
         × FindsLine sought text.now from place fresh (steps_of matcher.new.work)
         × Tells result line.new place) }
-    ensures none { matcher.old.handle.held ≡ None →
-        (result ≡ 3) × IsEmpty matcher.new.handle.held matcher.new.work }
+    ensures none { patterns_in matcher.old.handle.held ≡ None → IsMisused result
+        matcher.old.handle.held matcher.new.handle.held matcher.new.work }
     ensures no_line { (result ≡ 1 → ⊥) → line.new ≡ line.old }
 {
     let Some(mut boxed) = matcher.take(alloc) else {
         return 3;
     };
+    let Held::Patterns(patterns) = &mut *boxed else {
+        return matcher.put_back(boxed);
+    };
     let mut meter = fresh_meter();
-    let found = boxed.next_line(text, from, &mut meter);
-    *matcher = GaxtrelMatcher::of(boxed, &meter);
+    let found = patterns.next_line(text, from, &mut meter);
+    *matcher = GaxtrelHolder::of(boxed, &meter);
     put_found(found, line)
 }
 
 /// How many lines of a text are matched goes to `count`: 1 if some is, 0 if none is; 3 if
-/// `matcher` holds none.
+/// `matcher` holds no patterns.
 #[unsafe(no_mangle)]
 pub extern "C" fn gaxtrel_count_lines(
     alloc: Global,
-    matcher: &mut GaxtrelMatcher,
+    matcher: &mut GaxtrelHolder,
     text: &[u8],
     count: &mut u64,
 ) -> u32
@@ -146,15 +159,18 @@ pub extern "C" fn gaxtrel_count_lines(
     ensures work { (sought : Sought) → IsFor matcher.old.handle.held sought →
         AddsAtMost (line_cost (length sought.expressions) text.now) fresh
         (steps_of matcher.new.work) }
-    ensures none { matcher.old.handle.held ≡ None →
-        (result ≡ 3) × IsEmpty matcher.new.handle.held matcher.new.work × (count.new ≡ count.old) }
+    ensures none { patterns_in matcher.old.handle.held ≡ None → IsMisused result
+        matcher.old.handle.held matcher.new.handle.held matcher.new.work × (count.new ≡ count.old) }
 {
     let Some(mut boxed) = matcher.take(alloc) else {
         return 3;
     };
+    let Held::Patterns(patterns) = &mut *boxed else {
+        return matcher.put_back(boxed);
+    };
     let mut meter = fresh_meter();
-    let counted = boxed.count_lines(text, &mut meter);
-    *matcher = GaxtrelMatcher::of(boxed, &meter);
+    let counted = patterns.count_lines(text, &mut meter);
+    *matcher = GaxtrelHolder::of(boxed, &meter);
     *count = counted;
     (counted > 0) as u32
 }

@@ -4,9 +4,11 @@ ghost use Rattle.re_syntax.specs.Profile.{most_states};
 ghost use Rattle.re_meter.specs.Meters.{fresh};
 ghost use Rattle.grep_cmd.specs.Replies.{new_state};
 ghost use Rattle.gaxtrel.specs.Live.{LiveKept, AnswersText, text_over};
-ghost use Rattle.gaxtrel.specs.Calls.{IsEmpty, steps_of};
+ghost use Rattle.gaxtrel.specs.Held.{session_in};
+ghost use Rattle.gaxtrel.specs.Calls.{IsEmpty, IsMisused, steps_of};
 
-use crate::kept_live::GaxtrelSession;
+use crate::held::Held;
+use crate::holder::GaxtrelHolder;
 use crate::live::Live;
 use re_auto::fresh_meter;
 use std::alloc::Global;
@@ -20,26 +22,27 @@ const MOST_STATES: usize = 65_536;
 #[unsafe(no_mangle)]
 pub extern "C" fn gaxtrel_session_open(
     alloc: Global,
-    session: &mut GaxtrelSession,
+    session: &mut GaxtrelHolder,
     states: usize,
 ) -> u32
     ensures opened { result ≡ 0 →
-        session.new.handle.held ≡ Some (record { state = new_state states; replies = [] }) }
+        session_in session.new.handle.held
+        ≡ Some (record { state = new_state states; replies = [] }) }
     ensures none { (result ≡ 0 → ⊥) → session.new.handle.held ≡ None }
     ensures three { (result ≡ 1 → ⊥) × (result ≤ 3) }
     ensures work { steps_of session.new.work ≡ fresh }
     ensures range { (result ≡ 3) ↔ ((1 ≤ states) × (states ≤ most_states) → ⊥) }
 {
-    *session = GaxtrelSession::empty(alloc);
+    *session = GaxtrelHolder::empty(alloc);
     if states == 0 {
         return 3;
     }
     if states > MOST_STATES {
         return 3;
     }
-    match Box::new(alloc, Live::new(alloc, states)) {
+    match Box::new(alloc, Held::Session(Live::new(alloc, states))) {
         Ok(boxed) => {
-            *session = GaxtrelSession::of(boxed, &fresh_meter());
+            *session = GaxtrelHolder::of(boxed, &fresh_meter());
             0
         }
         Err(_) => 2,
@@ -48,63 +51,69 @@ pub extern "C" fn gaxtrel_session_open(
 
 /// Answers the commands of a text, one after the other, and keeps the replies until the next call
 /// of this function; how many bytes they have goes to `count`. Answers 0; or 1 if a command was
-/// refused, 2 if memory was refused, 3 if `session` holds none.
+/// refused, 2 if memory was refused, 3 if `session` holds no session.
 #[unsafe(no_mangle)]
 pub extern "C" fn gaxtrel_session_answer(
     alloc: Global,
-    session: &mut GaxtrelSession,
+    session: &mut GaxtrelHolder,
     commands: &[u8],
     count: &mut usize,
 ) -> u32
-    ensures answered { (before : LiveKept) → session.old.handle.held ≡ Some before →
-        (after : LiveKept) × (session.new.handle.held ≡ Some after)
+    ensures answered { (before : LiveKept) → session_in session.old.handle.held ≡ Some before →
+        (after : LiveKept) × (session_in session.new.handle.held ≡ Some after)
         × AnswersText before.state commands.now fresh after (steps_of session.new.work) result
         × (count.new ≡ length after.replies) }
-    ensures none { session.old.handle.held ≡ None →
-        (result ≡ 3) × IsEmpty session.new.handle.held session.new.work × (count.new ≡ count.old) }
+    ensures none { session_in session.old.handle.held ≡ None → IsMisused result
+        session.old.handle.held session.new.handle.held session.new.work × (count.new ≡ count.old) }
 {
     let Some(mut boxed) = session.take(alloc) else {
         return 3;
     };
+    let Held::Session(live) = &mut *boxed else {
+        return session.put_back(boxed);
+    };
     let mut meter = fresh_meter();
-    let ended = boxed.answer(alloc, commands, &mut meter);
-    *count = boxed.count();
-    *session = GaxtrelSession::of(boxed, &meter);
+    let ended = live.answer(alloc, commands, &mut meter);
+    *count = live.count();
+    *session = GaxtrelHolder::of(boxed, &meter);
     ended
 }
 
 /// The replies to the last commands: how many bytes they have goes to `count`, and those from a
-/// place on over `into`, as many as it has room for. Answers 0; or 3 if `session` holds none.
+/// place on over `into`, as many as it has room for. Answers 0; or 3 if `session` holds no session.
 #[unsafe(no_mangle)]
 pub extern "C" fn gaxtrel_session_replies(
     alloc: Global,
-    session: &mut GaxtrelSession,
+    session: &mut GaxtrelHolder,
     from: usize,
     into: &mut [u8],
     count: &mut usize,
 ) -> u32
-    ensures read { (kept : LiveKept) → session.old.handle.held ≡ Some kept →
-        (result ≡ 0) × (session.new.handle.held ≡ Some kept)
+    ensures read { (kept : LiveKept) → session_in session.old.handle.held ≡ Some kept →
+        (result ≡ 0) × (session.new.handle.held ≡ session.old.handle.held)
         × (count.new ≡ length kept.replies)
         × (into.new ≡ text_over (drop from kept.replies) into.old) }
-    ensures none { session.old.handle.held ≡ None →
-        (result ≡ 3) × (session.new.handle.held ≡ None) × (into.new ≡ into.old)
+    ensures none { session_in session.old.handle.held ≡ None → IsMisused result
+        session.old.handle.held session.new.handle.held session.new.work × (into.new ≡ into.old)
         × (count.new ≡ count.old) }
     ensures work { steps_of session.new.work ≡ fresh }
 {
     let Some(boxed) = session.take(alloc) else {
         return 3;
     };
-    boxed.put_replies(from, into);
-    *count = boxed.count();
-    *session = GaxtrelSession::of(boxed, &fresh_meter());
+    let Held::Session(live) = &*boxed else {
+        return session.put_back(boxed);
+    };
+    live.put_replies(from, into);
+    *count = live.count();
+    *session = GaxtrelHolder::of(boxed, &fresh_meter());
     0
 }
 
 /// Frees what `session` holds. It then holds none.
 #[unsafe(no_mangle)]
-pub extern "C" fn gaxtrel_session_free(alloc: Global, session: &mut GaxtrelSession)
+pub extern "C" fn gaxtrel_session_free(alloc: Global, session: &mut GaxtrelHolder)
     ensures { IsEmpty session.new.handle.held session.new.work }
 {
-    *session = GaxtrelSession::empty(alloc);
+    *session = GaxtrelHolder::empty(alloc);
 }

@@ -1,21 +1,19 @@
-use Rattle.std.proofs.Common.{rules, IsTrue, Some, ap, sym, ◌∙◌, ◌↔◌}
+use Rattle.std.proofs.Common.{rules, IsTrue, ◌↔◌}
 use Rattle.re_search.specs.Working.Sought.{IsSought}
 use Rattle.gaxtrel.specs.Kept.{sought_in}
-use Rattle.gaxtrel.proofs.ServedLemmas.{cost_served, line_served, serves_held, still_for}
+use Rattle.gaxtrel.proofs.ServedLemmas.{cost_served, line_served, served}
 use Rattle.gaxtrel.proofs.search.gaxtrel_is_match.Goals as goal
 
 pub returns-clause-answered : goal.returns-clause-answered
 returns-clause-answered c = λ sought is.
-    let kept = c.deref_mut.result.now in
-    let there = c.in-Some.ensures.taken ∙ ap Some (sym c.deref_mut.ensures.value) in
-    let serves = serves_held c.args.matcher.now.handle.held sought is kept there in
+    let kept = c.in-Patterns.patterns in
+    let (serves, still) = served _ sought is _ _ kept c.in-Some.ensures.taken c.deref_mut.ensures.value c.in-Patterns.is in
     let line = line_served (sought_in kept) sought serves c.args.line.now in
     let told : IsTrue c.is_match-matched.result ↔ IsSought sought c.args.line.now = ((λ h. line.0 (c.is_match-matched.ensures.reported.0 h)), (λ h. c.is_match-matched.ensures.reported.1 (line.1 h))) in
-    (still_for c.args.matcher.now.handle.held sought is kept there c.of.result.handle.held c.is_match-matched.new.self c.of.ensures.held c.is_match-matched.ensures.same, search rules, search (rules, told))
+    (still c.of.result.handle.held c.is_match-matched.new.self c.of.ensures.held c.is_match-matched.ensures.same, search rules, search (rules, told))
 
 pub returns-clause-work : goal.returns-clause-work
 returns-clause-work c = λ sought is.
-    let kept = c.deref_mut.result.now in
-    let there = c.in-Some.ensures.taken ∙ ap Some (sym c.deref_mut.ensures.value) in
-    let serves = serves_held c.args.matcher.now.handle.held sought is kept there in
+    let kept = c.in-Patterns.patterns in
+    let (serves, still) = served _ sought is _ _ kept c.in-Some.ensures.taken c.deref_mut.ensures.value c.in-Patterns.is in
     rw c.of.ensures.work (rw c.fresh_meter-meter.ensures at (cost_served (sought_in kept) sought serves c.args.line.now _ _ c.is_match-matched.ensures.steps))

@@ -1,4 +1,4 @@
--- A handle may go to another thread: its patterns may, and any thread may free their block.
+-- A handle may go to another thread: what it holds may, and any thread may free its block.
 use Rattle.std.specs.Prelude.{Option, Some, None}
 use base.Shift.{Keyless}
 use mir.Raw.{raw}
@@ -12,14 +12,14 @@ use Rattle.std.specs.contracts.alloc.Global as global_heap
 use Rattle.std.proofs.Crossing.{frees}
 use Rattle.std_alloc.proofs.SendSync.{quiet, lies}
 use Rattle.std.proofs.alloc.Global.TheSendSync as global
-use Rattle.gaxtrel.specs.Kept.{Kept}
-use Rattle.gaxtrel.specs.contracts.patterns.Patterns as patterns
-use Rattle.gaxtrel.proofs.PatternsSend as patterns_send
+use Rattle.gaxtrel.specs.declared.held.Held.{Held}
+use Rattle.gaxtrel.specs.contracts.held.Held as kind
+use Rattle.gaxtrel.proofs.HeldSend as held_send
 use Rattle.gaxtrel.specs.Held.{held_owns}
 use Rattle.gaxtrel.specs.contracts.handle.Handle.{the_row, the_type}
 
-held_keyless : (alloc : (global_heap.the_row).Denot) (at : Ptr) (held : Option Kept) → Keyless (held_owns patterns.the_row alloc at held)
-held_keyless alloc at (Some m) = (lies patterns.the_row patterns_send.patterns at m, frees.frees alloc (raw (lone (patterns.the_row).mir)) at)
+held_keyless : (alloc : (global_heap.the_row).Denot) (at : Ptr) (it : Option Held) → Keyless (held_owns kind.the_row alloc at it)
+held_keyless alloc at (Some m) = (lies kind.the_row held_send.held at m, frees.frees alloc (raw (lone (kind.the_row).mir)) at)
 held_keyless alloc at None = tt
 
 pub send : IsSend the_row

@@ -24,7 +24,7 @@ use Rattle.core.proofs.alloc.Calls.{Goes-blank}
 use Rattle.std.specs.contracts.impls.GlobalAllocator.TheImpl.{ghosts}
 use Rattle.std.specs.Box.Ownership.{box_owns}
 use Rattle.std.proofs.raw_atomic.Walks.{proved_at, leaves}
-use Rattle.gaxtrel.specs.Kept.{Kept}
+use Rattle.gaxtrel.specs.declared.held.Held.{Held}
 use Rattle.gaxtrel.specs.Held.{held_owns}
 use Rattle.gaxtrel.proofs.Values.{both, loose_good, loose_in}
 use Rattle.gaxtrel.proofs.HandleValues.{R, Z, L, g, Handle, handle_out}
@@ -38,9 +38,9 @@ into_loose_spec 𝓤 𝓛 𝓜 𝓡 wired =
     let H = 𝓛.H in let 𝓣 = tables 𝓤 H 𝓜 𝓡 𝓡.env in let c = clauses 𝓛 𝓜.mem 𝓡.returns in let fn = code.function in
     let hs : Stays ended.signature.params ended.kept = (stay_dropped (plain (λ _. Handle)) yes, tt) in
     proved_at 𝓛 ended hs c 𝓜 𝓡 (Goes-blank 𝓛 0 (plain (λ _. Handle)) yes (λ κs x f. tt), tt) #self fn (code.unfolded 𝓤 H 𝓜 𝓡 wired) (λ z are.
-    let κs = z.0.0 in let v = z.0.3.0 in let a = v.alloc in let Has : Type 0 = (m : Kept) × (v.held ≡ Some m) in let Post : Val → SProp 𝓤 = (walk_of 𝓛 ended hs c).post z in let Run : List Val → SProp 𝓤 = λ ws. WpFn 𝓤 H 𝓣.C 𝓣.Λ fn ws Post in
-    qed 𝓛 ((‵ ftrue ⊛ ‵ (owns (types_at ended.signature.params κs) z.0.3 z.0.4)) ∷ raw (fact 𝓤 Has) ∷ []) ∵ move ! (1 ∷ []) $ heard ! Has (λ has. let x : Kept = has.0 in let eh = has.1 in
-    split ! $ drop ! $ fsplit ! $ handle_out ! v z.0.4.0 (λ h ws fits. rewrite ! 0 (λ (y : Option Kept). ‵ (held_owns R v.alloc v.at y)) eh refl $
+    let κs = z.0.0 in let v = z.0.3.0 in let a = v.alloc in let Has : Type 0 = (m : Held) × (v.held ≡ Some m) in let Post : Val → SProp 𝓤 = (walk_of 𝓛 ended hs c).post z in let Run : List Val → SProp 𝓤 = λ ws. WpFn 𝓤 H 𝓣.C 𝓣.Λ fn ws Post in
+    qed 𝓛 ((‵ ftrue ⊛ ‵ (owns (types_at ended.signature.params κs) z.0.3 z.0.4)) ∷ raw (fact 𝓤 Has) ∷ []) ∵ move ! (1 ∷ []) $ heard ! Has (λ has. let x : Held = has.0 in let eh = has.1 in
+    split ! $ drop ! $ fsplit ! $ handle_out ! v z.0.4.0 (λ h ws fits. rewrite ! 0 (λ (y : Option Held). ‵ (held_owns R v.alloc v.at y)) eh refl $
     in_a_block ! v.at (λ p. box_owns (ghosts.dealloc_token a) R p x) (fst∗ 𝓤 (never 𝓤) (sem 𝓛 (ghosts.dealloc_token a (bare (lone R.mir)) null_ptr))) (λ b o e.
     let w : Val = both (vptr b o) h in let typed = loose_good R Z L g b o h fits in let is : z.0.4.0 ≡ w ∷ [] = ws ∙ ap (λ (p : Ptr). both (ptr_val p) h ∷ []) e in
     suffices ! (Run (w ∷ [])) (subst (λ (us : List Val). ent 𝓤 (Run (w ∷ [])) (Run us)) (sym (λ i. is i ++ [])) (id⊢ 𝓤 (Run (w ∷ [])))) $

@@ -1,4 +1,4 @@
--- Patterns may go to another thread.
+-- Patterns and a session may go to another thread.
 use denote.Param.Send.{IsSend, sendable}
 use Rattle.re_auto.proofs.tables.Tables.TheSendSync as tables
 use Rattle.re_match.below.re_ends.proofs.table.EndTable.TheSendSync as ends
@@ -13,9 +13,13 @@ use Rattle.std.below.std_heap.proofs.GlobalAllocator.TheSendSync as heap
 use Rattle.std.proofs.Crossing
 use Rattle.std.proofs.MapsCrossing
 use Rattle.std.proofs.alloc.Global.TheSendSync as global
+use Rattle.grep_session.proofs.kept.KeptFile.TheSendSync as kept
+use Rattle.line_marks.proofs.mark.Mark.TheSendSync as mark
 use Rattle.re_match.specs.contracts.cached.Cached as cached_row
 use Rattle.re_search.specs.contracts.matcher.Matcher as matcher_row
-use Rattle.gaxtrel.specs.contracts.patterns.Patterns as patterns_row
+use Rattle.grep_session.specs.contracts.session.Session as session_row
+use Rattle.grep_cmd.specs.contracts.script.Script as script_row
+use Rattle.gaxtrel.specs.contracts.held.Held as kind
 
 cached : IsSend cached_row.the_row
 cached =
@@ -33,8 +37,14 @@ cached =
       sendable,
     ) depth 60 fits 20000
 
-pub matcher : IsSend matcher_row.the_row
+matcher : IsSend matcher_row.the_row
 matcher = search (strings.the_send, cached, box.the_send, global.the_send, heap.the_frees, sendable) depth 60 fits 20000
 
-pub patterns : IsSend patterns_row.the_row
-patterns = search (matcher, Crossing.crosses, sendable) depth 60 fits 20000
+session : IsSend session_row.the_row
+session = search (matcher, kept.the_field_send, mark.the_send, global.the_field_send, Crossing.crosses, sendable) depth 60 fits 20000
+
+script : IsSend script_row.the_row
+script = search (session, sendable) depth 60 fits 20000
+
+pub held : IsSend kind.the_row
+held = search (matcher, script, Crossing.crosses, sendable) depth 60 fits 20000
