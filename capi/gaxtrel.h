@@ -19,6 +19,7 @@
 #include <stdint.h>
 
 #define GAXTREL_VERSION "1.0.0"
+#define GAXTREL_VERSION_NUMBER 1000000
 
 #ifdef __cplusplus
 extern "C" {
@@ -109,6 +110,10 @@ static inline const char *gaxtrel_kind_name(uint32_t kind) {
         "UndefinedEscape", "BackReference", "TooDeep",            "TooLarge",         "TooManyPatterns"};
     return kind - 1 < sizeof names / sizeof *names ? names[kind - 1] : "Unknown";
 }
+
+/* The version of the library, as GAXTREL_VERSION_NUMBER is that of this header: 1,000,000 times its
+   first number, 1,000 times its second, and its third. */
+uint32_t gaxtrel_version(void);
 
 /* Makes a matcher of a pattern, and frees what `matcher` held before. With `fold` both cases of
    letters are alike; with `whole` the whole line has to be matched. GAXTREL_OK: it is made.

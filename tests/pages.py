@@ -196,6 +196,13 @@ NAMES_OF_VERSION = {
 }
 """How each file that names the version does so; the first name in it counts."""
 
+NUMBERS_OF_VERSION = {
+    "capi/gaxtrel.h": r"^#define GAXTREL_VERSION_NUMBER (\d+)$",
+    "crates/gaxtrel/specs/Calls.antt": r"^version = (\d+)$",
+    "crates/gaxtrel/src/version.rt": r"^const VERSION: u32 = ([\d_]+);$",
+}
+"""The same of the version as one number, with three digits for each part."""
+
 
 @case("All files that name the version name that of the file VERSION.")
 def versions(bench: Bench) -> Verdict:
@@ -204,6 +211,11 @@ def versions(bench: Bench) -> Verdict:
     named = {name: re.findall(form, (REPOSITORY / name).read_text(encoding="utf-8"), re.MULTILINE)
              for name, form in NAMES_OF_VERSION.items()}
     faults = [f"{name}: {found[:1]}" for name, found in named.items() if found[:1] != [version]]
+    number = "".join(f"{int(part):03}" for part in version.split(".")).lstrip("0")
+    numbers = {name: re.findall(form, (REPOSITORY / name).read_text(encoding="utf-8"), re.MULTILINE)
+               for name, form in NUMBERS_OF_VERSION.items()}
+    faults += [f"{name}: {found}" for name, found in numbers.items()
+               if [each.replace("_", "") for each in found] != [number]]
     listed = subprocess.run(["git", "grep", "-lwF", "-e", version], cwd=REPOSITORY, timeout=SECONDS,
                             capture_output=True, check=False).stdout.decode().split()
     return judged(faults + [f"{name}: it isn't in the test's table"

@@ -29,6 +29,7 @@ static int one(void) {
     gaxtrel_fault fault = {0, 0, 7};
     gaxtrel_part part = {9, 9};
     CHECK(1, gaxtrel_is_match(&m, P("x")) == GAXTREL_MISUSED);
+    CHECK(23, gaxtrel_version() == GAXTREL_VERSION_NUMBER);
     CHECK(2, gaxtrel_compile(&m, P("ab|abcd|bc"), GAXTREL_EXTENDED, false, false, &fault) == GAXTREL_OK);
     CHECK(3, gaxtrel_is_match(&m, P("xabcde")) == GAXTREL_YES && steps(&m) <= 7 && m.work.passed <= 7);
     CHECK(4, took(&m) && gaxtrel_is_match(&m, P("xacde")) == GAXTREL_NO && took(&m));

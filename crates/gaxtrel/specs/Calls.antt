@@ -16,6 +16,10 @@ use Rattle.gaxtrel.specs.declared.numbers.GaxtrelFault.{GaxtrelFault}
 use Rattle.gaxtrel.specs.declared.part.GaxtrelPart.{GaxtrelPart}
 use Rattle.gaxtrel.specs.declared.work.GaxtrelWork.{GaxtrelWork}
 
+-- the version: 1,000,000 times its first number, 1,000 times its second, and its third
+abbrev pub version : ℕ
+version = 1000000
+
 -- the numbers of the syntaxes
 abbrev pub syntax_number : Syntax → ℕ
 syntax_number s.Basic = 0

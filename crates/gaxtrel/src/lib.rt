@@ -16,6 +16,7 @@ mod search;
 mod session;
 mod text_reader;
 mod text_search;
+mod version;
 mod work;
 
 pub use holder::GaxtrelHolder;
