@@ -15,9 +15,9 @@
 # make test-editor  tests the Emacs client on the built programs (needs Emacs 28)
 # make test-nvim  tests the Neovim client on the built programs (needs Neovim 0.7)
 # make lib        proves what libgaxtrel needs, and builds it into build/lib
-# make test-lib   tries it in C (plain, under sanitizers, with each allocation refused, from eight threads) and in
-#                 Python, on AT&T's cases, rows and scripts of tests/, and beside the built grep on 100,000 patterns
-#                 (needs a C compiler and Python 3.11)
+# make test-lib   tries it in C (plain, under sanitizers, with each allocation refused, from eight threads, by a million
+#                 random calls) and in Python, on AT&T's cases, rows and scripts of tests/, and beside the built grep on
+#                 100,000 patterns (needs compilers for C and C++, and Python 3.11)
 # make test-engines  tries its extensions of SQLite and PostgreSQL and its module for Dask in the real engines (needs
 #                 sqlite3, libsqlite3-dev, postgresql, postgresql-server-dev-all, python3-distributed)
 # make figures    makes docs/figures/*.svg of crates.txt and of tables of the pages, and gives links of the pages to
@@ -122,6 +122,7 @@ build/lib/libgaxtrel.a:
 test-lib: build/lib/libgaxtrel.a build/grep
 	tools/evidence.sh test-lib $(MAKE) --no-print-directory -C capi test
 	tools/evidence.sh test-lib-cases $(MAKE) --no-print-directory -C capi test-cases
+	tools/evidence.sh test-lib-fuzz $(MAKE) --no-print-directory -C capi test-fuzz
 	tools/evidence.sh test-lib-random python3 capi/tests/random_patterns.py build/grep
 
 test-engines: build/lib/libgaxtrel.a build/grep

@@ -1,8 +1,8 @@
 /* gaxtrel.h: POSIX regular expressions over lines, and live sessions of them, proved.
 
    What a caller owes, since nothing checks it:
-   - each pointer points to what its type says, also where a length is 0, and no two overlap where
-     one is written;
+   - each pointer points to what its type says, and no two overlap where one is written. That of a
+     text of no bytes, or of an array with no room, may be null in a call by name;
    - a matcher or a session begins with GAXTREL_NONE, is written by these calls alone, and is used by
      one call at a time. It may be moved by memcpy, after which the old one is not used, not even to
      free it; and it may go to another thread, ordered by a lock, a start or a join;
@@ -190,6 +190,32 @@ uint32_t gaxtrel_session_replies(gaxtrel_session *session, size_t from, uint8_t 
 
 /* Frees what `session` holds. It then holds none, and may be opened again. */
 void gaxtrel_session_free(gaxtrel_session *session);
+
+/* A call by name gives its function no null: what may be null gets a place. A call through a pointer
+   to a function goes without that. */
+#define GAXTREL_PLACE(name, type)                                                                        \
+    static inline type *name(type *at) {                                                                 \
+        static uint64_t none[2];                                                                         \
+        return at ? at : (type *)none;                                                                   \
+    }
+GAXTREL_PLACE(gaxtrel_private_text, const uint8_t)
+GAXTREL_PLACE(gaxtrel_private_into, uint8_t)
+GAXTREL_PLACE(gaxtrel_private_parts, gaxtrel_part)
+#undef GAXTREL_PLACE
+
+#define GAXTREL_TEXT(call, held, text, ...) call(held, gaxtrel_private_text(text), __VA_ARGS__)
+#define GAXTREL_INTO(call, held, from, into, ...) call(held, from, gaxtrel_private_into(into), __VA_ARGS__)
+#define GAXTREL_PARTS(call, held, line, length, from, parts, ...)                                        \
+    call(held, gaxtrel_private_text(line), length, from, gaxtrel_private_parts(parts), __VA_ARGS__)
+#define gaxtrel_compile(...) GAXTREL_TEXT(gaxtrel_compile, __VA_ARGS__)
+#define gaxtrel_compile_lines(...) GAXTREL_TEXT(gaxtrel_compile_lines, __VA_ARGS__)
+#define gaxtrel_is_match(...) GAXTREL_TEXT(gaxtrel_is_match, __VA_ARGS__)
+#define gaxtrel_find(...) GAXTREL_TEXT(gaxtrel_find, __VA_ARGS__)
+#define gaxtrel_parts(...) GAXTREL_PARTS(gaxtrel_parts, __VA_ARGS__)
+#define gaxtrel_next_line(...) GAXTREL_TEXT(gaxtrel_next_line, __VA_ARGS__)
+#define gaxtrel_count_lines(...) GAXTREL_TEXT(gaxtrel_count_lines, __VA_ARGS__)
+#define gaxtrel_session_answer(...) GAXTREL_TEXT(gaxtrel_session_answer, __VA_ARGS__)
+#define gaxtrel_session_replies(...) GAXTREL_INTO(gaxtrel_session_replies, __VA_ARGS__)
 
 #ifdef __cplusplus
 }

@@ -6,7 +6,7 @@ cd "$(dirname "${BASH_SOURCE[0]}")/.."
 page=docs/EVIDENCE.md
 targets='gate audit test-program test-random test-growth test-changes test-changes-client'
 targets+=' test-memory-grep test-memory-occur test-memory-crates test-editor test-nvim'
-targets+=' test-lib test-lib-cases test-lib-random test-sqlite test-postgres test-dask'
+targets+=' test-lib test-lib-cases test-lib-fuzz test-lib-random test-sqlite test-postgres test-dask'
 
 # The rows of the page, and then those of the runs, in their order: the last of a target is its newest.
 rows() {

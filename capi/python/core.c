@@ -36,8 +36,8 @@ static void dealloc(PyObject *self) {
     {"close", close_held, METH_NOARGS, "Frees what is held; nothing can be asked for afterwards."},                    \
     {"__enter__", enter, METH_NOARGS, NULL}, {"__exit__", close_held, METH_VARARGS, NULL}
 
-/* Two words of a call, of a Py_buffer; that of no bytes may have no place. */
-#define TEXT(buffer) (buffer).buf ? (buffer).buf : "", (size_t)(buffer).len
+/* Two words of a call, of a Py_buffer. */
+#define TEXT(buffer) (buffer).buf, (size_t)(buffer).len
 
 /* The library's answer: whether it is yes; or less than 0, and an error. */
 static int judged(uint32_t answer) {
@@ -97,18 +97,19 @@ static PyObject *new_match(PyObject *string, gaxtrel_part part) {
     return made;
 }
 
-typedef uint32_t search_call(gaxtrel_matcher *, const uint8_t *, size_t, size_t, gaxtrel_part *);
+enum { PART, WHOLE, LINE };
 
-/* What a search finds from a place on; with `whole` it has to be all of the line, which may be empty. */
-static PyObject *found_by(search_call *call, PyObject *self, PyObject *line, size_t start, bool whole) {
+/* What comes next from a place on: a part; the whole line, which may be empty, if it is matched; or a line. */
+static PyObject *next(int what, PyObject *self, PyObject *line, size_t start) {
     Py_buffer text;
     gaxtrel_part part = {0, 0};
     if (!line || PyObject_GetBuffer(line, &text, PyBUF_SIMPLE)) return NULL;
     size_t length = (size_t)text.len;
-    int found = judged(whole && length == 0 ? gaxtrel_is_match(MATCHER(self), TEXT(text))
-                                            : call(MATCHER(self), TEXT(text), start, &part));
+    int found = judged(what == LINE                   ? gaxtrel_next_line(MATCHER(self), TEXT(text), start, &part)
+                       : what == WHOLE && length == 0 ? gaxtrel_is_match(MATCHER(self), TEXT(text))
+                                                     : gaxtrel_find(MATCHER(self), TEXT(text), start, &part));
     PyBuffer_Release(&text);
-    if (found > 0 && !(whole && (part.start > 0 || part.end < length))) return new_match(line, part);
+    if (found > 0 && !(what == WHOLE && (part.start > 0 || part.end < length))) return new_match(line, part);
     return found < 0 ? NULL : Py_NewRef(Py_None);
 }
 
@@ -124,18 +125,18 @@ static PyObject *read_words(PyObject *const *words, Py_ssize_t count, PyObject *
     return at == -1 && PyErr_Occurred() ? NULL : words[0];
 }
 
-static PyObject *fullmatch(PyObject *self, PyObject *line) { return found_by(gaxtrel_find, self, line, 0, true); }
+static PyObject *fullmatch(PyObject *self, PyObject *line) { return next(WHOLE, self, line, 0); }
 
 static PyObject *search(WORDS) {
     size_t start;
     PyObject *line = read_words(words, count, named, &start);
-    return found_by(gaxtrel_find, self, line, start, false);
+    return next(PART, self, line, start);
 }
 
 static PyObject *next_line(WORDS) {
     size_t start;
     PyObject *text = read_words(words, count, named, &start);
-    return found_by(gaxtrel_next_line, self, text, start, false);
+    return next(LINE, self, text, start);
 }
 
 static PyObject *matches(PyObject *line, const gaxtrel_part *parts, size_t count) {

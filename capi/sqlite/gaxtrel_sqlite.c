@@ -164,8 +164,8 @@ static int put_text(cursor *here, sqlite3_value *text) {
     here->text = sqlite3_value_dup(text);
     if (!here->text || !sqlite3_value_text(here->text)) return SQLITE_NOMEM;
     size_t length = (size_t)sqlite3_value_bytes(here->text);
-    here->parts = sqlite3_malloc64((length + 1) * sizeof *here->parts);
-    if (!here->parts) return SQLITE_NOMEM;
+    here->parts = sqlite3_malloc64(length * sizeof *here->parts);
+    if (length && !here->parts) return SQLITE_NOMEM;
     uint32_t found = gaxtrel_parts(&here->matcher, sqlite3_value_text(here->text), length, 0, here->parts, length,
                                    &here->count);
     return found == GAXTREL_NO_MEMORY ? SQLITE_NOMEM : SQLITE_OK;
