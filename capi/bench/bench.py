@@ -1,39 +1,27 @@
-"""Compares the Python package with `re`: calls a second on lines of 100 bytes by CPU time, and one pattern on which
-`re` takes twice as long for each byte."""
-
-from __future__ import annotations
+"""Prints the rows of Python for the table of bench.cc: thousands of calls per second of processor time on lines of 100
+bytes, of the package and of `re`."""
 
 import random
 import re
-import sys
 import time
 from collections.abc import Callable
-from pathlib import Path
 
-sys.path.insert(0, str(Path(__file__).resolve().parents[2] / "build/python"))
-
-import gaxtrel  # noqa: E402
-
-SECONDS = 0.5
+import gaxtrel
 
 
-def rate(call: Callable[[bytes], object], lines: list[bytes]) -> float:
+def rate(call: Callable[[bytes], object], lines: list[bytes]) -> str:
     start, done = time.process_time(), 0
-    while time.process_time() - start < SECONDS:
+    while (spent := time.process_time() - start) < 0.3:
         for line in lines:
             call(line)
         done += len(lines)
-    return done / (time.process_time() - start)
+    number = done / spent / 1000
+    return f"{float(f'{number:.3g}'):,.0f}" if number > 99 else f"{number:.2g}"
 
 
 random.seed(7)
-log = [bytes(random.choice(b"abcdefghij klmnop: qrstuvwxyz 0123456789") for _ in range(100)) for _ in range(200)]
-log = [s[:60] + b"error: disk 507" + s[75:] if i % 10 == 0 else s for i, s in enumerate(log)]
-for pattern in (b"error: [a-z]+ [0-9]{3}", b"[0-9]{3} ?[a-f]+[x-z]", b"disk|error|fatal"):
-    own, other = gaxtrel.compile(pattern), re.compile(pattern)
-    print(f"{pattern.decode():26} is_match {rate(own.is_match, log):8.0f}  re.search {rate(other.search, log):8.0f}")
-print("(a*)*[bc]                  is_match", f"{rate(gaxtrel.compile(b'(a*)*[bc]').is_match, [b'a' * 100]):8.0f}")
-for size in (16, 18, 20, 22):
-    start = time.process_time()
-    re.search(b"(a*)*[bc]", b"a" * size)
-    print(f"  {size} bytes: re.search takes {time.process_time() - start:.3f} s", flush=True)
+log = [bytes(random.choices(b"abcdefghij klmnop: qrstuvwxyz 0123456789", k=100)) for _ in range(200)]
+log[::10] = [line[:60] + b"error: disk 507" + line[75:] for line in log[::10]]
+for pattern, lines in ((b"error: [a-z]+ [0-9]{3}", log), (b"[0-9]{3} ?[a-f]+[x-z]", log), (b"(a*)*[bc]", [b"a" * 20])):
+    own, other = (rate(it, lines) for it in (gaxtrel.compile(pattern).is_match, re.compile(pattern).search))
+    print(f"| Python: `{pattern.decode()}` on {len(lines[0])} bytes | {own} | `re`: {other} | | |", flush=True)
