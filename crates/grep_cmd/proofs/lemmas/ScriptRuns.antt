@@ -1,5 +1,5 @@
 -- How a run of a script continues and ends.
-use Rattle.grep_cmd.proofs.Prelude.{◌≡◌, ℕ, ◌<◌, ◌≤◌, true, false, List, [], ◌∷◌, ◌++◌, length, Option, Result, Ok, Err, arith, inl, inr, refl, sym, ap, ◌∙◌, subst, append_assoc, append-nil, length-append, list_any, Text, HasNoNewline, lines_of, File, Ending, whole, broken, written, file_of, most_lines, GoesOut, StopsWithin, Numbered, HasHanded, StandsAs, AreHanded, IsOneLineAndFew, Stage, Open, Ended, Failed, ScriptState, ScriptFault, Read, Write, Memory, ScriptEnd, Clean, is_truncated, IsBegun, truncated, is_refusal, end_for, AnswersScript, ReadsScript, BeginsScript, GaveLines, SearchesTouched, StopsWriting, ScriptGives, IsUpToReport, HasRead, ReadsNext, FlushesFor, FlushesAfter, DoesStep, WantsLines, LosesLines, AnswersLine, AnsweredSoFar}
+use Rattle.grep_cmd.proofs.Prelude.{◌≡◌, ◌⊎◌, ℕ, ◌<◌, ◌≤◌, true, false, List, [], ◌∷◌, ◌++◌, length, Option, Result, Ok, Err, arith, inl, inr, refl, sym, ap, ◌∙◌, subst, append_assoc, append-nil, length-append, list_any, Text, HasNoNewline, lines_of, File, Ending, whole, broken, written, file_of, most_lines, GoesOut, StopsWithin, Numbered, HasHanded, StandsAs, AreHanded, IsOneLineAndFew, Stage, Open, Ended, Failed, ScriptState, ScriptFault, Read, Write, Memory, ScriptEnd, Clean, is_truncated, IsBegun, truncated, is_refusal, end_for, AnswersScript, ReadsScript, BeginsScript, GaveLines, SearchesTouched, StopsWriting, ScriptGives, IsUpToReport, HasRead, ReadsNext, FlushesFor, FlushesAfter, DoesStep, WantsLines, LosesLines, AnswersLine, AnsweredSoFar}
 use Rattle.re_syntax.proofs.lemmas.LinesLaws.{lines_of-terminated}
 use Rattle.grep_core.specs.Meters.{Steps as StepCounts}
 use Rattle.re_meter.proofs.lemmas.Adding.{adds_none}
@@ -19,17 +19,26 @@ script_of lines ending = record { name = []; lines = lines; ending = ending }
 line_then : (handed : List Text) (line : Text) (taken : List Text) → (handed ++ line ∷ []) ++ taken ≡ handed ++ line ∷ taken
 line_then handed line taken = append_assoc handed (line ∷ []) taken
 
--- a write failed within the second part of some bytes
-stops_as : {W : Type 0} (contents : W → Option Text) (failures : W → ℕ) (a b c : W) (bytes xs ys : Text) → bytes ≡ xs ++ ys → GoesOut contents failures a b xs → StopsWithin contents failures b c ys → StopsWithin contents failures a c bytes
-stops_as contents failures a b c bytes xs ys is first second = record {
-  front = xs ++ second.front;
-  rest = second.rest;
-  cut = is ∙ ap (λ t. xs ++ t) second.cut ∙ sym (append_assoc xs second.front second.rest);
-  written = Appends-trans (contents a) (contents b) (contents c) xs second.front first.written second.written;
-  counted = second.counted ∙ ap one_more first.none_failed;
-}
+module _ {W : Type 0} {contents : W → Option Text} {failures : W → ℕ} where
+  -- a write failed within the second part of some bytes
+  stops_as : {a b c : W} {bytes xs ys : Text} → bytes ≡ xs ++ ys → GoesOut contents failures a b xs → StopsWithin contents failures b c ys → StopsWithin contents failures a c bytes
+  stops_as {a} {b} {c} {xs = xs} is first second = record {
+    front = xs ++ second.front;
+    rest = second.rest;
+    cut = is ∙ ap (λ t. xs ++ t) second.cut ∙ sym (append_assoc xs second.front second.rest);
+    written = Appends-trans (contents a) (contents b) (contents c) xs second.front first.written second.written;
+    counted = second.counted ∙ ap one_more first.none_failed;
+  }
 
-module _ {R W : Type 0} (remaining : R → Option Text) (failures : R → ℕ) (contents : W → Option Text) (write_failures : W → ℕ) (reader : R) (start : ScriptState) (begun : StepCounts) (old : W) where
+  -- nothing more was written
+  goes_same : {a b c : W} {bytes : Text} → GoesOut contents failures a b bytes → GoesOut contents failures b c [] → GoesOut contents failures a c bytes
+  goes_same {a} {b} {c} {bytes} first second = subst (GoesOut contents failures a c) (append-nil bytes) (goes_on contents failures a b c bytes [] first second)
+
+  goes_both : {a b c d : W} (xs ys : List Text) → GoesOut contents failures a b (written [] xs) → GoesOut contents failures b c [] → GoesOut contents failures c d (written [] ys) → GoesOut contents failures a d (written [] (xs ++ ys))
+  goes_both {a} {c = c} {d = d} xs ys first flushed second =
+      subst (GoesOut contents failures a d) (sym (written-append [] xs ys)) (goes_on contents failures a c d (written [] xs) (written [] ys) (goes_same first flushed) second)
+
+module _ {R : Type 0} (remaining : R → Option Text) (failures : R → ℕ) (reader : R) where
   -- the lines of a reader, with their ending, are a script
   reads : (now : Numbered R) (lines : List Text) (ending : Ending) → StandsAs remaining failures reader now lines ending
       → ReadsScript (remaining reader) (remaining now.lines.reader) (failures reader) (failures now.lines.reader) (script_of lines ending)
@@ -47,18 +56,10 @@ module _ {R W : Type 0} (remaining : R → Option Text) (failures : R → ℕ) (
         (b.more, b.has_lines),
       )
 
-  -- nothing more was written
-  goes_same : (a b c : W) (bytes : Text) → GoesOut contents write_failures a b bytes → GoesOut contents write_failures b c [] → GoesOut contents write_failures a c bytes
-  goes_same a b c bytes first second = subst (GoesOut contents write_failures a c) (append-nil bytes) (goes_on contents write_failures a b c bytes [] first second)
-
-  goes_both : (a b c d : W) (xs ys : List Text) → GoesOut contents write_failures a b (written [] xs) → GoesOut contents write_failures b c []
-      → GoesOut contents write_failures c d (written [] ys) → GoesOut contents write_failures a d (written [] (xs ++ ys))
-  goes_both a b c d xs ys first flushed second =
-      subst (GoesOut contents write_failures a d) (sym (written-append [] xs ys)) (goes_on contents write_failures a c d (written [] xs) (written [] ys) (goes_same a b c (written [] xs) first flushed) second)
-
+module _ {R W : Type 0} {remaining : R → Option Text} {failures : R → ℕ} {contents : W → Option Text} {write_failures : W → ℕ} {reader : R} {start : ScriptState} {begun : StepCounts} {old : W} where
   -- no line was handed out
-  pub so_far_none : (now : Numbered R) → HasHanded remaining failures reader now [] → AnsweredSoFar remaining failures contents write_failures reader start begun old now start begun old Clean
-  so_far_none now h = record {
+  pub so_far_none : {now : Numbered R} → HasHanded remaining failures reader now [] → AnsweredSoFar remaining failures contents write_failures reader start begun old now start begun old Clean
+  so_far_none h = record {
     handed = [];
     has_handed = h;
     steps = [];
@@ -70,12 +71,18 @@ module _ {R W : Type 0} (remaining : R → Option Text) (failures : R → ℕ) (
     ended = refl;
   }
 
-  -- what a run gives that read so far, counted so many steps, and wrote so much
-  abbrev Gives : Numbered R → ScriptState → StepCounts → W → Result ScriptEnd ScriptFault → Type 0
-  Gives next left last new result =
-      ScriptGives contents write_failures (HasRead remaining failures reader next) (remaining reader) (remaining next.lines.reader) (failures reader) (failures next.lines.reader) start left begun last old new result
+  module _ {now : Numbered R} {inputs : ScriptState} {spent : StepCounts} {mid : W} {ending : ScriptEnd} (s : AnsweredSoFar remaining failures contents write_failures reader start begun old now inputs spent mid ending) where
+    -- what a run gives that read so far, counted so many steps, and wrote so much
+    abbrev Gives : Numbered R → ScriptState → StepCounts → W → Result ScriptEnd ScriptFault → Type 0
+    Gives next left last new result =
+        ScriptGives contents write_failures (HasRead remaining failures reader next) (remaining reader) (remaining next.lines.reader) (failures reader) (failures next.lines.reader) start left begun last old new result
 
-  module _ (now : Numbered R) (inputs : ScriptState) (spent : StepCounts) (mid : W) (ending : ScriptEnd) (s : AnsweredSoFar remaining failures contents write_failures reader start begun old now inputs spent mid ending) where
+    abbrev Does : Text → Numbered R → ScriptState → StepCounts → List Text → Type 0
+    Does line next after last reply = DoesStep remaining failures reader (s.handed ++ line ∷ []) line next spent last inputs after reply
+
+    abbrev Wants : Text → Numbered R → ScriptState → StepCounts → Type 0
+    Wants line next after last = WantsLines remaining failures reader (s.handed ++ line ∷ []) line next spent last inputs after
+
     -- the steps so far, of a script that continues
     answers_so_far : (file : File) (rest : List Text) → file.lines ≡ s.handed ++ rest → AnswersScript start file s.replies rest
     answers_so_far file rest is = record {
@@ -94,13 +101,13 @@ module _ {R W : Type 0} (remaining : R → Option Text) (failures : R → ℕ) (
       unfolding answers_so_far
       ends_here stands flushed = record {
         file = script_of s.handed whole;
-        reads = reads next s.handed whole stands;
+        reads = reads remaining failures reader next s.handed whole stands;
         is_whole = refl;
         replies = s.replies;
         answers = answers_so_far (script_of s.handed whole) [] (sym (append-nil s.handed));
         leaves = refl;
         work = s.work;
-        goes = goes_same old mid new (written [] s.replies) s.goes flushed;
+        goes = goes_same s.goes flushed;
         ended = s.ended;
       }
 
@@ -110,7 +117,7 @@ module _ {R W : Type 0} (remaining : R → Option Text) (failures : R → ℕ) (
       unfolding answers_so_far
       cut_here stands flushed = record {
         file = script_of s.handed broken;
-        reads = reads next s.handed broken stands;
+        reads = reads remaining failures reader next s.handed broken stands;
         is_broken = refl;
         replies = s.replies;
         rest = [];
@@ -118,7 +125,7 @@ module _ {R W : Type 0} (remaining : R → Option Text) (failures : R → ℕ) (
         leaves = refl;
         cut_short = inl refl;
         work = s.work;
-        goes = goes_same old mid new (written [] s.replies) s.goes flushed;
+        goes = goes_same s.goes flushed;
       }
 
       -- an allocation failed, with the next command or without it
@@ -126,7 +133,7 @@ module _ {R W : Type 0} (remaining : R → Option Text) (failures : R → ℕ) (
           → Gives next inputs spent new (Err Memory)
       unfolding answers_so_far
       runs_out begin is_begun few handed flushed =
-          let b = begins next (s.handed ++ begin) handed in
+          let b = begins remaining failures reader next (s.handed ++ begin) handed in
           let is = b.2.1 ∙ append_assoc s.handed begin b.2.0 in
           record {
             file = b.0;
@@ -143,7 +150,7 @@ module _ {R W : Type 0} (remaining : R → Option Text) (failures : R → ℕ) (
             is_begun = is_begun;
             were_read = (handed, few);
             work = s.work;
-            goes = goes_same old mid new (written [] s.replies) s.goes flushed;
+            goes = goes_same s.goes flushed;
           }
 
       -- what was buffered could not be sent
@@ -151,7 +158,7 @@ module _ {R W : Type 0} (remaining : R → Option Text) (failures : R → ℕ) (
           → Gives next inputs spent new (Err Write)
       unfolding answers_so_far stops_as
       stops_sending others handed stops =
-          let b = begins next (s.handed ++ others) handed in
+          let b = begins remaining failures reader next (s.handed ++ others) handed in
           record {
             file = b.0;
             reads = inl b.1;
@@ -160,7 +167,7 @@ module _ {R W : Type 0} (remaining : R → Option Text) (failures : R → ℕ) (
             answers = answers_so_far b.0 (others ++ b.2.0) (b.2.1 ∙ append_assoc s.handed others b.2.0);
             leaves = inl refl;
             work = s.work;
-            stops = stops_as contents write_failures old mid new (written [] s.replies) (written [] s.replies) [] (sym (append-nil (written [] s.replies))) s.goes stops;
+            stops = stops_as (sym (append-nil (written [] s.replies))) s.goes stops;
             broken = all_but_last s.steps start inputs s.replies stops.front s.are_replies;
           }
 
@@ -173,22 +180,39 @@ module _ {R W : Type 0} (remaining : R → Option Text) (failures : R → ℕ) (
 
     -- ---- a command line was handed out
 
-    module _ (line : Text) (sent : W) (flushed : GoesOut contents write_failures mid sent []) (next : Numbered R) (after : ScriptState) (last : StepCounts) (new : W) where
-      abbrev Does : List Text → Type 0
-      Does reply = DoesStep remaining failures reader (s.handed ++ line ∷ []) line next spent last inputs after reply
+    -- more lines were handed out
+    pub grows : {line : Text} {next : Numbered R} {after : ScriptState} {last : StepCounts} {reply : List Text} → Does line next after last reply → (now.number < next.number) × (next.number ≤ most_lines)
+    grows {line} d =
+        let h = d.has_handed in
+        let longer = ap length (line_then s.handed line d.taken) ∙ length-append s.handed (line ∷ d.taken) in
+        (omega (arith, longer, h.counted, s.has_handed.counted), omega (arith, h.counted, h.few))
 
-      abbrev Wants : Type 0
-      Wants = WantsLines remaining failures reader (s.handed ++ line ∷ []) line next spent last inputs after
+    works : {line : Text} {next : Numbered R} {after : ScriptState} {last : StepCounts} {reply : List Text} → (d : Does line next after last reply) → SearchesTouched start (s.steps ++ d.step ∷ []) (s.replies ++ reply) after begun last
+    works {reply = reply} d = work_push d.step reply s.work d.replies_to d.is_most d.few
 
-      works : (then : ScriptState) (reply : List Text) → (d : DoesStep remaining failures reader (s.handed ++ line ∷ []) line next spent last inputs then reply) → SearchesTouched start (s.steps ++ d.step ∷ []) (s.replies ++ reply) then begun last
-      works then reply d = work_push start s.steps d.step inputs then s.replies reply begun spent last d.most s.work d.replies_to d.is_most d.few
+    -- without a step
+    idles : {last : StepCounts} → last ≡ spent → SearchesTouched start s.steps s.replies inputs begun last
+    idles idle = subst (SearchesTouched start s.steps s.replies inputs begun) (sym idle) s.work
 
-      -- without a step
-      idles : last ≡ spent → SearchesTouched start s.steps s.replies inputs begun last
-      idles idle = subst (SearchesTouched start s.steps s.replies inputs begun) (sym idle) s.work
+    works_truncated : {last : StepCounts} → last ≡ spent → SearchesTouched start (s.steps ++ is_truncated ∷ []) (s.replies ++ truncated ∷ []) inputs begun last
+    works_truncated {last} idle = work_push is_truncated (truncated ∷ []) (idles idle) (refl, refl) refl (adds_none 0 0 last)
 
+    -- fewer lines follow than it counts
+    truncates : {line : Text} {next : Numbered R} {after : ScriptState} {last : StepCounts} (file : File) → (w : Wants line next after last) → file.lines ≡ s.handed ++ line ∷ w.taken → file.ending ≡ whole → AnswersScript start file (s.replies ++ truncated ∷ []) []
+    truncates {line} file w is ends = record {
+      steps = s.steps ++ is_truncated ∷ [];
+      are_steps = rw is (done_steps file.ending s.handed (line ∷ w.taken) [] s.steps (is_truncated ∷ []) s.are_done (inr (ends, w.wants, refl, refl, refl)));
+      after = inputs;
+      are_replies = replies_push s.steps is_truncated start inputs inputs s.replies (truncated ∷ []) s.are_replies (refl, refl);
+    }
+
+    reads_all : (line : Text) (next : Numbered R) (taken : List Text) (kind : Ending) → StandsAs remaining failures reader next ((s.handed ++ line ∷ []) ++ taken) kind
+        → ReadsScript (remaining reader) (remaining next.lines.reader) (failures reader) (failures next.lines.reader) (script_of (s.handed ++ line ∷ taken) kind)
+    reads_all line next taken kind stands = reads remaining failures reader next (s.handed ++ line ∷ taken) kind (subst (λ lines. StandsAs remaining failures reader next lines kind) (line_then s.handed line taken) stands)
+
+    module _ {line : Text} {sent : W} (flushed : GoesOut contents write_failures mid sent []) {next : Numbered R} {after : ScriptState} {last : StepCounts} {new : W} where
       -- it was answered
-      answered : (reply : List Text) → Does reply → GoesOut contents write_failures sent new (written [] reply) → (end : ScriptEnd) → end ≡ end_for (s.replies ++ reply)
+      answered : (reply : List Text) → Does line next after last reply → GoesOut contents write_failures sent new (written [] reply) → (end : ScriptEnd) → end ≡ end_for (s.replies ++ reply)
           → AnsweredSoFar remaining failures contents write_failures reader start begun old next after last new end
       answered reply d goes end is = record {
         handed = s.handed ++ line ∷ d.taken;
@@ -197,57 +221,41 @@ module _ {R W : Type 0} (remaining : R → Option Text) (failures : R → ℕ) (
         are_done = done_push s.handed s.steps line d.taken d.step s.are_done d.is_step;
         replies = s.replies ++ reply;
         are_replies = replies_push s.steps d.step start inputs after s.replies reply s.are_replies d.replies_to;
-        work = works after reply d;
-        goes = goes_both old mid sent new s.replies reply s.goes flushed goes;
+        work = works d;
+        goes = goes_both s.replies reply s.goes flushed goes;
         ended = is;
       }
 
-      pub so_far_accepted : (reply : List Text) → Does reply → GoesOut contents write_failures sent new (written [] reply) → list_any is_refusal reply ≡ false
+      pub so_far_accepted : {reply : List Text} → Does line next after last reply → GoesOut contents write_failures sent new (written [] reply) → list_any is_refusal reply ≡ false
           → AnsweredSoFar remaining failures contents write_failures reader start begun old next after last new ending
-      so_far_accepted reply d goes none = answered reply d goes ending (s.ended ∙ sym (end_kept s.replies reply none))
+      so_far_accepted {reply} d goes none = answered reply d goes ending (s.ended ∙ sym (end_kept s.replies reply none))
 
-      pub so_far_refused : (reply : List Text) → Does reply → GoesOut contents write_failures sent new (written [] reply) → list_any is_refusal reply ≡ true
+      pub so_far_refused : {reply : List Text} → Does line next after last reply → GoesOut contents write_failures sent new (written [] reply) → list_any is_refusal reply ≡ true
           → AnsweredSoFar remaining failures contents write_failures reader start begun old next after last new Refused
-      so_far_refused reply d goes some = answered reply d goes Refused (sym (end_refused s.replies reply some))
+      so_far_refused {reply} d goes some = answered reply d goes Refused (sym (end_refused s.replies reply some))
 
-      -- fewer lines follow than it counts
-      truncates : (file : File) → (w : Wants) → file.lines ≡ s.handed ++ line ∷ w.taken → file.ending ≡ whole → AnswersScript start file (s.replies ++ truncated ∷ []) []
-      truncates file w is ends = record {
-        steps = s.steps ++ is_truncated ∷ [];
-        are_steps = rw is (done_steps file.ending s.handed (line ∷ w.taken) [] s.steps (is_truncated ∷ []) s.are_done (inr (ends, w.wants, refl, refl, refl)));
-        after = inputs;
-        are_replies = replies_push s.steps is_truncated start inputs inputs s.replies (truncated ∷ []) s.are_replies (refl, refl);
-      }
-
-      works_truncated : last ≡ spent → SearchesTouched start (s.steps ++ is_truncated ∷ []) (s.replies ++ truncated ∷ []) inputs begun last
-      works_truncated idle = work_push start s.steps is_truncated inputs inputs s.replies (truncated ∷ []) begun last last 0 (idles idle) (refl, refl) refl (adds_none 0 0 last)
-
-      reads_all : (taken : List Text) (kind : Ending) → StandsAs remaining failures reader next ((s.handed ++ line ∷ []) ++ taken) kind
-          → ReadsScript (remaining reader) (remaining next.lines.reader) (failures reader) (failures next.lines.reader) (script_of (s.handed ++ line ∷ taken) kind)
-      reads_all taken kind stands = reads next (s.handed ++ line ∷ taken) kind (subst (λ lines. StandsAs remaining failures reader next lines kind) (line_then s.handed line taken) stands)
-
-      pub ends_truncated : Wants → GoesOut contents write_failures sent new (written [] (truncated ∷ []))
+      pub ends_truncated : Wants line next after last → GoesOut contents write_failures sent new (written [] (truncated ∷ []))
           → Gives next after last new (Ok Refused)
       unfolding truncates
       ends_truncated w goes = record {
         file = script_of (s.handed ++ line ∷ w.taken) whole;
-        reads = reads_all w.taken whole w.stands;
+        reads = reads_all line next w.taken whole w.stands;
         is_whole = refl;
         replies = s.replies ++ truncated ∷ [];
         answers = truncates (script_of (s.handed ++ line ∷ w.taken) whole) w refl refl;
         leaves = w.same;
         work = works_truncated w.idle;
-        goes = goes_both old mid sent new s.replies (truncated ∷ []) s.goes flushed goes;
+        goes = goes_both s.replies (truncated ∷ []) s.goes flushed goes;
         ended = sym (end_refused s.replies (truncated ∷ []) refl);
       }
 
       -- a read failed before all lines were read
-      pub cut_within : LosesLines remaining failures reader (s.handed ++ line ∷ []) line next spent last inputs after → GoesOut contents write_failures sent new []
+      cut_within : LosesLines remaining failures reader (s.handed ++ line ∷ []) line next spent last inputs after → GoesOut contents write_failures sent new []
           → Gives next after last new (Err Read)
       unfolding answers_so_far
       cut_within l goes = record {
         file = script_of (s.handed ++ line ∷ l.taken) broken;
-        reads = reads_all l.taken broken l.stands;
+        reads = reads_all line next l.taken broken l.stands;
         is_broken = refl;
         replies = s.replies;
         rest = line ∷ l.taken;
@@ -255,22 +263,16 @@ module _ {R W : Type 0} (remaining : R → Option Text) (failures : R → ℕ) (
         leaves = l.same;
         cut_short = inr l.wants;
         work = idles l.idle;
-        goes = goes_same old mid new (written [] s.replies) s.goes (goes_same mid sent new [] flushed goes);
+        goes = goes_same s.goes (goes_same flushed goes);
       }
 
-      -- more lines were handed out
-      pub grows : (taken : List Text) → HasHanded remaining failures reader next ((s.handed ++ line ∷ []) ++ taken) → (now.number < next.number) × (next.number ≤ most_lines)
-      grows taken h =
-          let longer = ap length (line_then s.handed line taken) ∙ length-append s.handed (line ∷ taken) in
-          (omega (arith, longer, h.counted, s.has_handed.counted), omega (arith, h.counted, h.few))
-
       -- a write failed within the reply
-      pub stops_replying : (then : ScriptState) (reply : List Text) → DoesStep remaining failures reader (s.handed ++ line ∷ []) line next spent last inputs then reply → IsUpToReport after then → StopsWithin contents write_failures sent new (written [] reply)
+      stops_replying : (then : ScriptState) (reply : List Text) → Does line next then last reply → IsUpToReport after then → StopsWithin contents write_failures sent new (written [] reply)
           → Gives next after last new (Err Write)
       unfolding stops_as
       stops_replying then reply d leaves stops =
           let handed = subst (HasHanded remaining failures reader next) (line_then s.handed line d.taken) d.has_handed in
-          let b = begins next (s.handed ++ line ∷ d.taken) handed in
+          let b = begins remaining failures reader next (s.handed ++ line ∷ d.taken) handed in
           record {
             file = b.0;
             reads = inl b.1;
@@ -283,26 +285,27 @@ module _ {R W : Type 0} (remaining : R → Option Text) (failures : R → ℕ) (
               are_replies = replies_push s.steps d.step start inputs then s.replies reply s.are_replies d.replies_to;
             };
             leaves = leaves;
-            work = works then reply d;
-            stops = stops_as contents write_failures old sent new (written [] (s.replies ++ reply)) (written [] s.replies) (written [] reply) (written-append [] s.replies reply) (goes_same old mid sent (written [] s.replies) s.goes flushed) stops;
+            work = works d;
+            stops = stops_as (written-append [] s.replies reply) (goes_same s.goes flushed) stops;
             broken = all_before s.steps d.step start inputs s.replies stops.front s.are_replies;
           }
 
-      pub stops_truncated : Wants → StopsWithin contents write_failures sent new (written [] (truncated ∷ []))
+      stops_truncated : Wants line next after last → StopsWithin contents write_failures sent new (written [] (truncated ∷ []))
           → Gives next after last new (Err Write)
       unfolding truncates stops_as
       stops_truncated w stops = record {
         file = script_of (s.handed ++ line ∷ w.taken) whole;
-        reads = inr (reads_all w.taken whole w.stands);
+        reads = inr (reads_all line next w.taken whole w.stands);
         replies = s.replies ++ truncated ∷ [];
         rest = [];
         answers = truncates (script_of (s.handed ++ line ∷ w.taken) whole) w refl refl;
         leaves = inl w.same;
         work = works_truncated w.idle;
-        stops = stops_as contents write_failures old sent new (written [] (s.replies ++ truncated ∷ [])) (written [] s.replies) (written [] (truncated ∷ [])) (written-append [] s.replies (truncated ∷ [])) (goes_same old mid sent (written [] s.replies) s.goes flushed) stops;
+        stops = stops_as (written-append [] s.replies (truncated ∷ [])) (goes_same s.goes flushed) stops;
         broken = all_before s.steps is_truncated start inputs s.replies stops.front s.are_replies;
       }
 
+    module _ (line : Text) {sent : W} (flushed : GoesOut contents write_failures mid sent []) (next : Numbered R) (after : ScriptState) (last : StepCounts) (new : W) where
       -- where the command changed nothing
       kept : after ≡ inputs → last ≡ spent → (result : Result ScriptEnd ScriptFault) → Gives next inputs spent new result → Gives next after last new result
       kept same idle result g = subst (λ (n : StepCounts). Gives next after n new result) (sym idle) (subst (λ (i : ScriptState). Gives next i spent new result) (sym same) g)
@@ -310,46 +313,50 @@ module _ {R W : Type 0} (remaining : R → Option Text) (failures : R → ℕ) (
       -- the command wasn't answered
       pub answer_fails : (f : ScriptFault) → IsOneLineAndFew next.lines.ahead → AnswersLine remaining failures reader (s.handed ++ line ∷ []) line next spent last inputs after contents write_failures sent new (Err f)
           → Gives next after last new (Err f)
-      answer_fails Read few h = cut_within h.0 h.1
+      answer_fails Read few h = cut_within flushed h.0 h.1
       answer_fails Memory few h =
-          let handed = subst (HasHanded remaining failures reader next) (line_then s.handed line h.0.taken) h.0.has_handed in
-          kept h.0.same h.0.idle (Err Memory) (runs_out next new (line ∷ h.0.taken) h.0.asks few handed (goes_same mid sent new [] flushed h.1))
+          kept h.0.same h.0.idle (Err Memory) (runs_out next new (line ∷ h.0.taken) h.0.asks few (subst (HasHanded remaining failures reader next) (line_then s.handed line h.0.taken) h.0.has_handed) (goes_same flushed h.1))
       answer_fails Write few (inl h) =
-          let handed = subst (HasHanded remaining failures reader next) (line_then s.handed line h.0.taken) h.0.has_handed in
-          kept h.0.same h.0.idle (Err Write) (stops_sending next new (line ∷ h.0.taken) handed (stops_as contents write_failures mid sent new [] [] [] refl flushed h.1))
-      answer_fails Write few (inr (inl h)) = stops_replying h.0 h.1 h.2 h.3 h.4
-      answer_fails Write few (inr (inr h)) = stops_truncated h.0 h.1
+          kept h.0.same h.0.idle (Err Write) (stops_sending next new (line ∷ h.0.taken) (subst (HasHanded remaining failures reader next) (line_then s.handed line h.0.taken) h.0.has_handed) (stops_as refl flushed h.1))
+      answer_fails Write few (inr (inl h)) = stops_replying flushed h.0 h.1 h.2 h.3 h.4
+      answer_fails Write few (inr (inr h)) = stops_truncated flushed h.0 h.1
 
 -- ---- the end
 
 module _ {W : Type 0} (contents : W → Option Text) (failures : W → ℕ) (has_read : List Text → Type 0) (known left : Option Text) (failed_before failed : ℕ) (start after : ScriptState) (begun spent : StepCounts) (old mid new : W) where
-  goes_on_same : (bytes : Text) → GoesOut contents failures old mid bytes → GoesOut contents failures mid new [] → GoesOut contents failures old new bytes
-  goes_on_same bytes first second = subst (GoesOut contents failures old new) (append-nil bytes) (goes_on contents failures old mid new bytes [] first second)
+  abbrev Given : W → Result ScriptEnd ScriptFault → Type 0
+  Given = ScriptGives contents failures has_read known left failed_before failed start after begun spent old
+
+  -- what was buffered couldn't be sent
+  stopped : {file : File} {replies rest : List Text} → BeginsScript known failed_before failed file ⊎ ReadsScript known left failed_before failed file → (answers : AnswersScript start file replies rest) → after ≡ answers.after
+      → SearchesTouched start answers.steps replies answers.after begun spent → GoesOut contents failures old mid (written [] replies) → StopsWithin contents failures mid new [] → Given new (Err Write)
+  unfolding stops_as
+  stopped {file} {replies} {rest} reads answers leaves work goes stops = record {
+    file = file;
+    reads = reads;
+    replies = replies;
+    rest = rest;
+    answers = answers;
+    leaves = inl leaves;
+    work = work;
+    stops = stops_as (sym (append-nil (written [] replies))) goes stops;
+    broken = all_but_last answers.steps start answers.after replies stops.front answers.are_replies;
+  }
 
   -- what was buffered was sent after a run, or that failed
-  pub sends_after : (ended result : Result ScriptEnd ScriptFault) → ScriptGives contents failures has_read known left failed_before failed start after begun spent old mid ended → FlushesAfter contents failures mid new ended result
-      → ScriptGives contents failures has_read known left failed_before failed start after begun spent old new result
-  unfolding stops_as
+  pub sends_after : (ended result : Result ScriptEnd ScriptFault) → Given mid ended → FlushesAfter contents failures mid new ended result → Given new result
   sends_after (Ok end) result e (inl (sent, is)) =
-      subst (ScriptGives contents failures has_read known left failed_before failed start after begun spent old new) (sym is)
-      (record { file = e.file; reads = e.reads; is_whole = e.is_whole; replies = e.replies; answers = e.answers; leaves = e.leaves; work = e.work; goes = goes_on_same (written [] e.replies) e.goes sent; ended = e.ended })
-  sends_after (Ok end) result e (inr (stops, is)) =
-      subst (ScriptGives contents failures has_read known left failed_before failed start after begun spent old new) (sym is)
-      (record { file = e.file; reads = inr e.reads; replies = e.replies; rest = []; answers = e.answers; leaves = inl e.leaves; work = e.work; stops = stops_as contents failures old mid new (written [] e.replies) (written [] e.replies) [] (sym (append-nil (written [] e.replies))) e.goes stops; broken = all_but_last e.answers.steps start e.answers.after e.replies stops.front e.answers.are_replies })
+      subst (Given new) (sym is) (record { file = e.file; reads = e.reads; is_whole = e.is_whole; replies = e.replies; answers = e.answers; leaves = e.leaves; work = e.work; goes = goes_same e.goes sent; ended = e.ended })
+  sends_after (Ok end) result e (inr (stops, is)) = subst (Given new) (sym is) (stopped (inr e.reads) e.answers e.leaves e.work e.goes stops)
   sends_after (Err Read) result e (inl (sent, is)) =
-      subst (ScriptGives contents failures has_read known left failed_before failed start after begun spent old new) (sym is)
-      (record { file = e.file; reads = e.reads; is_broken = e.is_broken; replies = e.replies; rest = e.rest; answers = e.answers; leaves = e.leaves; cut_short = e.cut_short; work = e.work; goes = goes_on_same (written [] e.replies) e.goes sent })
-  sends_after (Err Read) result e (inr (stops, is)) =
-      subst (ScriptGives contents failures has_read known left failed_before failed start after begun spent old new) (sym is)
-      (record { file = e.file; reads = inr e.reads; replies = e.replies; rest = e.rest; answers = e.answers; leaves = inl e.leaves; work = e.work; stops = stops_as contents failures old mid new (written [] e.replies) (written [] e.replies) [] (sym (append-nil (written [] e.replies))) e.goes stops; broken = all_but_last e.answers.steps start e.answers.after e.replies stops.front e.answers.are_replies })
+      subst (Given new) (sym is)
+      (record { file = e.file; reads = e.reads; is_broken = e.is_broken; replies = e.replies; rest = e.rest; answers = e.answers; leaves = e.leaves; cut_short = e.cut_short; work = e.work; goes = goes_same e.goes sent })
+  sends_after (Err Read) result e (inr (stops, is)) = subst (Given new) (sym is) (stopped (inr e.reads) e.answers e.leaves e.work e.goes stops)
   sends_after (Err Memory) result e (inl (sent, is)) =
-      subst (ScriptGives contents failures has_read known left failed_before failed start after begun spent old new) (sym is)
-      (record { file = e.file; reads = e.reads; replies = e.replies; done = e.done; rest = e.rest; is_file = e.is_file; answers = e.answers; leaves = e.leaves; first = e.first; others = e.others; is_rest = e.is_rest; is_begun = e.is_begun; were_read = e.were_read; work = e.work; goes = goes_on_same (written [] e.replies) e.goes sent })
-  sends_after (Err Memory) result e (inr (stops, is)) =
-      subst (ScriptGives contents failures has_read known left failed_before failed start after begun spent old new) (sym is)
-      (record { file = e.file; reads = inl e.reads; replies = e.replies; rest = e.rest; answers = e.answers; leaves = inl e.leaves; work = e.work; stops = stops_as contents failures old mid new (written [] e.replies) (written [] e.replies) [] (sym (append-nil (written [] e.replies))) e.goes stops; broken = all_but_last e.answers.steps start e.answers.after e.replies stops.front e.answers.are_replies })
-  sends_after (Err Write) result e (same, is) =
-      subst (ScriptGives contents failures has_read known left failed_before failed start after begun spent old new) (sym is) (subst (λ w. StopsWriting contents failures has_read known left failed_before failed start after begun spent old w) (sym same) e)
+      subst (Given new) (sym is)
+      (record { file = e.file; reads = e.reads; replies = e.replies; done = e.done; rest = e.rest; is_file = e.is_file; answers = e.answers; leaves = e.leaves; first = e.first; others = e.others; is_rest = e.is_rest; is_begun = e.is_begun; were_read = e.were_read; work = e.work; goes = goes_same e.goes sent })
+  sends_after (Err Memory) result e (inr (stops, is)) = subst (Given new) (sym is) (stopped (inl e.reads) e.answers e.leaves e.work e.goes stops)
+  sends_after (Err Write) result e (same, is) = subst (Given new) (sym is) (subst (λ w. Given w (Err Write)) (sym same) e)
 
 -- ---- what the reader gave
 
@@ -386,5 +393,6 @@ unfolding so_far_none
 runs_out_at_once {R} remaining failures contents write_failures reader start steps out =
     let now : Numbered R = record { lines = record { reader = reader; ahead = []; line = []; stage = Open }; number = 0 } in
     let none = has_handed_none remaining failures now refl refl refl in
+    let s : AnsweredSoFar remaining failures contents write_failures reader start steps out now start steps out Clean = so_far_none none in
     gives_by_reader remaining failures contents write_failures reader start start now steps steps out out (Err Memory)
-    (runs_out remaining failures contents write_failures reader start steps out now start steps out Clean (so_far_none remaining failures contents write_failures reader start steps out now none) now out [] tt none_in_nothing none (goes_nowhere contents write_failures out))
+    (runs_out s now out [] tt none_in_nothing none (goes_nowhere contents write_failures out))

@@ -90,12 +90,12 @@ pub work_none : (before : ScriptState) (steps : StepCounts) → SearchesTouched 
 work_none before steps = record { most = 0; is_most = (refl, refl, refl); few = adds_none 0 0 steps }
 
 -- one more command searches no more than it costs
-pub work_push : (before : ScriptState) (steps : List Step) (step : Step) (between after : ScriptState) (replies reply : List Text) (begun spent last : StepCounts) (own : ℕ) → SearchesTouched before steps replies between begun spent
+pub work_push : {before : ScriptState} {steps : List Step} (step : Step) {between after : ScriptState} {replies : List Text} (reply : List Text) {begun spent last : StepCounts} {own : ℕ} → SearchesTouched before steps replies between begun spent
     → RepliesTo step between reply after → SearchesAtMost step between.session.inputs own → AddsAtMost own spent last → SearchesTouched before (steps ++ step ∷ []) (replies ++ reply) after begun last
-work_push before steps step between after replies reply begun spent last own w h cost few = record {
+work_push {before} {steps} step {between} {after} {replies} reply {own = own} w h cost few = record {
   most = w.most + own;
   is_most = most_push steps step before between after replies reply w.most own w.is_most h cost;
-  few = adds_both w.most own w.most own begun spent last w.few few;
+  few = adds_both w.most own w.most own _ _ _ w.few few;
 }
 
 -- a reply that refuses nothing

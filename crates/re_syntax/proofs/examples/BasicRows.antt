@@ -5,13 +5,13 @@ use Rattle.re_syntax.proofs.lemmas.BracketsUnique.{apart}
 
 -- a byte that stands for itself and is no `$`
 itself : {p : ItemPlace} {t : Text} (b : ℕ) → IsTrue (is_ordinary p b) → nat_eq b 36 ≡ false → Item p 0 (b ∷ t) t (byte b)
-itself b h n = atom (ordinary b h (λ e. absurd (apart b 36 e n)))
+itself b h n = atom (ordinary b h (λ e. absurd (apart e n)))
 
 -- a text that does not begin with a backslash is at no end
 not_end : {t u : Text} (c : ℕ) → IsAtEnd t → t ≡ c ∷ u → nat_eq c 92 ≡ false → ⊥
 not_end c of_text e n = cc
-not_end c of_group e n = apart c 92 (let same : c ≡ 92 = cc in same) n
-not_end c of_branch e n = apart c 92 (let same : c ≡ 92 = cc in same) n
+not_end c of_group e n = apart (let same : c ≡ 92 = cc in same) n
+not_end c of_branch e n = apart (let same : c ≡ 92 = cc in same) n
 
 -- a `$` before a byte that is no backslash
 dollar : {p : ItemPlace} {t : Text} (c : ℕ) → IsTrue (is_ordinary p 36) → nat_eq c 92 ≡ false → Item p 0 (36 ∷ c ∷ t) (c ∷ t) (byte 36)

@@ -6,16 +6,16 @@ use Rattle.re_syntax.proofs.lemmas.BracketsUnique.{heads, apart}
 
 -- a text does not begin with a byte that a test finds different from its first
 not_begins : (c b : ℕ) {t : Text} → nat_eq c b ≡ false → ¬ Begins (b ∷ []) (c ∷ t)
-not_begins c b h (rest, e) = apart c b (heads e) h
+not_begins c b h (rest, e) = apart (heads e) h
 
 -- a byte other than `[` stands for itself
-plain : (b : ℕ) {t : Text} → nat_eq b 91 ≡ false → Point (b ∷ t) t b
-plain b h = bare b (λ e. absurd (apart b 91 e h))
+plain : {b : ℕ} {t : Text} → nat_eq b 91 ≡ false → Point (b ∷ t) t b
+plain {b} h = bare b (λ e. absurd (apart e h))
 
 -- a byte that is neither a `]` nor a hyphen, and no hyphen after it
 ordinary : {p : ListPlace} (b c : ℕ) {t : Text} → nat_eq b 91 ≡ false → nat_eq b 93 ≡ false → nat_eq b 45 ≡ false → nat_eq c 45 ≡ false →
     Element p (b ∷ c ∷ t) (c ∷ t) (only b) AfterPoint
-ordinary b c o h k n = alone (plain b o) (record {
+ordinary b c o h k n = alone (plain o) (record {
   bracket = λ s. absurd (not_begins b 93 h s);
   hyphen = λ s. absurd (not_begins b 45 k s);
   before_hyphen = λ s. absurd (not_begins c 45 n s);
@@ -23,16 +23,16 @@ ordinary b c o h k n = alone (plain b o) (record {
 
 -- a `]` that is first, no hyphen after it
 first_closing : (c : ℕ) {t : Text} → nat_eq c 45 ≡ false → Element First (93 ∷ c ∷ t) (c ∷ t) (only 93) AfterPoint
-first_closing c n = alone (plain 93 refl) (record { bracket = λ s. refl; hyphen = λ s. absurd (not_begins 93 45 refl s); before_hyphen = λ s. absurd (not_begins c 45 n s) })
+first_closing c n = alone (plain refl) (record { bracket = λ s. refl; hyphen = λ s. absurd (not_begins 93 45 refl s); before_hyphen = λ s. absurd (not_begins c 45 n s) })
 
 -- a hyphen directly after a range or a class, no hyphen after it
 hyphen_after_range : (c : ℕ) {t : Text} → nat_eq c 45 ≡ false → Element AfterRange (45 ∷ c ∷ t) (c ∷ t) (only 45) AfterPoint
-hyphen_after_range c n = alone (plain 45 refl) (record { bracket = λ s. absurd (not_begins 45 93 refl s); hyphen = λ s. inl (λ e. cc); before_hyphen = λ s. absurd (not_begins c 45 n s) })
+hyphen_after_range c n = alone (plain refl) (record { bracket = λ s. absurd (not_begins 45 93 refl s); hyphen = λ s. inl (λ e. cc); before_hyphen = λ s. absurd (not_begins c 45 n s) })
 
 -- a range whose start is neither a `]` nor a hyphen
 bytes_span : {p : ListPlace} (a b : ℕ) {t : Text} → nat_eq a 91 ≡ false → nat_eq a 93 ≡ false → nat_eq a 45 ≡ false → nat_eq b 91 ≡ false → nat_eq b 93 ≡ false → a ≤ b →
     Element p (a ∷ 45 ∷ b ∷ t) t (range a b) AfterRange
-bytes_span {p} a b {t} o h k o' h' le = span (plain a o) start (plain b o') (not_begins b 93 h') le
+bytes_span {p} a b {t} o h k o' h' le = span (plain o) start (plain o') (not_begins b 93 h') le
   where
     start : (Begins (codes "]") (a ∷ 45 ∷ b ∷ t) ⊎ Begins (codes "-") (a ∷ 45 ∷ b ∷ t)) → p ≡ First
     start (inl s) = absurd (not_begins a 93 h s)
@@ -46,7 +46,7 @@ done n = closing n
 symbol_start : IsBracket (codes "[][.-.]-0]") [] (one_of (union (only 93) (union (range 45 48) nothing)))
 symbol_start =
     matching (not_begins 93 94 refl) (more (first_closing 91 refl)
-    (more (span (symbol 45) no_byte (plain 48 refl) (not_begins 48 93 refl) (omega arith)) (done (λ e. cc))))
+    (more (span (symbol 45) no_byte (plain refl) (not_begins 48 93 refl) (omega arith)) (done (λ e. cc))))
   where
     no_byte : {p : ListPlace} {t : Text} → (Begins (codes "]") (91 ∷ t) ⊎ Begins (codes "-") (91 ∷ t)) → p ≡ First
     no_byte (inl s) = absurd (not_begins 91 93 refl s)
@@ -54,7 +54,7 @@ symbol_start =
 
 -- `[---]`: the range from a hyphen to a hyphen
 three_hyphens : IsBracket (codes "[---]") [] (one_of (union (range 45 45) nothing))
-three_hyphens = matching (not_begins 45 94 refl) (more (span (plain 45 refl) (λ s. refl) (plain 45 refl) (not_begins 45 93 refl) (omega arith)) (done (λ e. cc)))
+three_hyphens = matching (not_begins 45 94 refl) (more (span (plain refl) (λ s. refl) (plain refl) (not_begins 45 93 refl) (omega arith)) (done (λ e. cc)))
 
 -- `[0-9-_]`: a hyphen directly after a range
 hyphen_between : IsBracket (codes "[0-9-_]") [] (one_of (union (range 48 57) (union (only 45) (union (only 95) nothing))))

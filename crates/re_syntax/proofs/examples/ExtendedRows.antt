@@ -6,7 +6,7 @@ use Rattle.re_syntax.proofs.lemmas.ExtendedBraces.{not_number_first, no_number_a
 
 -- a byte that stands for itself and is no `{`
 itself : {g : Bool} {t : Text} (b : ℕ) → IsTrue (is_ordinary g b) → nat_eq b 123 ≡ false → Item g 0 (b ∷ t) t (byte b)
-itself b h n = atom (ordinary b h (λ e. absurd (apart b 123 e n)))
+itself b h n = atom (ordinary b h (λ e. absurd (apart e n)))
 
 -- one byte and nothing else
 alone : {g : Bool} {t : Text} (b : ℕ) → IsTrue (is_ordinary g b) → nat_eq b 123 ≡ false → Items g 0 (b ∷ t) t (byte b ∷ [])
@@ -45,7 +45,7 @@ no_numbers =
 -- `a{2,`: nothing closes the interval
 brace_comma : IsSpelled Extended (codes "a{2,") (cat (byte 97 ∷ byte 123 ∷ byte 50 ∷ byte 44 ∷ []))
 brace_comma =
-    as_extended (last (item (itself 97 refl refl) (item (brace refl (no_closing (codes "2,") refl)) (item (itself 50 refl refl) (alone 44 refl refl))))) (omega arith)
+    as_extended (last (item (itself 97 refl refl) (item (brace refl (no_closing refl)) (item (itself 50 refl refl) (alone 44 refl refl))))) (omega arith)
 
 two : IsNumber (codes "2")
 two = record { not_empty = λ e. cc; digits = refl }
@@ -57,7 +57,7 @@ two_allowed = record { least_fits = omega arith; most_fits = omega arith; ordere
 two_braces : IsSpelled Extended (codes "a{{2}") (cat (byte 97 ∷ repeat (byte 123) 2 (Some 2) ∷ []))
 two_braces =
     as_extended (last (item (itself 97 refl refl)
-    (item (repeated (brace refl (not_number_first (codes "{2}") refl refl)) (interval (exactly (codes "2") two) two_allowed)) none))) (omega arith)
+    (item (repeated (brace refl (not_number_first refl refl)) (interval (exactly (codes "2") two) two_allowed)) none))) (omega arith)
 
 -- `a{,2}`: no least number
 no_least : IsSpelled Extended (codes "a{,2}") (repeat (byte 97) 0 (Some 2))

@@ -83,21 +83,21 @@ mutual
   item_reads (atom period) g = token_item period_token
   item_reads (atom (escaped b h)) g = token_item (escaped_token b h)
   item_reads (atom (ordinary b h n)) g = token_item (ordinary_token b h n)
-  item_reads (atom (group bs)) g = group_item opens (branches_read bs true) (λ q. closes)
+  item_reads (atom (group bs)) g = group_item opens (branches_read bs) (λ q. closes)
   item_reads (repeated i d) g = repeated_item (item_reads i g) (repeats d)
 
-  items_read : {p : ItemPlace} {h : ℕ} {t u : Text} {es : List Expression} → Items p h t u es → (g : Bool) → ItemsRead Basic g p h t u es
-  items_read none g = no_items
-  items_read (leading is) g = anchor_items leads (items_read is g)
-  items_read (trailing a) g = more_items (token_item (trails a)) no_items
-  items_read (item i is) g = more_items (item_reads i g) (items_read is g)
+  items_read : {p : ItemPlace} {h : ℕ} {t u : Text} {es : List Expression} → Items p h t u es → {g : Bool} → ItemsRead Basic g p h t u es
+  items_read none = no_items
+  items_read (leading is) {g} = anchor_items leads (items_read is)
+  items_read (trailing a) = more_items (token_item (trails a)) no_items
+  items_read (item i is) {g} = more_items (item_reads i g) (items_read is)
 
-  branches_read : {h : ℕ} {t u : Text} {es : List Expression} → Branches h t u es → (g : Bool) → BranchesRead Basic g h t u es
-  branches_read (last is) g = last_branch (items_read is g)
-  branches_read (more is bs) g = more_branches (items_read is g) (λ q. parts) (branches_read bs g)
+  branches_read : {h : ℕ} {t u : Text} {es : List Expression} → Branches h t u es → {g : Bool} → BranchesRead Basic g h t u es
+  branches_read (last is) {g} = last_branch (items_read is)
+  branches_read (more is bs) {g} = more_branches (items_read is) (λ q. parts) (branches_read bs)
 
 pub basic_spells : {t : Text} {e : Expression} → IsSpelled Basic t e → Spells Basic t e
-basic_spells (as_basic bs h) = spells (branches_read bs false) h
+basic_spells (as_basic bs h) = spells (branches_read bs) h
 
 pub basic_spelled : {t : Text} {e : Expression} → Spells Basic t e → IsSpelled Basic t e
 basic_spelled x = spelled grammar x

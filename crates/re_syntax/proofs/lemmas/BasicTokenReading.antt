@@ -56,8 +56,8 @@ ordinary_here First b k d l c s = rw (ne_eqb 91 b (λ x. k (sym x)), ne_eqb 46 b
 ordinary_here AfterAnchor b k d l c s = rw (ne_eqb 91 b (λ x. k (sym x)), ne_eqb 46 b (λ x. d (sym x)), ne_eqb 92 b (λ x. l (sym x))) refl
 ordinary_here Later b k d l c s = rw (ne_eqb 91 b (λ x. k (sym x)), ne_eqb 46 b (λ x. d (sym x)), ne_eqb 92 b (λ x. l (sym x)), ne_eqb 42 b (λ x. s refl (sym x))) refl
 
-pub single : (g : Bool) (p : ItemPlace) (b : ℕ) (u : Text) → HasNoTimes p (b ∷ u) → HasNoTail (b ∷ u) → (p ≡ First → ¬ Begins (codes "^") (b ∷ u)) → b ≢ 91 → b ≢ 92 → BasicToken g p (b ∷ u) u (atom (one_of (meant_bytes b)))
-single g p b u times tail first k l = go (cases_eq b 46)
+pub single : {g : Bool} {p : ItemPlace} (b : ℕ) {u : Text} → HasNoTimes p (b ∷ u) → HasNoTail (b ∷ u) → (p ≡ First → ¬ Begins (codes "^") (b ∷ u)) → b ≢ 91 → b ≢ 92 → BasicToken g p (b ∷ u) u (atom (one_of (meant_bytes b)))
+single {g} {p} b {u} times tail first k l = go (cases_eq b 46)
   where
     go : (b ≡ 46) ⊎ (b ≡ 46 → ⊥) → BasicToken g p (b ∷ u) u (atom (one_of (meant_bytes b)))
     go (inl e) = rw e period

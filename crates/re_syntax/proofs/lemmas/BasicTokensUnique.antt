@@ -1,5 +1,5 @@
 -- A place of a basic expression has one token, or one fault.
-use Rattle.re_syntax.proofs.Prelude.{EscapeFault, undefined, reference, ◌≡◌, ◌≢◌, ℕ, ◌+◌, inl, inr, Bool, true, false, nat_eq, [], ◌∷◌, ◌++◌, Option, IsTrue, codes, if◌then◌else◌, refl, sym, ap, ◌∙◌, ne_eqb, or_cases, or_left, or_right, Alnum, in_class, FaultKind, Basic, Text, byte, IsAtEnd, of_text, of_group, of_branch, NeedsItem, needs_interval, needs_plus, needs_question, basic_refused, is_in, is_undefined, one_to_nine}
+use Rattle.re_syntax.proofs.Prelude.{EscapeFault, undefined, reference, ◌≡◌, ◌≢◌, ℕ, ◌+◌, inl, inr, Bool, false, nat_eq, [], ◌∷◌, ◌++◌, Option, IsTrue, codes, if◌then◌else◌, refl, sym, ap, ◌∙◌, ne_eqb, or_cases, or_left, or_right, Alnum, in_class, FaultKind, Basic, Text, byte, IsAtEnd, of_text, of_group, of_branch, NeedsItem, needs_interval, needs_plus, needs_question, basic_refused, is_in, is_undefined, one_to_nine}
 use Rattle.re_syntax.specs.declared.tokens.ItemPlace.{ItemPlace}
 use Rattle.re_syntax.specs.declared.tokens.ItemPlace.TheVariants.{First, Later}
 use Rattle.re_syntax.specs.Basic.{Duplication, is_ordinary, star, plus, question, interval}
@@ -34,19 +34,19 @@ needs_kind needs_plus = refl
 needs_kind needs_question = refl
 
 -- an escaped byte, and one that is refused, make no other token: a test tells them from the others
-plain_kind : (b : ℕ) (w : Text) (test : ℕ → Bool) (v : Bool) → test b ≢ v → test 40 ≡ v → test 41 ≡ v → test 124 ≡ v → test 123 ≡ v → test 43 ≡ v → test 63 ≡ v → kind_of (92 ∷ b ∷ w) ≡ 500
-plain_kind b w test v n i j k l m o = rw (ne_eqb 40 b (other 40 i), ne_eqb 41 b (other 41 j), ne_eqb 124 b (other 124 k), ne_eqb 123 b (other 123 l), ne_eqb 43 b (other 43 m), ne_eqb 63 b (other 63 o)) refl
+plain_kind : (b : ℕ) (w : Text) (test : ℕ → Bool) {v : Bool} → test b ≢ v → test 40 ≡ v → test 41 ≡ v → test 124 ≡ v → test 123 ≡ v → test 43 ≡ v → test 63 ≡ v → kind_of (92 ∷ b ∷ w) ≡ 500
+plain_kind b w test {v} n i j k l m o = rw (ne_eqb 40 b (other 40 i), ne_eqb 41 b (other 41 j), ne_eqb 124 b (other 124 k), ne_eqb 123 b (other 123 l), ne_eqb 43 b (other 43 m), ne_eqb 63 b (other 63 o)) refl
   where
     other : (c : ℕ) → test c ≡ v → c ≢ b
     other c h e = n (ap test (sym e) ∙ h)
 
 escaped_kind : (b : ℕ) (w : Text) → ¬ IsTrue (is_undefined basic_escaped b) → kind_of (92 ∷ b ∷ w) ≡ 500
-escaped_kind b w h = plain_kind b w (is_undefined basic_escaped) true h refl refl refl refl refl refl
+escaped_kind b w h = plain_kind b w (is_undefined basic_escaped) h refl refl refl refl refl refl
 
 refused_kind : {t v : Text} {k : FaultKind} → EscapeFault basic_refused t k v → kind_of t ≡ 500
 refused_kind trailing = refl
-refused_kind (undefined {u = u} {b = b} h n) = plain_kind b u (is_undefined basic_refused) false (λ e. let f = sym e ∙ h in cc) refl refl refl refl refl refl
-refused_kind (reference {u = u} {b = b} h) = plain_kind b u one_to_nine false (λ e. let f = sym e ∙ h in cc) refl refl refl refl refl refl
+refused_kind (undefined {u = u} {b = b} h n) = plain_kind b u (is_undefined basic_refused) (λ e. let f = sym e ∙ h in cc) refl refl refl refl refl refl
+refused_kind (reference {u = u} {b = b} h) = plain_kind b u one_to_nine (λ e. let f = sym e ∙ h in cc) refl refl refl refl refl refl
 
 abbrev token_kind : {g : Bool} {p : ItemPlace} {t u : Text} {k : Token} → BasicToken g p t u k → (n : ℕ) × (kind_of t ≡ n)
 token_kind opens = (296, refl)
@@ -114,14 +114,14 @@ dup_mark plus u = (43, refl)
 dup_mark question u = (63, refl)
 dup_mark (interval form allowed) u = (123, refl)
 
-dup-unique : {c d : Text} {a b : ℕ} {x y : Option ℕ} → Duplication c a x → Duplication d b y → (u v : Text) → c ++ u ≡ d ++ v → SameToken (times a x) (times b y) u v
-dup-unique star star u v e = record { tokens = refl; rests = tails e }
-dup-unique plus plus u v e = record { tokens = refl; rests = tails (tails e) }
-dup-unique question question u v e = record { tokens = refl; rests = tails (tails e) }
-dup-unique (interval form i) (interval other j) u v e =
-    let same = closed-unique 92 (codes "}") refl refl (closed_by (codes "\\}") u form) (closed_by (codes "\\}") v other) (tails (tails e)) in
+dup-unique : {c d : Text} {a b : ℕ} {x y : Option ℕ} → Duplication c a x → Duplication d b y → {u v : Text} → c ++ u ≡ d ++ v → SameToken (times a x) (times b y) u v
+dup-unique star star e = record { tokens = refl; rests = tails e }
+dup-unique plus plus e = record { tokens = refl; rests = tails (tails e) }
+dup-unique question question e = record { tokens = refl; rests = tails (tails e) }
+dup-unique (interval form i) (interval other j) {u} {v} e =
+    let same = closed-unique 92 (codes "}") refl refl (closed_by u form) (closed_by v other) (tails (tails e)) in
     record { tokens = same_times same.least same.most; rests = tails same.rests }
-dup-unique x y u v e = absurd (apart (dup_mark x u).0 (dup_mark y v).0 (sym (dup_mark x u).1 ∙ ap mark e ∙ (dup_mark y v).1) refl)
+dup-unique x y {u} {v} e = absurd (apart (sym (dup_mark x u).1 ∙ ap mark e ∙ (dup_mark y v).1) refl)
 
 token-unique : {g : Bool} {p : ItemPlace} {t s u v : Text} {j k : Token} → BasicToken g p t u j → BasicToken g p s v k → t ≡ s → SameToken j k u v
 token-unique (ordinary b h n) y e = swapped (ordinary-only y (sym e) h n)
@@ -131,11 +131,11 @@ token-unique closes closes e = record { tokens = refl; rests = tails (tails e) }
 token-unique parts parts e = record { tokens = refl; rests = tails (tails e) }
 token-unique leads leads e = record { tokens = refl; rests = tails e }
 token-unique (trails a) (trails b) e = record { tokens = refl; rests = tails e }
-token-unique (repeats {u = u} d) (repeats {u = v} c) e = dup-unique d c u v e
+token-unique (repeats {u = u} d) (repeats {u = v} c) e = dup-unique d c e
 token-unique (bracket h) (bracket k) e = let same = IsBracket-unique h k e in record { tokens = ap atom same.expressions; rests = same.rests }
 token-unique period period e = record { tokens = refl; rests = tails e }
 token-unique (escaped b h) (escaped c k) e = record { tokens = ap (λ x. atom (byte x)) (heads (tails e)); rests = tails (tails e) }
-token-unique x y e = absurd (apart (token_kind x).0 (token_kind y).0 (sym (token_kind x).1 ∙ ap kind_of e ∙ (token_kind y).1) refl)
+token-unique x y e = absurd (apart (sym (token_kind x).1 ∙ ap kind_of e ∙ (token_kind y).1) refl)
 
 fault-unique : {g : Bool} {p : ItemPlace} {t s u v : Text} {j k : FaultKind} → BasicTokenFault g p t j u → BasicTokenFault g p s k v → t ≡ s → SameFault j k u v
 fault-unique (in_bracket x) (in_bracket y) e = bracket_fault-unique x y e
@@ -151,7 +151,7 @@ fault-unique (disallowed c d) (needs_item n o) e = absurd (n refl)
 fault-unique (disallowed c d) (no_form h) e = absurd (no_closed h c (tails (tails e)))
 fault-unique (disallowed c d) (disallowed a b) e =
     let same = closed-unique 92 (codes "}") refl refl c a (tails (tails e)) in record { kinds = disallowed-unique d b same.least same.most; places = e }
-fault-unique x y e = absurd (apart (fault_kind x).0 (fault_kind y).0 (sym (fault_kind x).1 ∙ ap kind_of e ∙ (fault_kind y).1) refl)
+fault-unique x y e = absurd (apart (sym (fault_kind x).1 ∙ ap kind_of e ∙ (fault_kind y).1) refl)
 
 -- a byte among some is among more, so what may not follow a backslash is not escaped
 in_more : (s t : Text) (b : ℕ) → IsTrue (is_in t b) → IsTrue (is_in (s ++ t) b)
@@ -168,18 +168,18 @@ wider b h =
 fault-no_token : {g : Bool} {p : ItemPlace} {t s u v : Text} {k : Token} {j : FaultKind} → BasicTokenFault g p s j v → BasicToken g p t u k → s ≡ t → ⊥
 fault-no_token (needs_item n o) (repeats d) e = n refl
 fault-no_token y (ordinary b h n) e = ordinary-no_fault y e h
-fault-no_token (no_form h) (repeats star) e = apart 92 42 (heads e) refl
-fault-no_token (no_form h) (repeats plus) e = apart 123 43 (heads (tails e)) refl
-fault-no_token (no_form h) (repeats question) e = apart 123 63 (heads (tails e)) refl
-fault-no_token (no_form h) (repeats {u = u} (interval form allowed)) e = no_closed h (closed_by (codes "\\}") u form) (sym (tails (tails e)))
-fault-no_token (disallowed c r) (repeats star) e = apart 92 42 (heads e) refl
-fault-no_token (disallowed c r) (repeats plus) e = apart 123 43 (heads (tails e)) refl
-fault-no_token (disallowed c r) (repeats question) e = apart 123 63 (heads (tails e)) refl
+fault-no_token (no_form h) (repeats star) e = apart (heads e) refl
+fault-no_token (no_form h) (repeats plus) e = apart (heads (tails e)) refl
+fault-no_token (no_form h) (repeats question) e = apart (heads (tails e)) refl
+fault-no_token (no_form h) (repeats {u = u} (interval form allowed)) e = no_closed h (closed_by {close = (codes "\\}")} u form) (sym (tails (tails e)))
+fault-no_token (disallowed c r) (repeats star) e = apart (heads e) refl
+fault-no_token (disallowed c r) (repeats plus) e = apart (heads (tails e)) refl
+fault-no_token (disallowed c r) (repeats question) e = apart (heads (tails e)) refl
 fault-no_token (disallowed c r) (repeats {u = u} (interval form allowed)) e =
-    let same = closed-unique 92 (codes "}") refl refl (closed_by (codes "\\}") u form) c (sym (tails (tails e))) in never_allowed same.least same.most allowed r
+    let same = closed-unique 92 (codes "}") refl refl (closed_by u form) c (sym (tails (tails e))) in never_allowed same.least same.most allowed r
 fault-no_token (in_bracket f) (bracket h) e = bracket-no_fault h f (sym e)
 fault-no_token (in_escape f) (escaped b h) e = h (wider b (escape-no_fault f e))
-fault-no_token y x e = absurd (apart (fault_kind y).0 (token_kind x).0 (sym (fault_kind y).1 ∙ ap kind_of e ∙ (token_kind x).1) refl)
+fault-no_token y x e = absurd (apart (sym (fault_kind y).1 ∙ ap kind_of e ∙ (token_kind x).1) refl)
 
 -- a token that is where a branch ends closes a group or separates branches
 abbrev pub MayEnd : Token → Type 0
@@ -193,17 +193,17 @@ at_end parts a e = tt
 at_end (ordinary b h n) of_text e = absurd (cc)
 at_end {p = p} (ordinary b h n) of_group e = absurd (never p h refl (sym e))
 at_end {p = p} (ordinary b h n) of_branch e = absurd (never p h refl (sym e))
-at_end x of_text e = absurd (apart (token_kind x).0 600 (sym (token_kind x).1 ∙ ap kind_of e) refl)
-at_end x of_group e = absurd (apart (token_kind x).0 297 (sym (token_kind x).1 ∙ ap kind_of e) refl)
-at_end x of_branch e = absurd (apart (token_kind x).0 380 (sym (token_kind x).1 ∙ ap kind_of e) refl)
+at_end x of_text e = absurd (apart (sym (token_kind x).1 ∙ ap kind_of e) refl)
+at_end x of_group e = absurd (apart (sym (token_kind x).1 ∙ ap kind_of e) refl)
+at_end x of_branch e = absurd (apart (sym (token_kind x).1 ∙ ap kind_of e) refl)
 
 token_not_end : {g : Bool} {p : ItemPlace} {t u : Text} {k : Token} → BasicToken g p t u k → t ≢ []
 token_not_end (ordinary b h n) e = cc
-token_not_end x e = absurd (apart (token_kind x).0 600 (sym (token_kind x).1 ∙ ap kind_of e) refl)
+token_not_end x e = absurd (apart (sym (token_kind x).1 ∙ ap kind_of e) refl)
 
 fault_not_end : {g : Bool} {p : ItemPlace} {t v : Text} {j : FaultKind} → BasicTokenFault g p t j v → t ≢ []
 fault_not_end (in_escape trailing) e = cc
-fault_not_end x e = absurd (apart (fault_kind x).0 600 (sym (fault_kind x).1 ∙ ap kind_of e) refl)
+fault_not_end x e = absurd (apart (sym (fault_kind x).1 ∙ ap kind_of e) refl)
 
 pub basic_exact : IsExact Basic
 basic_exact = record {

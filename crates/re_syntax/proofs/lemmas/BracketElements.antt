@@ -9,7 +9,7 @@ alone_stands {p} {t} {v} on x f = alone x (record { bracket = on.bracket; hyphen
   where
     hyphen : (p ≢ AfterPoint) ⊎ Begins (codes "-]") t → (p ≢ AfterPoint) ⊎ Begins (codes "]") v
     hyphen (inl n) = inl n
-    hyphen (inr (r, e)) = inr (r, (point-unique x (bare 45 (λ k. absurd (apart 45 91 k refl))) e).rests)
+    hyphen (inr (r, e)) = inr (r, (point-unique x (bare 45 (λ k. absurd (apart k refl))) e).rests)
 
 -- a point, a hyphen that is not the last and a point that is not below the first are a range
 pub range_stands : {p : ListPlace} {t v u w : Text} {b d : ℕ} → MayGoOn p t → (Begins (codes "-") t → p ≡ First) → Point t v b → v ≡ codes "-" ++ u → ¬ Begins (codes "-]") v →

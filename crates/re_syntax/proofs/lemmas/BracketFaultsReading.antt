@@ -15,30 +15,30 @@ pub fault_as : {P Q : FaultKind → Text → Type 0} {text : Text} {fault : Patt
 fault_as {text = text} {fault = fault} f g = record { within = f.within; is_fault = g fault.kind (drop fault.at text) f.is_fault }
 
 -- a place where a hyphen is, is in the text
-pub hyphen_within : (c : Cursor) (hyphen : ℕ) (t : Text) → from_place hyphen c ≡ codes "-" ++ t → IsIn hyphen c
-hyphen_within c hyphen t e = omega (arith, simp length-drop at (ap length e))
+pub hyphen_within : (c : Cursor) {hyphen : ℕ} (t : Text) → from_place hyphen c ≡ codes "-" ++ t → IsIn hyphen c
+hyphen_within c t e = omega (arith, simp length-drop at (ap length e))
 
 -- a fault of a range, at its hyphen
-pub bad_range_at : (opening : Text) (first : ℕ) (c : Cursor) (hyphen : ℕ) → IsHyphenBefore hyphen c → RangeFault opening first (left c) BadRange (codes "-" ++ left c) →
+pub bad_range_at : {opening : Text} {first : ℕ} (c : Cursor) {hyphen : ℕ} → IsHyphenBefore hyphen c → RangeFault opening first (left c) BadRange (codes "-" ++ left c) →
     Fails (RangeFault opening first (left c)) c (record { kind = BadRange; at = hyphen })
-bad_range_at opening first c hyphen e f =
-    record { within = hyphen_within c hyphen (left c) e; is_fault = subst (RangeFault opening first (left c) BadRange) (sym e) f }
+bad_range_at {opening} {first} c {hyphen} e f =
+    record { within = hyphen_within c (left c) e; is_fault = subst (RangeFault opening first (left c) BadRange) (sym e) f }
 
 -- the fault of two hyphens, where the first was read as a point
-pub stray_before : (opening : ℕ) (place : ListPlace) (old new : Cursor) (m : Text) (fault : PatternFault) (b : ℕ) → new.text ≡ old.text → Point (left old) m b → Begins (codes "-") (left old) →
+pub stray_before : (opening : ℕ) (place : ListPlace) (old new : Cursor) {m : Text} (fault : PatternFault) {b : ℕ} → new.text ≡ old.text → Point (left old) m b → Begins (codes "-") (left old) →
     m ≡ codes "-" ++ left new → ¬ Begins (codes "-]") m → place ≢ First → IsStray opening new fault → Fails (ElementFault (from_place opening old) place (left old)) old fault
-stray_before opening place old new m fault b same x (rest, e) f last n h =
-    let next : m ≡ rest = (point-unique x (bare 45 (λ k. absurd (apart 45 91 k refl))) e).rests in
+stray_before opening place old new {m} fault same x (rest, e) f last n h =
+    let next : m ≡ rest = (point-unique x (bare 45 (λ k. absurd (apart k refl))) e).rests in
     let whole : left old ≡ 45 ∷ 45 ∷ left new = e ∙ ap (λ t. 45 ∷ t) (sym next ∙ f) in
     let found = h place n (λ (r, g). last (r, f ∙ ap (λ t. 45 ∷ t) g)) in
     subst (λ t. IsAt (ElementFault (drop opening t.now) place (left old)) t.now fault) same
     (subst (λ t. IsAt (ElementFault (from_place opening new) place t) new.text.now fault) (sym whole) found)
 
 -- the fault of a range, from the point that begins it
-pub range_before : (opening : ℕ) (place : ListPlace) (old new : Cursor) (m : Text) (fault : PatternFault) (b : ℕ) → new.text ≡ old.text → MayGoOn place (left old) → (Begins (codes "-") (left old) → place ≡ First) →
+pub range_before : (opening : ℕ) {place : ListPlace} (old new : Cursor) {m : Text} (fault : PatternFault) {b : ℕ} → new.text ≡ old.text → MayGoOn place (left old) → (Begins (codes "-") (left old) → place ≡ First) →
     Point (left old) m b → m ≡ codes "-" ++ left new → ¬ Begins (codes "-]") m → Fails (RangeFault (from_place opening new) b (left new)) new fault →
     Fails (ElementFault (from_place opening old) place (left old)) old fault
-range_before opening place old new m fault b same on first x f last h =
+range_before opening {place} old new fault {b} same on first x f last h =
     subst (λ t. IsAt (ElementFault (drop opening t.now) place (left old)) t.now fault) same
     (fault_as h (λ kind from g. no_range (subst (λ r. Point (left old) r b) f x) (λ (r, e). last (r, f ∙ ap (λ t. 45 ∷ t) e)) start g))
   where
@@ -47,26 +47,26 @@ range_before opening place old new m fault b same on first x f last h =
     start (inr k) = first k
 
 -- the list of a bracket expression has the fault
-pub list_fault : (opening : ℕ) (start c : Cursor) (p : ListPlace) (fault : PatternFault) → c.text ≡ start.text →
+pub list_fault : (opening : ℕ) (start c : Cursor) (p : ListPlace) {fault : PatternFault} → c.text ≡ start.text →
     ((kind : FaultKind) (from : Text) → ListFault (from_place opening start) p (left c) kind from → ListFault (from_place opening start) First (left start) kind from) →
     Fails (ElementFault (from_place opening c) p (left c)) c fault → Fails (ListFault (from_place opening start) First (left start)) start fault
-list_fault opening start c p fault same on h =
+list_fault opening start c p {fault} same on h =
     fault_as (subst (λ t. IsAt (ElementFault (drop opening t.now) p (left c)) t.now fault) same h) (λ kind from f. on kind from (here f))
 
 -- the fault of a list after what opens it
-pub opened_fault : (bytes : Text) (opening : ℕ) (old new : Cursor) (fault : PatternFault) → opening ≡ old.at → Passes bytes old new →
+pub opened_fault : {bytes : Text} {opening : ℕ} {old new : Cursor} {fault : PatternFault} → opening ≡ old.at → Passes bytes old new →
     ((kind : FaultKind) (from : Text) → ListFault (bytes ++ left new) First (left new) kind from → BracketFault (bytes ++ left new) kind from) →
     Fails (ListFault (from_place opening new) First (left new)) new fault → Fails (BracketFault (left old)) old fault
-opened_fault bytes opening old new fault e past f h =
+opened_fault {bytes} {opening} {old} {new} {fault} e past f h =
     let from : from_place opening new ≡ bytes ++ left new = ap (λ t. drop opening t.now) past.same_text ∙ ap (λ n. drop n old.text.now) e ∙ past.passed in
     let moved = subst (λ t. IsAt (ListFault t First (left new)) new.text.now fault) from h in
     subst (λ t. IsAt (BracketFault t) old.text.now fault) (sym past.passed)
     (subst (λ t. IsAt (BracketFault (bytes ++ left new)) t.now fault) past.same_text (fault_as moved f))
 
 -- the opening is in the text
-pub opening_in : (opening : ℕ) (old new : Cursor) → opening ≡ old.at → new.text ≡ old.text → IsIn opening new
-opening_in opening old new e same = subst (λ t. opening ≤ length t.now) (sym same) (rw e old.in_text)
+pub opening_in : {opening : ℕ} (old new : Cursor) → opening ≡ old.at → new.text ≡ old.text → IsIn opening new
+opening_in {opening} old new e same = subst (λ t. opening ≤ length t.now) (sym same) (rw e old.in_text)
 
 -- the fault of the bracket expression at a place
-pub exact_at : (text : Text) (from : ℕ) (c : Cursor) (fault : PatternFault) → c.text.now ≡ text → left c ≡ drop from text → Fails (BracketFault (left c)) c fault → IsAt (BracketFault (drop from text)) text fault
-exact_at text from c fault e f h = subst (λ t. IsAt (BracketFault t) text fault) f (subst (λ t. IsAt (BracketFault (left c)) t fault) e h)
+pub exact_at : {text : Text} (from : ℕ) (c : Cursor) {fault : PatternFault} → c.text.now ≡ text → left c ≡ drop from text → Fails (BracketFault (left c)) c fault → IsAt (BracketFault (drop from text)) text fault
+exact_at {text} from c {fault} e f h = subst (λ t. IsAt (BracketFault t) text fault) f (subst (λ t. IsAt (BracketFault (left c)) t fault) e h)

@@ -27,8 +27,8 @@ point_fault_kind (bad_symbol n) = refl
 point_fault_kind ended = refl
 
 class_kind : {t : Text} → Begins (codes "[:") t ⊎ Begins (codes "[=") t → kind_of t ≡ 0 → ⊥
-class_kind (inl (w, e)) h = apart 1 0 (sym (ap kind_of e) ∙ h) refl
-class_kind (inr (w, e)) h = apart 2 0 (sym (ap kind_of e) ∙ h) refl
+class_kind (inl (w, e)) h = apart (sym (ap kind_of e) ∙ h) refl
+class_kind (inr (w, e)) h = apart (sym (ap kind_of e) ∙ h) refl
 
 -- no such fault is at a byte that is no bracket
 byte-no_fault : {o t v w : Text} {b : ℕ} {k : FaultKind} → PointFault o t k v → t ≡ b ∷ w → b ≢ 91 → ⊥
@@ -69,22 +69,22 @@ element_fault-unique (no_class h) (no_class n) f g e = record { kinds = refl; pl
 element_fault-unique (no_equivalence h) (no_equivalence n) f g e = record { kinds = refl; places = e }
 element_fault-unique (no_point y) (no_point z) f g e = point_fault-unique y z f e
 element_fault-unique (no_point y) (no_range x a b z) f g e = absurd (point-no_fault x y (sym e))
-element_fault-unique (no_point y) (cut_off n) f g e = absurd (byte-no_fault y e (λ h. apart 45 91 h refl))
-element_fault-unique (no_point y) (stray n m l) f g e = absurd (byte-no_fault y e (λ h. apart 45 91 h refl))
+element_fault-unique (no_point y) (cut_off n) f g e = absurd (byte-no_fault y e (λ h. apart h refl))
+element_fault-unique (no_point y) (stray n m l) f g e = absurd (byte-no_fault y e (λ h. apart h refl))
 element_fault-unique (no_range x a b y) (no_point z) f g e = absurd (point-no_fault x z e)
 element_fault-unique (no_range x a b y) (no_range z c d w) f g e =
     let same = point-unique x z e in range_fault-unique y w f same.values (tails same.rests)
 element_fault-unique (no_range x a b y) (cut_off n) f g e = absurd (hyphens-no_range b e (λ h. n (sym g ∙ h)))
 element_fault-unique (no_range x a b y) (stray n m l) f g e = absurd (hyphens-no_range b e (λ h. n (sym g ∙ h)))
-element_fault-unique (cut_off n) (no_point y) f g e = absurd (byte-no_fault y (sym e) (λ h. apart 45 91 h refl))
+element_fault-unique (cut_off n) (no_point y) f g e = absurd (byte-no_fault y (sym e) (λ h. apart h refl))
 element_fault-unique (cut_off n) (no_range x a b y) f g e = absurd (hyphens-no_range b (sym e) (λ h. n (g ∙ h)))
 element_fault-unique (cut_off n) (cut_off m) f g e = record { kinds = refl; places = f }
 element_fault-unique (cut_off n) (stray m l i) f g e = absurd (l (sym (tails (tails e))))
-element_fault-unique (stray n m l) (no_point y) f g e = absurd (byte-no_fault y (sym e) (λ h. apart 45 91 h refl))
+element_fault-unique (stray n m l) (no_point y) f g e = absurd (byte-no_fault y (sym e) (λ h. apart h refl))
 element_fault-unique (stray n m l) (no_range x a b y) f g e = absurd (hyphens-no_range b (sym e) (λ h. n (g ∙ h)))
 element_fault-unique (stray n m l) (cut_off i) f g e = absurd (m (tails (tails e)))
 element_fault-unique (stray n m l) (stray n' m' l') f g e = record { kinds = refl; places = tails e }
-element_fault-unique x y f g e = absurd (apart (fault_kind x).0 (fault_kind y).0 (sym (fault_kind x).1 ∙ ap kind_of e ∙ (fault_kind y).1) refl)
+element_fault-unique x y f g e = absurd (apart (sym (fault_kind x).1 ∙ ap kind_of e ∙ (fault_kind y).1) refl)
 
 -- a point before a hyphen that is not the last is not alone
 alone-no_range : {p : ListPlace} {t v u : Text} → MayBeAlone p t v → v ≡ 45 ∷ u → ¬ Begins (codes "]") u → ⊥
@@ -92,7 +92,7 @@ alone-no_range may e n = let (r, f) = may.before_hyphen (_, e) in n (r, tails (s
 
 -- a hyphen before another text
 hyphen_point : {t u w : Text} {b : ℕ} → Point t u b → t ≡ 45 ∷ w → u ≡ w
-hyphen_point x e = (point-unique x (bare 45 (λ k. absurd (apart 45 91 k refl))) e).rests
+hyphen_point x e = (point-unique x (bare 45 (λ k. absurd (apart k refl))) e).rests
 
 no_bracket_at_end : ¬ Begins (codes "]") []
 no_bracket_at_end (r, e) = cc
@@ -110,16 +110,16 @@ element-no_fault (span x start y open' le) (no_range z n m w) g e =
     let same = point-unique x z e in range-no_fault y le w same.values (tails same.rests)
 element-no_fault (span x start y open' le) (cut_off n) g e = hyphens-no_range start e (λ h. n (sym g ∙ h))
 element-no_fault (span x start y open' le) (stray n m l) g e = hyphens-no_range start e (λ h. n (sym g ∙ h))
-element-no_fault x y g e = apart (element_kind x).0 (fault_kind y).0 (sym (element_kind x).1 ∙ ap kind_of e ∙ (fault_kind y).1) refl
+element-no_fault x y g e = apart (sym (element_kind x).1 ∙ ap kind_of e ∙ (fault_kind y).1) refl
 
 -- where a list is closed, no element is missing
 closing-no_fault : {p : ListPlace} {o t u v : Text} {k : FaultKind} → p ≢ First → ElementFault o p t k v → t ≡ 93 ∷ u → ⊥
-closing-no_fault n (no_class h) e = apart 91 93 (heads e) refl
-closing-no_fault n (no_equivalence h) e = apart 91 93 (heads e) refl
-closing-no_fault n (no_point y) e = byte-no_fault y e (λ h. apart 93 91 h refl)
+closing-no_fault n (no_class h) e = apart (heads e) refl
+closing-no_fault n (no_equivalence h) e = apart (heads e) refl
+closing-no_fault n (no_point y) e = byte-no_fault y e (λ h. apart h refl)
 closing-no_fault n (no_range x m start y) e = n (start (inl (_, e)))
-closing-no_fault n (cut_off m) e = apart 45 93 (heads e) refl
-closing-no_fault n (stray m l i) e = apart 45 93 (heads e) refl
+closing-no_fault n (cut_off m) e = apart (heads e) refl
+closing-no_fault n (stray m l i) e = apart (heads e) refl
 
 list_fault-unique : {o r : Text} {p q : ListPlace} {t s u v : Text} {j k : FaultKind} → ListFault o p t j u → ListFault r q s k v → o ≡ r → p ≡ q → t ≡ s → SameFault j k u v
 list_fault-unique (here f) (here g) h l e = element_fault-unique f g h l e

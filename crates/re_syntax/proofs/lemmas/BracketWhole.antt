@@ -16,14 +16,14 @@ pub set_stands : {t v u : Text} {s : Bytes} → t ≡ codes "[" ++ v → ¬ Begi
 set_stands {u = u} {s = s} e h r = subst (λ t. IsBracket t u (one_of s)) (sym e) (matching (λ (w, f). h (w, e ∙ ap (λ x. 91 ∷ x) f)) r)
 
 -- a cursor at a place has the text from there on left
-pub left_at : {text : Text} {at : ℕ} (c : Cursor) → IsAt text at c → left c ≡ drop at text
-left_at {text} {at} c h = ap (λ t. drop c.at t) h.text_is ∙ ap (λ n. drop n text) h.place_is
+pub left_at : {text : Text} {at : ℕ} {c : Cursor} → IsAt text at c → left c ≡ drop at text
+left_at {text} {at} {c} h = ap (λ t. drop c.at t) h.text_is ∙ ap (λ n. drop n text) h.place_is
 
 -- the byte at a place comes next there
-pub next_byte : (text : Text) (from b : ℕ) (c : Cursor) → slice_get text from ≡ Some b → IsAt text from c → left c ≡ b ∷ drop (from + 1) text
-next_byte text from b c e h =
-    left_at c h ∙ drop_more text from b (slice_get_within text from b e) ∙ ap (λ x. x ∷ drop (from + 1) text) (get_or_from_slice_get text from b b e)
+pub next_byte : {text : Text} {from : ℕ} (b : ℕ) {c : Cursor} → slice_get text from ≡ Some b → IsAt text from c → left c ≡ b ∷ drop (from + 1) text
+next_byte {text} {from} b {c} e h =
+    left_at h ∙ drop_more text from b (slice_get_within text from b e) ∙ ap (λ x. x ∷ drop (from + 1) text) (get_or_from_slice_get text from b b e)
 
 -- the reported place is that of the cursor
-pub up_to : (text : Text) (from place : ℕ) (c : Cursor) (e : Expression) → c.text.now ≡ text → place ≡ c.at → IsBracket (drop from text) (left c) e → IsBracketUpTo text from place e
-up_to text from place c e f g h = record { within = rw g (rw f at c.in_text); stands = rw g (rw f at h) }
+pub up_to : {text : Text} {from place : ℕ} (c : Cursor) {e : Expression} → c.text.now ≡ text → place ≡ c.at → IsBracket (drop from text) (left c) e → IsBracketUpTo text from place e
+up_to c f g h = record { within = rw g (rw f at c.in_text); stands = rw g (rw f at h) }

@@ -14,8 +14,8 @@ pub tails : {a b : ℕ} {t u : Text} → a ∷ t ≡ b ∷ u → t ≡ u
 tails e = cc
 
 -- two numbers that a test finds different are not equal
-pub apart : (x y : ℕ) → x ≡ y → nat_eq x y ≡ false → ⊥
-apart x y e h = let f : nat_eq x y ≡ true = eq-eqb x y e in cc
+pub apart : {x y : ℕ} → x ≡ y → nat_eq x y ≡ false → ⊥
+apart {x} {y} e h = let f : nat_eq x y ≡ true = eq-eqb x y e in cc
 
 -- two points have one value and one rest
 pub record SamePoint (a b : ℕ) (u v : Text) : Type 0 where
@@ -80,12 +80,12 @@ element-unique (span {a = a} {b = b} x start y open' le) (span {a = c} {b = d} z
     let one = point-unique x z e in
     let two = point-unique y w (tails one.rests) in
     record { bytes = ap (λ k. range k b) one.values ∙ ap (λ k. range c k) two.values; places = refl; rests = two.rests }
-element-unique x y e = absurd (apart (element_kind x).0 (element_kind y).0 (sym (element_kind x).1 ∙ ap kind_of e ∙ (element_kind y).1) refl)
+element-unique x y e = absurd (apart (sym (element_kind x).1 ∙ ap kind_of e ∙ (element_kind y).1) refl)
 
 -- the bracket that closes a list is no element
 pub element-not_closing : {p q : ListPlace} {t u w : Text} {a : Bytes} → p ≢ First → Element p t u a q → t ≡ 93 ∷ w → ⊥
-element-not_closing n (class c) e = apart 91 93 (heads e) refl
-element-not_closing n (equivalence b) e = apart 91 93 (heads e) refl
+element-not_closing n (class c) e = apart (heads e) refl
+element-not_closing n (equivalence b) e = apart (heads e) refl
 element-not_closing n (alone x may) e = n (may.bracket (_, e))
 element-not_closing n (span x start y open' le) e = n (start (inl (_, e)))
 

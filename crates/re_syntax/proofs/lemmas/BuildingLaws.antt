@@ -11,11 +11,11 @@ use Rattle.re_syntax.specs.Working.Mirrors.{Mirrors}
 use Rattle.re_syntax.proofs.lemmas.Mirrored.{partner, none_mirrors}
 
 -- a group is left
-pub left_means : (old new : Building) (last : TreeFrame) (tree : Tree) → old.outer.items ≡ new.outer.items ++ last ∷ [] → ((l : Frame) → FrameMeans old.level l → expression_of tree ≡ choice (branches_of l)) →
+pub left_means : {old new : Building} (last : TreeFrame) (tree : Tree) → old.outer.items ≡ new.outer.items ++ last ∷ [] → ((l : Frame) → FrameMeans old.level l → expression_of tree ≡ choice (branches_of l)) →
     ((l : Frame) → FrameMeans last l → FrameMeans new.level (with_item (expression_of tree) l)) → BuildsOn closing old new
-left_means old new last tree e h k = record {
+left_means {new} last tree e h k = record {
   on = λ b m.
-      let around = partner last m.outer e in
+      let around = partner m.outer e in
       let level = subst (λ x. FrameMeans new.level (with_item x around.first)) (h b.level m.level) (k around.first around.is) in
       subst (λ os. Builds new (left_group b.level os)) (sym around.are) (record { level = level; outer = around.mirrors });
 }
@@ -33,17 +33,17 @@ map-snoc [] t = refl
 map-snoc (x ∷ ts) t = ap (λ xs. expression_of x ∷ xs) (map-snoc ts t)
 
 -- the last item was repeated
-pub repeated_trees : (old rest new : List Tree) (last : Tree) (x : Expression) (least : ℕ) (most : Option ℕ) → old ≡ rest ++ last ∷ [] → x ≡ repeat (expression_of last) least most →
+pub repeated_trees : {old : List Tree} (rest new : List Tree) (last : Tree) {x : Expression} (least : ℕ) (most : Option ℕ) → old ≡ rest ++ last ∷ [] → x ≡ repeat (expression_of last) least most →
     map expression_of new ≡ map expression_of rest ++ x ∷ [] → map expression_of new ≡ repeat_last least most (map expression_of old)
-repeated_trees old rest new last x least most e f h =
+repeated_trees rest new last least most e f h =
     h ∙ ap (λ y. map expression_of rest ++ y ∷ []) f ∙ sym (repeat-snoc least most (map expression_of rest) (expression_of last)) ∙ ap (repeat_last least most) (sym (map-snoc rest last) ∙ ap (map expression_of) (sym e))
 
 -- one token more was built
-pub builds_more : (done : List Token) (k : Token) (old new : Building) → Builds old (build_all done nothing_built) → BuildsOn k old new → Builds new (build_all (done ++ k ∷ []) nothing_built)
-builds_more done k old new m on =
+pub builds_more : (done : List Token) {k : Token} {old new : Building} → Builds old (build_all done nothing_built) → BuildsOn k old new → Builds new (build_all (done ++ k ∷ []) nothing_built)
+builds_more done {k} {new} m on =
     subst (Builds new) (sym (build-append done (k ∷ []) nothing_built ∙ build-one k (build_all done nothing_built))) (on.on (build_all done nothing_built) m)
 
 -- the text spells what was built of its cut
-pub built_spelled : (syntax : Syntax) (text : Text) (done : List Token) → IsCut syntax text done → IsSpelled syntax text (choice (branches_of (build_all done nothing_built).level))
-built_spelled syntax text done cut =
-    adds_none syntax text _ (record { tokens = done; cut = cut; branches = branches_of (build_all done nothing_built).level; read = cut_branches syntax text done cut; whole = refl })
+pub built_spelled : {syntax : Syntax} {text : Text} {done : List Token} → IsCut syntax text done → IsSpelled syntax text (choice (branches_of (build_all done nothing_built).level))
+built_spelled {syntax} {text} {done} cut =
+    adds_none syntax (record { tokens = done; cut = cut; branches = branches_of (build_all done nothing_built).level; read = cut_branches cut; whole = refl })

@@ -55,7 +55,7 @@ mutual
   item-built : {ks : List Token} {e : Expression} → Item ks e → (b : Built) → build_all ks b ≡ plus (e ∷ []) b
   item-built (single e) b = build-one (atom e) b
   item-built (group {ks} {es} bs) b =
-      let inside = branches-built bs [] (b.level ∷ b.outer) in
+      let inside = branches-built bs in
       build-more opening (ks ++ closing ∷ []) b ∙ build-append ks (closing ∷ []) (build opening b) ∙ ap (build_all (closing ∷ [])) inside.is
       ∙ build-one closing (record { level = inside.level; outer = b.level ∷ b.outer })
       ∙ ap (λ xs. record { level = with_item (choice xs) b.level; outer = b.outer }) inside.are
@@ -63,10 +63,10 @@ mutual
       build-append ks (times least most ∷ []) b ∙ ap (build_all (times least most ∷ [])) (item-built i b) ∙ build-one (times least most) (plus (e ∷ []) b)
       ∙ ap (built_of b.level.branches b.outer) (repeat-snoc least most b.level.items e)
 
-  branches-built : {ks : List Token} {es : List Expression} → Branches ks es → (bs : List Expression) (outer : List Frame) → IsLevel bs outer ks es
-  branches-built (last {es = es} is) bs outer = record { level = record { branches = bs; items = es }; is = items-built is (built_of bs outer []); are = refl }
-  branches-built (more {ks} {ls} {es} {fs} is rest) bs outer =
-      let others = branches-built rest (bs ++ sequence es ∷ []) outer in
+  branches-built : {ks : List Token} {es : List Expression} → Branches ks es → {bs : List Expression} {outer : List Frame} → IsLevel bs outer ks es
+  branches-built (last {es = es} is) {bs} {outer} = record { level = record { branches = bs; items = es }; is = items-built is (built_of bs outer []); are = refl }
+  branches-built (more {ks} {ls} {es} {fs} is rest) {bs} {outer} =
+      let others = branches-built rest in
       record {
         level = others.level;
         is = build-append ks (bar ∷ ls) (built_of bs outer []) ∙ ap (build_all (bar ∷ ls)) (items-built is (built_of bs outer [])) ∙ build-more bar ls (built_of bs outer es) ∙ others.is;
@@ -75,8 +75,8 @@ mutual
 
 branches-unique : {ks : List Token} {ds es : List Expression} → Branches ks ds → Branches ks es → ds ≡ es
 branches-unique x y =
-    let p = branches-built x [] [] in
-    let q = branches-built y [] [] in
+    let p = branches-built x {bs = []} {outer = []} in
+    let q = branches-built y in
     sym p.are ∙ ap (λ b. branches_of b.level) (sym p.is ∙ q.is) ∙ q.are
 
 -- Each whole cut has a meaning: what the rest of its tokens mean at a place.
@@ -115,17 +115,17 @@ more_first : (n : ℕ) (ms : List Token) (p q : ItemPlace) (ks : List Token) →
 more_first zero ms p q ks f m = f ks m
 more_first (suc n) ms p q ks f (inside, others, e, m, rest) = (ms ++ inside, others, ap (λ ks. ms ++ ks) e ∙ sym (append_assoc ms inside (closing ∷ others)), f inside m, rest)
 
-item_in : (n : ℕ) (ms : List Token) (p : ItemPlace) {e : Expression} (ks : List Token) → Item ms e → MeansIn n Later ks → MeansIn n p (ms ++ ks)
-item_in n ms p {e} ks i = more_first n ms Later p ks (λ ls m. means_at p (m ms e i))
+item_in : (n : ℕ) {ms : List Token} (p : ItemPlace) {e : Expression} (ks : List Token) → Item ms e → MeansIn n Later ks → MeansIn n p (ms ++ ks)
+item_in n {ms} p {e} ks i = more_first n ms Later p ks (λ ls m. means_at p (m ms e i))
 
-times_in : (n : ℕ) (p : ItemPlace) (least : ℕ) (most : Option ℕ) (ks : List Token) → p ≡ Later → MeansIn n Later ks → MeansIn n p (times least most ∷ ks)
-times_in n p least most ks q m =
+times_in : (n : ℕ) {p : ItemPlace} (least : ℕ) (most : Option ℕ) (ks : List Token) → p ≡ Later → MeansIn n Later ks → MeansIn n p (times least most ∷ ks)
+times_in n least most ks q m =
     subst (λ r. MeansIn n r (times least most ∷ ks)) (sym q)
     (more_first n (times least most ∷ []) Later Later ks (λ ms f ls e i. subst Means (append_assoc ls (times least most ∷ []) ms) (f (ls ++ times least most ∷ []) (repeat e least most) (repeated least most i))) m)
 
-opening_in : (n : ℕ) (p : ItemPlace) (ks : List Token) → MeansIn (suc n) First ks → MeansIn n p (opening ∷ ks)
-opening_in n p ks (inside, others, e, m, rest) =
-    subst (λ ls. MeansIn n p (opening ∷ ls)) (append_assoc inside (closing ∷ []) others ∙ sym e) (item_in n (opening ∷ inside ++ closing ∷ []) p others (group m.read) rest)
+opening_in : (n : ℕ) (p : ItemPlace) {ks : List Token} → MeansIn (suc n) First ks → MeansIn n p (opening ∷ ks)
+opening_in n p (inside, others, e, m, rest) =
+    subst (λ ls. MeansIn n p (opening ∷ ls)) (append_assoc inside (closing ∷ []) others ∙ sym e) (item_in n p others (group m.read) rest)
 
 closing_in : (os : List Around) (c : Context) (p : ItemPlace) (h : ℕ) (ks : List Token) → is_group os ≡ true → MeansIn (length (closed_group h os c).around) (closed_group h os c).place ks → MeansIn (length os) p (closing ∷ ks)
 closing_in [] c p h ks e m = absurd (cc)
@@ -143,12 +143,12 @@ pub record IsPlaced (syntax : Syntax) : Type 0 where
 module _ {syntax : Syntax} (placed : IsPlaced syntax) where
   cut_means : {c : Context} {t : Text} {ks : List Token} → Cut syntax c t ks → MeansIn (length c.around) c.place ks
   cut_means {c} (whole e) = end_in c.around c.place e
-  cut_means {c} (next {k = opening} x n y) = opening_in (length c.around) c.place _ (cut_means y)
+  cut_means {c} (next {k = opening} x n y) = opening_in (length c.around) c.place (cut_means y)
   cut_means {c} (next {k = closing} x n y) = closing_in c.around c c.place (suc c.height) _ (placed.in_group _ _ _ _ x) (cut_means y)
   cut_means {c} (next {k = bar} x n y) = more_first (length c.around) (bar ∷ []) First c.place _ (λ ls m. means_at c.place (record { branches = _; read = more none m.read })) (cut_means y)
   cut_means {c} (next {k = lead} x n y) = more_first (length c.around) (lead ∷ []) AfterAnchor c.place _ (λ ls m. means_at c.place (anchor_first m.read)) (cut_means y)
-  cut_means {c} (next {k = atom e} x n y) = item_in (length c.around) (atom e ∷ []) c.place _ (single e) (cut_means y)
-  cut_means {c} (next {k = times least most} x n y) = times_in (length c.around) c.place least most _ (placed.after_item _ _ _ _ _ _ x) (cut_means y)
+  cut_means {c} (next {k = atom e} x n y) = item_in (length c.around) c.place _ (single e) (cut_means y)
+  cut_means {c} (next {k = times least most} x n y) = times_in (length c.around) least most _ (placed.after_item _ _ _ _ _ _ x) (cut_means y)
 
   -- a text that is cut spells an expression
   pub cut_spells : {text : Text} {ks : List Token} → IsCut syntax text ks → (e : Expression) × Spells syntax text e
@@ -160,7 +160,7 @@ module _ {syntax : Syntax} (placed : IsPlaced syntax) where
   pub cut_built : {text : Text} {ks : List Token} → IsCut syntax text ks → Branches ks (branches_of (build_all ks nothing_built).level)
   cut_built {ks = ks} x =
       let means = cut_means x in
-      let built = branches-built means.read [] [] in
+      let built = branches-built means.read in
       subst (Branches ks) (sym (ap (λ b. branches_of b.level) built.is ∙ built.are)) means.read
 
 -- the same tokens mean one expression

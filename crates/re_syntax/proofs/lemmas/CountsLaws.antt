@@ -8,21 +8,21 @@ pub record AreCounts (a l : ℕ) (x m : Option ℕ) : Type 0 where
   pub most : x ≡ m
 
 -- counts that are allowed are below the cap, so they are the numbers themselves
-pub are_counts : (a l : ℕ) (x m : Option ℕ) → a ≡ capped l → x ≡ option_map capped m → IsAllowed a x → AreCounts a l x m
-are_counts a l None None e f h = record { least = omega (arith, h.least_fits); most = refl }
-are_counts a l None (Some n) e f h = cc
-are_counts a l (Some k) None e f h = cc
-are_counts a l (Some k) (Some n) e f h =
+pub are_counts : {a l : ℕ} (x m : Option ℕ) → a ≡ capped l → x ≡ option_map capped m → IsAllowed a x → AreCounts a l x m
+are_counts None None e f h = record { least = omega (arith, h.least_fits); most = refl }
+are_counts None (Some n) e f h = cc
+are_counts (Some k) None e f h = cc
+are_counts (Some k) (Some n) e f h =
     let same : k ≡ capped n = cc in
     record { least = omega (arith, h.least_fits); most = ap Some (omega (arith, h.most_fits)) }
 
 -- numbers whose capped counts are refused are refused
-pub disallowed_too : {kind : FaultKind} {a : ℕ} {x : Option ℕ} → IsDisallowed kind a x → (l : ℕ) (m : Option ℕ) → a ≡ capped l → x ≡ option_map capped m → IsDisallowed kind l m
-disallowed_too (least_too_large h) l m e f = least_too_large (omega arith)
-disallowed_too (most_too_large h) l None e f = cc
-disallowed_too (most_too_large {top = k} h) l (Some n) e f = let same : k ≡ capped n = cc in most_too_large (omega arith)
-disallowed_too (descending h small) l None e f = cc
-disallowed_too (descending {top = k} h small) l (Some n) e f = let same : k ≡ capped n = cc in descending (omega arith) (omega arith)
+pub disallowed_too : {kind : FaultKind} {a : ℕ} {x : Option ℕ} → IsDisallowed kind a x → {l : ℕ} (m : Option ℕ) → a ≡ capped l → x ≡ option_map capped m → IsDisallowed kind l m
+disallowed_too (least_too_large h) m e f = least_too_large (omega arith)
+disallowed_too (most_too_large h) None e f = cc
+disallowed_too (most_too_large {top = k} h) (Some n) e f = let same : k ≡ capped n = cc in most_too_large (omega arith)
+disallowed_too (descending h small) None e f = cc
+disallowed_too (descending {top = k} h small) (Some n) e f = let same : k ≡ capped n = cc in descending (omega arith) (omega arith)
 
 -- counts that are refused are not allowed
 pub not_allowed : {kind : FaultKind} {least : ℕ} {most : Option ℕ} → IsDisallowed kind least most → IsAllowed least most → ⊥

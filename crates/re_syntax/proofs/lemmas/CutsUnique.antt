@@ -31,8 +31,8 @@ same_next : {k l : Token} {ks ls : List Token} → k ≡ l → ks ≡ ls → ◌
 same_next p q = cc
 
 -- two places of a text with one rest are one
-same_place : (text : Text) (a b : ℕ) → a ≤ length text → b ≤ length text → drop a text ≡ drop b text → a ≡ b
-same_place text a b h k e = omega (arith, simp length-drop at (ap length e))
+same_place : (text : Text) {a b : ℕ} → a ≤ length text → b ≤ length text → drop a text ≡ drop b text → a ≡ b
+same_place text h k e = omega (arith, simp length-drop at (ap length e))
 
 fault_of : FaultKind → ℕ → PatternFault
 fault_of kind at = record { kind = kind; at = at }
@@ -82,7 +82,7 @@ module _ {syntax : Syntax} (exact : IsExact syntax) where
       let same = exact.token _ _ _ _ _ _ _ x z in
       fault-no_cut y (subst (λ s. Cut syntax (after t j c) s ks) (sym same.rests) (subst (λ k. Cut syntax (after t k c) r ks) (sym same.tokens) b))
 
-  pub faults-unique : (text : Text) (f g : PatternFault) → IsFirstFault syntax text f → IsFirstFault syntax text g → f ≡ g
-  faults-unique text f g x y =
+  pub faults-unique : {text : Text} {f g : PatternFault} → IsFirstFault syntax text f → IsFirstFault syntax text g → f ≡ g
+  faults-unique {text} {f} {g} x y =
       let same = fault-unique x.is_fault y.is_fault in
-      same_faults f g same.kinds (same_place text f.at g.at x.within y.within same.places)
+      same_faults f g same.kinds (same_place text x.within y.within same.places)

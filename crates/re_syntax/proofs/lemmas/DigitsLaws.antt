@@ -35,8 +35,8 @@ pub value_after-take : (n : ℕ) (t : Text) (i : ℕ) → i < length t → value
 value_after-take n t i h = ap (value_after n) (take_more t i 0 h) ∙ value_after-snoc n (take i t) (get_or t i 0)
 
 -- the capped value is enough to go on with
-pub capped-step : (v w d : ℕ) → v ≡ capped w → min (10 * v + d) 256 ≡ capped (10 * w + d)
-capped-step v w d h = omega arith
+pub capped-step : {v : ℕ} (w d : ℕ) → v ≡ capped w → min (10 * v + d) 256 ≡ capped (10 * w + d)
+capped-step w d h = omega arith
 
 -- where the first byte is no digit, no digit comes first
 pub no_digit : (b : ℕ) (t : Text) → (IsTrue (in_class Digit b) → ⊥) → HasNoDigit (b ∷ t)

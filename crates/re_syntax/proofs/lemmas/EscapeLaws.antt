@@ -7,10 +7,10 @@ use Rattle.re_syntax.proofs.lemmas.CutsUnique.{SameFault}
 use Rattle.re_syntax.proofs.lemmas.Places.{byte_at, beyond_first}
 
 -- a backslash and a byte
-pub escape_stands : (others text : Text) (at b : ℕ) → Begins (codes "\\") (drop at text) → slice_get text (at + 1) ≡ Some b → ¬ IsTrue (is_undefined others b) →
+pub escape_stands : {others text : Text} {at b : ℕ} → Begins (codes "\\") (drop at text) → slice_get text (at + 1) ≡ Some b → ¬ IsTrue (is_undefined others b) →
     EscapeStands others text at b
-escape_stands others text at b (rest, e) f h =
-    let next : rest ≡ b ∷ drop (at + 1 + 1) text = beyond_first text at 92 rest e ∙ byte_at text (at + 1) b f in
+escape_stands {text} {at} {b} (rest, e) f h =
+    let next : rest ≡ b ∷ drop (at + 1 + 1) text = beyond_first text at 92 e ∙ byte_at text (at + 1) b f in
     let there : at + 1 + 1 ≡ at + 2 = omega arith in
     record {
       within = let k = slice_get_within text (at + 1) b f in omega arith;
@@ -30,16 +30,16 @@ place_within : (text : Text) (at : ℕ) → Begins (codes "\\") (drop at text) �
 place_within text at (rest, e) = omega (arith, simp length-drop at (ap length e))
 
 -- a backslash and a byte that is refused
-pub refused_escape : (others text : Text) (at b : ℕ) (kind : FaultKind) → Begins (codes "\\") (drop at text) → slice_get text (at + 1) ≡ Some b →
+pub refused_escape : (others : Text) {text : Text} (at b : ℕ) (kind : FaultKind) → Begins (codes "\\") (drop at text) → slice_get text (at + 1) ≡ Some b →
     ((u : Text) → EscapeFault others (92 ∷ b ∷ u) kind (92 ∷ b ∷ u)) → IsAt (EscapeFault others (drop at text)) text (record { kind = kind; at = at })
-refused_escape others text at b kind (rest, e) f x =
-    let next : rest ≡ b ∷ drop (at + 1 + 1) text = beyond_first text at 92 rest e ∙ byte_at text (at + 1) b f in
+refused_escape others {text} at b kind (rest, e) f x =
+    let next : rest ≡ b ∷ drop (at + 1 + 1) text = beyond_first text at 92 e ∙ byte_at text (at + 1) b f in
     record { within = place_within text at (rest, e); is_fault = subst (λ t. EscapeFault others t kind t) (sym (e ∙ ap (λ x. 92 ∷ x) next)) (x (drop (at + 1 + 1) text)) }
 
 -- a backslash that is last
-pub trailing_backslash : (others text : Text) (at : ℕ) → Begins (codes "\\") (drop at text) → length text ≤ at + 1 →
+pub trailing_backslash : (others : Text) {text : Text} (at : ℕ) → Begins (codes "\\") (drop at text) → length text ≤ at + 1 →
     IsAt (EscapeFault others (drop at text)) text (record { kind = TrailingBackslash; at = at })
-trailing_backslash others text at (rest, e) h =
+trailing_backslash others {text} at (rest, e) h =
     let nothing : rest ≡ [] = nil_from_length rest (omega (arith, simp length-drop at (ap length e))) in
     record { within = place_within text at (rest, e); is_fault = subst (λ t. EscapeFault others t TrailingBackslash t) (sym (e ∙ ap (λ x. 92 ∷ x) nothing)) trailing }
 

@@ -12,16 +12,16 @@ begins_with_comma [] = false
 begins_with_comma (b ∷ t) = nat_eq b 44
 
 -- neither a digit nor a comma follows the brace
-pub not_number_first : (t : Text) → begins_with_digit t ≡ false → begins_with_comma t ≡ false → HasNoInterval (codes "}") t
-not_number_first t h k =
-    none_without_number (codes "}") t (λ b u e d. let f : begins_with_digit (b ∷ u) ≡ false = rw e at h in cc)
+pub not_number_first : {t : Text} → begins_with_digit t ≡ false → begins_with_comma t ≡ false → HasNoInterval (codes "}") t
+not_number_first {t} h k =
+    none_without_number {close = (codes "}")} t (λ b u e d. let f : begins_with_digit (b ∷ u) ≡ false = rw e at h in cc)
     (λ c. let f : begins_with_comma (44 ∷ c.0) ≡ false = rw c.1 at k in cc)
 
 -- a comma follows the brace, and no digit follows the comma
 pub no_number_after : (t : Text) → begins_with_digit t ≡ false → HasNoInterval (codes "}") (44 ∷ t)
 no_number_after t h =
-    none_after_first (codes "}") (44 ∷ t) t refl (no_greatest (codes "}") t (λ b u e d. let f : begins_with_digit (b ∷ u) ≡ false = rw e at h in cc))
+    none_after_first refl (no_greatest (λ b u e d. let f : begins_with_digit (b ∷ u) ≡ false = rw e at h in cc))
 
 -- no brace closes what follows it
-pub no_closing : (t : Text) → lacks 125 t ≡ true → HasNoInterval (codes "}") t
-no_closing t h = record { none = λ u least most it. lacks-cut 125 t it.inside u h it.whole }
+pub no_closing : {t : Text} → lacks 125 t ≡ true → HasNoInterval (codes "}") t
+no_closing {t} h = record { none = λ u least most it. lacks-cut 125 t it.inside u h it.whole }

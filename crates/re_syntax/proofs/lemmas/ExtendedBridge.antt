@@ -1,7 +1,7 @@
 -- Extended expressions are spelled by their tokens.
 use Rattle.re_syntax.proofs.Prelude.{◌≡◌, ℕ, Bool, true, List, ◌++◌, codes, refl, Text, Expression, Extended, IsSpelled, as_extended, dollar}
 use Rattle.re_syntax.specs.declared.tokens.ItemPlace.{ItemPlace}
-use Rattle.re_syntax.specs.declared.tokens.ItemPlace.TheVariants.{First, Later}
+use Rattle.re_syntax.specs.declared.tokens.ItemPlace.TheVariants.{Later}
 use Rattle.re_syntax.specs.Extended.{Duplication, Branches, last, more, Items, none, anchor, item, Item, atom, repeated, Atom, bracket, period, escaped, ordinary, group}
 use Rattle.re_syntax.specs.Tokens.{Token, opening, closing, bar, lead, times}
 use Rattle.re_syntax.specs.ExtendedTokens.{ExtendedToken, opens, closes, parts, leads, repeats}
@@ -58,14 +58,14 @@ mutual
   item_reads (atom (group bs)) p = group_item opens (branches_read bs) (λ q. closes)
   item_reads (repeated i d) p = repeated_item (item_reads i p) (repeats d)
 
-  items_read : {g : Bool} {h : ℕ} {t u : Text} {es : List Expression} → Items g h t u es → (p : ItemPlace) → ItemsRead Extended g p h t u es
-  items_read none p = no_items
-  items_read (anchor is) p = anchor_items leads (items_read is _)
-  items_read (item i is) p = more_items (item_reads i p) (items_read is Later)
+  items_read : {g : Bool} {h : ℕ} {t u : Text} {es : List Expression} → Items g h t u es → {p : ItemPlace} → ItemsRead Extended g p h t u es
+  items_read none = no_items
+  items_read (anchor is) = anchor_items leads (items_read is)
+  items_read (item i is) {p} = more_items (item_reads i p) (items_read is)
 
   branches_read : {g : Bool} {h : ℕ} {t u : Text} {es : List Expression} → Branches g h t u es → BranchesRead Extended g h t u es
-  branches_read (last is) = last_branch (items_read is First)
-  branches_read (more is bs) = more_branches (items_read is First) (λ q. parts) (branches_read bs)
+  branches_read (last is) = last_branch (items_read is)
+  branches_read (more is bs) = more_branches (items_read is) (λ q. parts) (branches_read bs)
 
 pub extended_spells : {t : Text} {e : Expression} → IsSpelled Extended t e → Spells Extended t e
 extended_spells (as_extended bs h) = spells (branches_read bs) h

@@ -57,16 +57,16 @@ pub none_without_interval : {text : Text} {at inside : ℕ} → IsAfter (codes "
 none_without_interval {text} {at} s h o = go o refl
   where
     go : {t : Text} → OpensDuplication t → t ≡ drop at text → ⊥
-    go opens_star f = apart 42 123 (heads (f ∙ s.front)) refl
-    go opens_plus f = apart 43 123 (heads (f ∙ s.front)) refl
-    go opens_question f = apart 63 123 (heads (f ∙ s.front)) refl
+    go opens_star f = apart (heads (f ∙ s.front)) refl
+    go opens_plus f = apart (heads (f ∙ s.front)) refl
+    go opens_question f = apart (heads (f ∙ s.front)) refl
     go (opens_interval c) f = no_closed h c (tails (f ∙ s.front))
 
 -- whether a duplication was found
-pub found_opens : (text : Text) (at : ℕ) (found : Option (Counts × ℕ)) (b : Bool) → b ≡ is_some found →
+pub found_opens : (text : Text) (at : ℕ) (found : Option (Counts × ℕ)) {b : Bool} → b ≡ is_some found →
     MatchOption found (¬ OpensDuplication (drop at text)) (λ d. HasOne Duplication text at d.0 d.1) → MatchBool b (OpensDuplication (drop at text)) (¬ OpensDuplication (drop at text))
-found_opens text at None b e h = rw e h
-found_opens text at (Some d) b e h = rw (e, h.front) (dup_opens h.duplication (drop d.1 text))
+found_opens text at None e h = rw e h
+found_opens text at (Some d) e h = rw (e, h.front) (dup_opens h.duplication (drop d.1 text))
 
 -- Single bytes.
 
@@ -91,8 +91,8 @@ stands_for_itself g b u m k d l o w bar caret close =
     sign c opens e = m (subst (λ x. OpensDuplication (x ∷ u)) e opens)
 
 -- the token of a byte that begins no other
-pub single : (g : Bool) (p : ItemPlace) (b : ℕ) (u : Text) → ¬ OpensDuplication (b ∷ u) → b ≢ 91 → b ≢ 92 → b ≢ 40 → b ≢ 36 → b ≢ 124 → b ≢ 94 → ExtendedToken g p (b ∷ u) u (byte_token g b)
-single g p b u m k l o w bar caret = go g (cases_eq b 41) (cases_eq b 46)
+pub single : {g : Bool} {p : ItemPlace} (b : ℕ) {u : Text} → ¬ OpensDuplication (b ∷ u) → b ≢ 91 → b ≢ 92 → b ≢ 40 → b ≢ 36 → b ≢ 124 → b ≢ 94 → ExtendedToken g p (b ∷ u) u (byte_token g b)
+single {g} {p} b {u} m k l o w bar caret = go g (cases_eq b 41) (cases_eq b 46)
   where
     no_interval : b ≡ 123 → HasNoInterval (codes "}") u
     no_interval e = record { none = λ v least most c. m (subst (λ x. OpensDuplication (x ∷ u)) (sym e) (opens_interval c)) }

@@ -65,7 +65,7 @@ ordinary-only {g} leads e h n = absurd (never g h refl e)
 ordinary-only {g} (repeats star) e h n = absurd (never g h refl e)
 ordinary-only {g} (repeats plus) e h n = absurd (never g h refl e)
 ordinary-only {g} (repeats question) e h n = absurd (never g h refl e)
-ordinary-only (repeats {u = u} (interval form allowed)) e h n = absurd (no_closed (n (sym (heads e))) (closed_by (codes "}") u form) (tails e))
+ordinary-only (repeats {u = u} (interval form allowed)) e h n = absurd (no_closed (n (sym (heads e))) (closed_by {close = (codes "}")} u form) (tails e))
 ordinary-only {g} (bracket x) e h n = absurd (never g h refl (sym (bracket_front x).1 ∙ e))
 ordinary-only {g} period e h n = absurd (never g h refl e)
 ordinary-only {g} dollar e h n = absurd (never g h refl e)
@@ -92,14 +92,14 @@ dup_first plus u = (43, refl)
 dup_first question u = (63, refl)
 dup_first (interval form allowed) u = (123, refl)
 
-dup-unique : {c d : Text} {a b : ℕ} {x y : Option ℕ} → Duplication c a x → Duplication d b y → (u v : Text) → c ++ u ≡ d ++ v → SameToken (times a x) (times b y) u v
-dup-unique star star u v e = record { tokens = refl; rests = tails e }
-dup-unique plus plus u v e = record { tokens = refl; rests = tails e }
-dup-unique question question u v e = record { tokens = refl; rests = tails e }
-dup-unique (interval form i) (interval other j) u v e =
-    let same = closed-unique 125 [] refl refl (closed_by (codes "}") u form) (closed_by (codes "}") v other) (tails e) in
+dup-unique : {c d : Text} {a b : ℕ} {x y : Option ℕ} → Duplication c a x → Duplication d b y → {u v : Text} → c ++ u ≡ d ++ v → SameToken (times a x) (times b y) u v
+dup-unique star star e = record { tokens = refl; rests = tails e }
+dup-unique plus plus e = record { tokens = refl; rests = tails e }
+dup-unique question question e = record { tokens = refl; rests = tails e }
+dup-unique (interval form i) (interval other j) {u} {v} e =
+    let same = closed-unique 125 [] refl refl (closed_by u form) (closed_by v other) (tails e) in
     record { tokens = same_times same.least same.most; rests = same.rests }
-dup-unique x y u v e = absurd (apart (dup_first x u).0 (dup_first y v).0 (sym (dup_first x u).1 ∙ ap first_byte e ∙ (dup_first y v).1) refl)
+dup-unique x y {u} {v} e = absurd (apart (sym (dup_first x u).1 ∙ ap first_byte e ∙ (dup_first y v).1) refl)
 
 token-unique : {g : Bool} {p : ItemPlace} {t s u v : Text} {j k : Token} → ExtendedToken g p t u j → ExtendedToken g p s v k → t ≡ s → SameToken j k u v
 token-unique (ordinary b h n) y e = swapped (ordinary-only y (sym e) h n)
@@ -108,12 +108,12 @@ token-unique opens opens e = record { tokens = refl; rests = tails e }
 token-unique closes closes e = record { tokens = refl; rests = tails e }
 token-unique parts parts e = record { tokens = refl; rests = tails e }
 token-unique leads leads e = record { tokens = refl; rests = tails e }
-token-unique (repeats {u = u} d) (repeats {u = v} c) e = dup-unique d c u v e
+token-unique (repeats {u = u} d) (repeats {u = v} c) e = dup-unique d c e
 token-unique (bracket h) (bracket k) e = let same = IsBracket-unique h k e in record { tokens = ap atom same.expressions; rests = same.rests }
 token-unique period period e = record { tokens = refl; rests = tails e }
 token-unique dollar dollar e = record { tokens = refl; rests = tails e }
 token-unique (escaped b h) (escaped c k) e = record { tokens = ap (λ x. atom (byte x)) (heads (tails e)); rests = tails (tails e) }
-token-unique x y e = absurd (apart (token_kind x).0 (token_kind y).0 (sym (token_kind x).1 ∙ ap kind_of e ∙ (token_kind y).1) refl)
+token-unique x y e = absurd (apart (sym (token_kind x).1 ∙ ap kind_of e ∙ (token_kind y).1) refl)
 
 fault-unique : {p : ItemPlace} {t s u v : Text} {j k : FaultKind} → ExtendedTokenFault p t j u → ExtendedTokenFault p s k v → t ≡ s → SameFault j k u v
 fault-unique (in_bracket x) (in_bracket y) e = bracket_fault-unique x y e
@@ -123,27 +123,27 @@ fault-unique (needs_item n o) (disallowed c d) e = absurd (n refl)
 fault-unique (disallowed c d) (needs_item n o) e = absurd (n refl)
 fault-unique (disallowed c d) (disallowed a b) e =
     let same = closed-unique 125 [] refl refl c a (tails e) in record { kinds = disallowed-unique d b same.least same.most; places = e }
-fault-unique x y e = absurd (apart (fault_kind x).0 (fault_kind y).0 (sym (fault_kind x).1 ∙ ap kind_of e ∙ (fault_kind y).1) refl)
+fault-unique x y e = absurd (apart (sym (fault_kind x).1 ∙ ap kind_of e ∙ (fault_kind y).1) refl)
 
 fault-no_token : {g : Bool} {p : ItemPlace} {t s u v : Text} {k : Token} {j : FaultKind} → ExtendedTokenFault p s j v → ExtendedToken g p t u k → s ≡ t → ⊥
 fault-no_token (needs_item n o) (repeats d) e = n refl
 fault-no_token {g} y (ordinary b h n) e = ordinary-no_fault g y e h n
-fault-no_token (disallowed c r) (repeats star) e = apart 123 42 (heads e) refl
-fault-no_token (disallowed c r) (repeats plus) e = apart 123 43 (heads e) refl
-fault-no_token (disallowed c r) (repeats question) e = apart 123 63 (heads e) refl
+fault-no_token (disallowed c r) (repeats star) e = apart (heads e) refl
+fault-no_token (disallowed c r) (repeats plus) e = apart (heads e) refl
+fault-no_token (disallowed c r) (repeats question) e = apart (heads e) refl
 fault-no_token (disallowed c r) (repeats {u = u} (interval form allowed)) e =
-    let same = closed-unique 125 [] refl refl (closed_by (codes "}") u form) c (sym (tails e)) in never_allowed same.least same.most allowed r
+    let same = closed-unique 125 [] refl refl (closed_by u form) c (sym (tails e)) in never_allowed same.least same.most allowed r
 fault-no_token (in_bracket f) (bracket h) e = bracket-no_fault h f (sym e)
 fault-no_token (in_escape f) (escaped b h) e = h (escape-no_fault f e)
-fault-no_token y x e = absurd (apart (fault_kind y).0 (token_kind x).0 (sym (fault_kind y).1 ∙ ap kind_of e ∙ (token_kind x).1) refl)
+fault-no_token y x e = absurd (apart (sym (fault_kind y).1 ∙ ap kind_of e ∙ (token_kind x).1) refl)
 
 token_not_end : {g : Bool} {p : ItemPlace} {t u : Text} {k : Token} → ExtendedToken g p t u k → t ≢ []
 token_not_end (ordinary b h n) e = cc
-token_not_end x e = absurd (apart (token_kind x).0 256 (sym (token_kind x).1 ∙ ap kind_of e) refl)
+token_not_end x e = absurd (apart (sym (token_kind x).1 ∙ ap kind_of e) refl)
 
 fault_not_end : {p : ItemPlace} {t v : Text} {j : FaultKind} → ExtendedTokenFault p t j v → t ≢ []
 fault_not_end (in_escape trailing) e = cc
-fault_not_end x e = absurd (apart (fault_kind x).0 256 (sym (fault_kind x).1 ∙ ap kind_of e) refl)
+fault_not_end x e = absurd (apart (sym (fault_kind x).1 ∙ ap kind_of e) refl)
 
 pub extended_exact : IsExact Extended
 extended_exact = record {

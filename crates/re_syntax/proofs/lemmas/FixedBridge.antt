@@ -1,7 +1,6 @@
 -- Fixed strings are spelled by their tokens, which have no fault.
 use Rattle.re_syntax.proofs.Prelude.{◌≡◌, ℕ, Bool, List, [], ◌∷◌, ◌++◌, map, refl, ap, append-nil, arith, Text, Expression, byte, sequence, Fixed, IsSpelled, as_fixed}
 use Rattle.re_syntax.specs.declared.tokens.ItemPlace.{ItemPlace}
-use Rattle.re_syntax.specs.declared.tokens.ItemPlace.TheVariants.{First, Later}
 use Rattle.re_syntax.specs.Tokens.{Token, atom, FixedToken, one_byte}
 use Rattle.re_syntax.specs.Working.TokenGrammar.{Spells}
 use Rattle.re_syntax.proofs.lemmas.BracketsUnique.{heads, tails}
@@ -55,12 +54,12 @@ grammar = record {
   spelled = λ (ds, (bytes, w, f), e) h. rw (e, f, w, append-nil bytes) as_fixed;
 }
 
-bytes_read : (t : Text) (p : ItemPlace) (g : Bool) → ItemsRead Fixed g p 0 t [] (map byte t)
-bytes_read [] p g = no_items
-bytes_read (b ∷ t) p g = more_items (token_item (one_byte b)) (bytes_read t Later g)
+bytes_read : (t : Text) {p : ItemPlace} {g : Bool} → ItemsRead Fixed g p 0 t [] (map byte t)
+bytes_read [] = no_items
+bytes_read (b ∷ t) {g} = more_items (token_item (one_byte b)) (bytes_read t)
 
 pub fixed_spells : {t : Text} {e : Expression} → IsSpelled Fixed t e → Spells Fixed t e
-fixed_spells {t} as_fixed = spells (last_branch (bytes_read t First _)) (omega arith)
+fixed_spells {t} as_fixed = spells (last_branch (bytes_read t)) (omega arith)
 
 pub fixed_spelled : {t : Text} {e : Expression} → Spells Fixed t e → IsSpelled Fixed t e
 fixed_spelled x = spelled grammar x

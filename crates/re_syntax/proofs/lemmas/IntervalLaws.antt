@@ -6,24 +6,24 @@ abbrev pub lacks : ℕ → Text → Bool
 lacks c t = list_all (λ b. not (nat_eq b c)) t
 
 -- a byte is not different from itself
-itself : (b c : ℕ) → b ≡ c → not (nat_eq b c) ≡ true → ⊥
-itself b c e h = let f : nat_eq b c ≡ true = eq-eqb b c e in let g : not true ≡ true = rw f at h in cc
+itself : {b c : ℕ} → b ≡ c → not (nat_eq b c) ≡ true → ⊥
+itself {b} {c} e h = let f : nat_eq b c ≡ true = eq-eqb b c e in let g : not true ≡ true = rw f at h in cc
 
 -- a text that lacks a byte does not begin with it
-lacks_head : (c b : ℕ) (t : Text) → lacks c (b ∷ t) ≡ true → b ≡ c → ⊥
-lacks_head c b t h e = itself b c e (and_parts (not (nat_eq b c)) (lacks c t) h).0
+lacks_head : {c b : ℕ} (t : Text) → lacks c (b ∷ t) ≡ true → b ≡ c → ⊥
+lacks_head {c} {b} t h e = itself e (and_parts (not (nat_eq b c)) (lacks c t) h).0
 
 -- the rest of a text that lacks a byte lacks it
 lacks_tail : (c b : ℕ) (t : Text) → lacks c (b ∷ t) ≡ true → lacks c t ≡ true
 lacks_tail c b t h = (and_parts (not (nat_eq b c)) (lacks c t) h).1
 
 -- a text is cut at its first such byte in one way
-pub cut-unique : (c : ℕ) (t u r s : Text) → lacks c t ≡ true → lacks c u ≡ true → t ++ c ∷ r ≡ u ++ c ∷ s → (t ≡ u) × (r ≡ s)
-cut-unique c [] [] r s h k e = (refl, cc)
-cut-unique c [] (b ∷ u) r s h k e = absurd (lacks_head c b u k (cc))
-cut-unique c (a ∷ t) [] r s h k e = absurd (lacks_head c a t h (cc))
-cut-unique c (a ∷ t) (b ∷ u) r s h k e =
-    let same = cut-unique c t u r s (lacks_tail c a t h) (lacks_tail c b u k) (cc) in
+pub cut-unique : (c : ℕ) (t u : Text) {r s : Text} → lacks c t ≡ true → lacks c u ≡ true → t ++ c ∷ r ≡ u ++ c ∷ s → (t ≡ u) × (r ≡ s)
+cut-unique c [] [] h k e = (refl, cc)
+cut-unique c [] (b ∷ u) h k e = absurd (lacks_head u k (cc))
+cut-unique c (a ∷ t) [] h k e = absurd (lacks_head t h (cc))
+cut-unique c (a ∷ t) (b ∷ u) {r} {s} h k e =
+    let same = cut-unique c t u (lacks_tail c a t h) (lacks_tail c b u k) (cc) in
     let parts : t ≡ u = same.0 in
     (cc, same.1)
 
@@ -31,7 +31,7 @@ cut-unique c (a ∷ t) (b ∷ u) r s h k e =
 pub lacks-cut : (c : ℕ) (t u r : Text) → lacks c t ≡ true → t ≡ u ++ c ∷ r → ⊥
 lacks-cut c [] [] r h e = cc
 lacks-cut c [] (b ∷ u) r h e = cc
-lacks-cut c (a ∷ t) [] r h e = lacks_head c a t h (cc)
+lacks-cut c (a ∷ t) [] r h e = lacks_head t h (cc)
 lacks-cut c (a ∷ t) (b ∷ u) r h e = lacks-cut c t u r (lacks_tail c a t h) (cc)
 
 -- two texts that lack a byte lack it when joined
@@ -59,32 +59,32 @@ interval_lacks c n k (between m p h q) =
 interval_lacks c n k (up_to m h) = lacks-append c (codes ",") m k (digits_lack c m n h.digits)
 
 -- a number has no comma
-no_comma : (m : Text) → IsNumber m → lacks 44 m ≡ true
-no_comma m h = digits_lack 44 m refl h.digits
+no_comma : {m : Text} → IsNumber m → lacks 44 m ≡ true
+no_comma {m} h = digits_lack 44 m refl h.digits
 
 -- a comma joins what is before it and after it
 comma : (m p : Text) → (m ++ codes ",") ++ p ≡ m ++ 44 ∷ p
 comma m p = append_assoc m (codes ",") p
 
 -- a text is of one form, with one pair of numbers
-pub Interval-unique : (t u : Text) (a b : ℕ) (x y : Option ℕ) → Interval t a x → Interval u b y → t ≡ u → (a ≡ b) × (x ≡ y)
-Interval-unique t u a b x y (exactly m h) (exactly n k) e = (ap value e, ap (λ v. Some (value v)) e)
-Interval-unique t u a b x y (exactly m h) (at_least n k) e = absurd (lacks-cut 44 m n [] (no_comma m h) e)
-Interval-unique t u a b x y (exactly m h) (between n p k q) e = absurd (lacks-cut 44 m n p (no_comma m h) (e ∙ comma n p))
-Interval-unique t u a b x y (at_least m h) (exactly n k) e = absurd (lacks-cut 44 n m [] (no_comma n k) (sym e))
-Interval-unique t u a b x y (at_least m h) (at_least n k) e = let same = cut-unique 44 m n [] [] (no_comma m h) (no_comma n k) e in (ap value same.0, refl)
-Interval-unique t u a b x y (at_least m h) (between n p k q) e =
-    absurd (q.not_empty (sym (cut-unique 44 m n [] p (no_comma m h) (no_comma n k) (e ∙ comma n p)).1))
-Interval-unique t u a b x y (between m o h q) (exactly n k) e = absurd (lacks-cut 44 n m o (no_comma n k) (sym e ∙ comma m o))
-Interval-unique t u a b x y (between m o h q) (at_least n k) e =
-    absurd (q.not_empty (cut-unique 44 m n o [] (no_comma m h) (no_comma n k) (sym (comma m o) ∙ e)).1)
-Interval-unique t u a b x y (between m o h q) (between n p k r) e =
-    let same = cut-unique 44 m n o p (no_comma m h) (no_comma n k) (sym (comma m o) ∙ e ∙ comma n p) in
+pub Interval-unique : {t u : Text} {a b : ℕ} {x y : Option ℕ} → Interval t a x → Interval u b y → t ≡ u → (a ≡ b) × (x ≡ y)
+Interval-unique (exactly m h) (exactly n k) e = (ap value e, ap (λ v. Some (value v)) e)
+Interval-unique (exactly m h) (at_least n k) e = absurd (lacks-cut 44 m n [] (no_comma h) e)
+Interval-unique (exactly m h) (between n p k q) e = absurd (lacks-cut 44 m n p (no_comma h) (e ∙ comma n p))
+Interval-unique (at_least m h) (exactly n k) e = absurd (lacks-cut 44 n m [] (no_comma k) (sym e))
+Interval-unique (at_least m h) (at_least n k) e = let same = cut-unique 44 m n (no_comma h) (no_comma k) e in (ap value same.0, refl)
+Interval-unique (at_least m h) (between n p k q) e =
+    absurd (q.not_empty (sym (cut-unique 44 m n (no_comma h) (no_comma k) (e ∙ comma n p)).1))
+Interval-unique (between m o h q) (exactly n k) e = absurd (lacks-cut 44 n m o (no_comma k) (sym e ∙ comma m o))
+Interval-unique (between m o h q) (at_least n k) e =
+    absurd (q.not_empty (cut-unique 44 m n (no_comma h) (no_comma k) (sym (comma m o) ∙ e)).1)
+Interval-unique (between m o h q) (between n p k r) e =
+    let same = cut-unique 44 m n (no_comma h) (no_comma k) (sym (comma m o) ∙ e ∙ comma n p) in
     (ap value same.0, ap (λ v. Some (value v)) same.1)
-Interval-unique t u a b x y (exactly m h) (up_to n k) e = absurd (lacks-cut 44 m [] n (no_comma m h) e)
-Interval-unique t u a b x y (at_least m h) (up_to n k) e = absurd (h.not_empty (cut-unique 44 m [] [] n (no_comma m h) refl e).0)
-Interval-unique t u a b x y (between m o h q) (up_to n k) e = absurd (h.not_empty (cut-unique 44 m [] o n (no_comma m h) refl (sym (comma m o) ∙ e)).0)
-Interval-unique t u a b x y (up_to m h) (exactly n k) e = absurd (lacks-cut 44 n [] m (no_comma n k) (sym e))
-Interval-unique t u a b x y (up_to m h) (at_least n k) e = absurd (k.not_empty (sym (cut-unique 44 [] n m [] refl (no_comma n k) e).0))
-Interval-unique t u a b x y (up_to m h) (between n p k q) e = absurd (k.not_empty (sym (cut-unique 44 [] n m p refl (no_comma n k) (e ∙ comma n p)).0))
-Interval-unique t u a b x y (up_to m h) (up_to n k) e = let same = cut-unique 44 [] [] m n refl refl e in (refl, ap (λ v. Some (value v)) same.1)
+Interval-unique (exactly m h) (up_to n k) e = absurd (lacks-cut 44 m [] n (no_comma h) e)
+Interval-unique (at_least m h) (up_to n k) e = absurd (h.not_empty (cut-unique 44 m [] (no_comma h) refl e).0)
+Interval-unique (between m o h q) (up_to n k) e = absurd (h.not_empty (cut-unique 44 m [] (no_comma h) refl (sym (comma m o) ∙ e)).0)
+Interval-unique (up_to m h) (exactly n k) e = absurd (lacks-cut 44 n [] m (no_comma k) (sym e))
+Interval-unique (up_to m h) (at_least n k) e = absurd (k.not_empty (sym (cut-unique 44 [] n refl (no_comma k) e).0))
+Interval-unique (up_to m h) (between n p k q) e = absurd (k.not_empty (sym (cut-unique 44 [] n refl (no_comma k) (e ∙ comma n p)).0))
+Interval-unique (up_to m h) (up_to n k) e = let same = cut-unique 44 [] [] refl refl e in (refl, ap (λ v. Some (value v)) same.1)

@@ -12,11 +12,11 @@ digits_rest : (b : ℕ) (t : Text) → AreDigits (b ∷ t) → AreDigits t
 digits_rest b t h = (and_parts (in_class Digit b) (list_all (in_class Digit) t) h).1
 
 -- a text is cut after its first digits in one way
-pub digits-cut : (m n r s : Text) → AreDigits m → AreDigits n → HasNoDigit r → HasNoDigit s → m ++ r ≡ n ++ s → r ≡ s
-digits-cut [] [] r s h k p q e = e
-digits-cut [] (b ∷ n) r s h k p q e = absurd (p b (n ++ s) e (digit_first b n k))
-digits-cut (b ∷ m) [] r s h k p q e = absurd (q b (m ++ r) (sym e) (digit_first b m h))
-digits-cut (b ∷ m) (c ∷ n) r s h k p q e = digits-cut m n r s (digits_rest b m h) (digits_rest c n k) p q (tails e)
+pub digits-cut : (m n : Text) {r s : Text} → AreDigits m → AreDigits n → HasNoDigit r → HasNoDigit s → m ++ r ≡ n ++ s → r ≡ s
+digits-cut [] [] h k p q e = e
+digits-cut [] (b ∷ n) {s} h k p q e = absurd (p b (n ++ s) e (digit_first b n k))
+digits-cut (b ∷ m) [] {r} h k p q e = absurd (q b (m ++ r) (sym e) (digit_first b m h))
+digits-cut (b ∷ m) (c ∷ n) {r} {s} h k p q e = digits-cut m n (digits_rest b m h) (digits_rest c n k) p q (tails e)
 
 -- a number begins with a digit
 number_first : (m r : Text) → IsNumber m → HasNoDigit (m ++ r) → ⊥
@@ -39,23 +39,23 @@ pub data Goes (close u t : Text) : Type 0 where
   goes_to : (n : Text) → IsNumber n → t ≡ codes "," ++ (n ++ (close ++ u)) → Goes close u t
 
 -- every interval has this after its first number
-pub goes : (close u t m r : Text) (least : ℕ) (most : Option ℕ) → IsNoPart close → ClosedInterval close t u least most → t ≡ m ++ r → AreDigits m → HasNoDigit r → Goes close u r
-goes close u t m r least most no_part c e digits stop = go c.inside least most c.form c.whole
+pub goes : {close u t : Text} (m : Text) {r : Text} {least : ℕ} {most : Option ℕ} → IsNoPart close → ClosedInterval close t u least most → t ≡ m ++ r → AreDigits m → HasNoDigit r → Goes close u r
+goes {close} {u} {t} m {r} {least} {most} no_part c e digits stop = go c.inside least most c.form c.whole
   where
     go : (inside : Text) (least : ℕ) (most : Option ℕ) → Interval inside least most → t ≡ inside ++ (close ++ u) → Goes close u r
     go inside least most (exactly n h) w =
-        closes (digits-cut m n r (close ++ u) digits h.digits stop (closing_no_digit close u no_part) (sym e ∙ w))
+        closes (digits-cut m n digits h.digits stop (closing_no_digit close u no_part) (sym e ∙ w))
     go inside least most (at_least n h) w =
-        opens_end (digits-cut m n r (codes "," ++ (close ++ u)) digits h.digits stop (comma_no_digit (close ++ u)) (sym e ∙ w ∙ append_assoc n (codes ",") (close ++ u)))
+        opens_end (digits-cut m n digits h.digits stop (comma_no_digit (close ++ u)) (sym e ∙ w ∙ append_assoc n (codes ",") (close ++ u)))
     go inside least most (between n o h k) w =
-        goes_to o k (digits-cut m n r (codes "," ++ (o ++ (close ++ u))) digits h.digits stop (comma_no_digit (o ++ (close ++ u)))
+        goes_to o k (digits-cut m n digits h.digits stop (comma_no_digit (o ++ (close ++ u)))
         (sym e ∙ w ∙ simp append_assoc))
     go inside least most (up_to n h) w =
-        goes_to n h (digits-cut m [] r (codes "," ++ (n ++ (close ++ u))) digits refl stop (comma_no_digit (n ++ (close ++ u))) (sym e ∙ w))
+        goes_to n h (digits-cut m [] digits refl stop (comma_no_digit (n ++ (close ++ u))) (sym e ∙ w))
 
 -- where there is neither a number nor a comma, there is no interval
-pub none_without_number : (close t : Text) → HasNoDigit t → ¬ Begins (codes ",") t → HasNoInterval close t
-none_without_number close t stop comma = record { none = λ u least most c. go c.inside least most c.form u c.whole }
+pub none_without_number : {close : Text} (t : Text) → HasNoDigit t → ¬ Begins (codes ",") t → HasNoInterval close t
+none_without_number {close} t stop comma = record { none = λ u least most c. go c.inside least most c.form u c.whole }
   where
     starts : (n s : Text) → IsNumber n → t ≡ n ++ s → ⊥
     starts n s h e = number_first n s h (rw e at stop)
@@ -67,8 +67,8 @@ none_without_number close t stop comma = record { none = λ u least most c. go c
     go inside least most (up_to n h) u w = comma (n ++ (close ++ u), w)
 
 -- where a comma comes first, and then not a number and what closes it, there is no interval
-pub none_after_first : (close t w : Text) → t ≡ codes "," ++ w → HasNoGreatest close w → HasNoInterval close t
-none_after_first close t w e n = record { none = λ u least most c. go c.inside least most c.form u c.whole }
+pub none_after_first : {close t w : Text} → t ≡ codes "," ++ w → HasNoGreatest close w → HasNoInterval close t
+none_after_first {close} {t} {w} e n = record { none = λ u least most c. go c.inside least most c.form u c.whole }
   where
     starts : (m s : Text) → IsNumber m → t ≡ m ++ s → ⊥
     starts m s h f = number_first m s h (rw (sym e ∙ f) at (comma_no_digit w))
@@ -80,21 +80,21 @@ none_after_first close t w e n = record { none = λ u least most c. go c.inside 
     go inside least most (up_to m h) u f = n.none m u h (tails (sym e ∙ f))
 
 -- no number follows the comma
-pub no_greatest : (close t : Text) → HasNoDigit t → HasNoGreatest close t
-no_greatest close t stop = record { none = λ n u h e. number_first n (close ++ u) h (rw e at stop) }
+pub no_greatest : {close t : Text} → HasNoDigit t → HasNoGreatest close t
+no_greatest {close} stop = record { none = λ n u h e. number_first n (close ++ u) h (rw e at stop) }
 
 -- a number follows the comma, and nothing closes it
-pub no_greatest_end : {text : Text} {at count beyond : ℕ} (close : Text) → IsNoPart close → NumberStands text at count beyond → ¬ Begins close (drop beyond text) →
+pub no_greatest_end : {text : Text} {at count beyond : ℕ} {close : Text} → IsNoPart close → NumberStands text at count beyond → ¬ Begins close (drop beyond text) →
     HasNoGreatest close (drop at text)
-no_greatest_end {text} {at} {count} {beyond} close no_part s no_close = record {
+no_greatest_end {text} {at} {count} {beyond} {close} no_part s no_close = record {
   none = λ n u h e.
-      no_close (u, digits-cut s.digits n (drop beyond text) (close ++ u) s.number.digits h.digits s.stops (closing_no_digit close u no_part) (sym s.front ∙ e));
+      no_close (u, digits-cut s.digits n s.number.digits h.digits s.stops (closing_no_digit close u no_part) (sym s.front ∙ e));
 }
 
 -- a number follows the comma, and what closes it follows the number
-pub greatest_stands : {text : Text} {at count beyond end' : ℕ} (close : Text) → NumberStands text at count beyond → IsAfter close text beyond end' →
+pub greatest_stands : {text : Text} {at count beyond end' : ℕ} {close : Text} → NumberStands text at count beyond → IsAfter close text beyond end' →
     GreatestStands close text at (record { least = 0; most = Some count }) end'
-greatest_stands {text} {at} {count} {beyond} {end'} close s c = record {
+greatest_stands {text} {at} {count} {beyond} {end'} s c = record {
   within = c.within;
   digits = s.digits;
   number = s.number;
@@ -104,9 +104,9 @@ greatest_stands {text} {at} {count} {beyond} {end'} close s c = record {
 }
 
 -- such a number is an interval, with the comma before it
-pub stands_up_to : {text : Text} {at comma beyond : ℕ} {counts : Counts} (close : Text) → IsAfter (codes ",") text at comma → GreatestStands close text comma counts beyond →
+pub stands_up_to : {text : Text} {at comma beyond : ℕ} {counts : Counts} {close : Text} → IsAfter (codes ",") text at comma → GreatestStands close text comma counts beyond →
     IntervalStands close text at counts beyond
-stands_up_to {text} {at} {comma} {beyond} {counts} close c s = record {
+stands_up_to {text} {at} {comma} {beyond} {counts} c s = record {
   within = s.within;
   least = 0;
   most = Some (value s.digits);
@@ -119,18 +119,18 @@ stands_up_to {text} {at} {comma} {beyond} {counts} close c s = record {
 pub up_to_found : {text : Text} {at comma : ℕ} (close : Text) → IsAfter (codes ",") text at comma → (found : Option (Counts × ℕ)) →
     MatchOption found (HasNoGreatest close (drop comma text)) (λ it. GreatestStands close text comma it.0 it.1) →
     MatchOption found (HasNoInterval close (drop at text)) (λ it. IntervalStands close text at it.0 it.1)
-up_to_found {text} {at} {comma} close c None h = none_after_first close (drop at text) (drop comma text) c.front h
-up_to_found close c (Some it) h = stands_up_to close c h
+up_to_found {text} {at} {comma} close c None h = none_after_first c.front h
+up_to_found close c (Some it) h = stands_up_to c h
 
 -- a number, and then nothing that an interval may go on with
-none_by : {text : Text} {at count beyond : ℕ} (close : Text) → IsNoPart close → NumberStands text at count beyond → ((u : Text) → Goes close u (drop beyond text) → ⊥) → HasNoInterval close (drop at text)
-none_by {text} {at} {beyond = beyond} close no_part s f =
-    record { none = λ u least most c. f u (goes close u (drop at text) s.digits (drop beyond text) least most no_part c s.front s.number.digits s.stops) }
+none_by : {text : Text} {at count beyond : ℕ} {close : Text} → IsNoPart close → NumberStands text at count beyond → ((u : Text) → Goes close u (drop beyond text) → ⊥) → HasNoInterval close (drop at text)
+none_by {text} {at} {beyond = beyond} {close} no_part s f =
+    record { none = λ u least most c. f u (goes s.digits no_part c s.front s.number.digits s.stops) }
 
 -- a number, and then neither what closes it nor a comma
-pub none_after_number : {text : Text} {at count beyond : ℕ} (close : Text) → IsNoPart close → NumberStands text at count beyond → ¬ Begins close (drop beyond text) →
+pub none_after_number : {text : Text} {at count beyond : ℕ} {close : Text} → IsNoPart close → NumberStands text at count beyond → ¬ Begins close (drop beyond text) →
     ¬ Begins (codes ",") (drop beyond text) → HasNoInterval close (drop at text)
-none_after_number {text} {at} {count} {beyond} close no_part s no_close no_comma = none_by close no_part s go
+none_after_number {text} {at} {count} {beyond} {close} no_part s no_close no_comma = none_by no_part s go
   where
     go : (u : Text) → Goes close u (drop beyond text) → ⊥
     go u (closes e) = no_close (u, e)
@@ -138,9 +138,9 @@ none_after_number {text} {at} {count} {beyond} close no_part s no_close no_comma
     go u (goes_to n h e) = no_comma (n ++ (close ++ u), e)
 
 -- a number and a comma, and then neither a number nor what closes
-pub none_after_comma : {text : Text} {at count beyond comma : ℕ} (close : Text) → IsNoPart close → NumberStands text at count beyond → ¬ Begins close (drop beyond text) →
+pub none_after_comma : {text : Text} {at count beyond comma : ℕ} {close : Text} → IsNoPart close → NumberStands text at count beyond → ¬ Begins close (drop beyond text) →
     IsAfter (codes ",") text beyond comma → HasNoDigit (drop comma text) → ¬ Begins close (drop comma text) → HasNoInterval close (drop at text)
-none_after_comma {text} {at} {count} {beyond} {comma} close no_part s no_close c no_digit no_end = none_by close no_part s go
+none_after_comma {text} {at} {count} {beyond} {comma} {close} no_part s no_close c no_digit no_end = none_by no_part s go
   where
     go : (u : Text) → Goes close u (drop beyond text) → ⊥
     go u (closes e) = no_close (u, e)
@@ -148,22 +148,22 @@ none_after_comma {text} {at} {count} {beyond} {comma} close no_part s no_close c
     go u (goes_to n h e) = number_first n (close ++ u) h (rw (tails (sym c.front ∙ e)) at no_digit)
 
 -- two numbers, and what follows does not close them
-pub none_after_numbers : {text : Text} {at count beyond comma other last : ℕ} (close : Text) → IsNoPart close → NumberStands text at count beyond →
+pub none_after_numbers : {text : Text} {at count beyond comma other last : ℕ} {close : Text} → IsNoPart close → NumberStands text at count beyond →
     ¬ Begins close (drop beyond text) → IsAfter (codes ",") text beyond comma → NumberStands text comma other last → ¬ Begins close (drop last text) →
     HasNoInterval close (drop at text)
-none_after_numbers {text} {at} {count} {beyond} {comma} {other} {last} close no_part s no_close c o no_end = none_by close no_part s go
+none_after_numbers {text} {at} {count} {beyond} {comma} {other} {last} {close} no_part s no_close c o no_end = none_by no_part s go
   where
     go : (u : Text) → Goes close u (drop beyond text) → ⊥
     go u (closes e) = no_close (u, e)
     go u (opens_end e) =
         number_first o.digits (drop last text) o.number (rw (sym (tails (sym c.front ∙ e)) ∙ o.front) at (closing_no_digit close u no_part))
     go u (goes_to n h e) =
-        no_end (u, digits-cut o.digits n (drop last text) (close ++ u) o.number.digits h.digits o.stops (closing_no_digit close u no_part) (sym o.front ∙ tails (sym c.front ∙ e)))
+        no_end (u, digits-cut o.digits n o.number.digits h.digits o.stops (closing_no_digit close u no_part) (sym o.front ∙ tails (sym c.front ∙ e)))
 
 -- the three forms, read
-pub stands_exactly : {text : Text} {at count beyond end' : ℕ} (close : Text) → NumberStands text at count beyond → IsAfter close text beyond end' →
+pub stands_exactly : {text : Text} {at count beyond end' : ℕ} {close : Text} → NumberStands text at count beyond → IsAfter close text beyond end' →
     IntervalStands close text at (record { least = count; most = Some count }) end'
-stands_exactly {text} {at} {count} {beyond} {end'} close s c = record {
+stands_exactly {text} {at} {count} {beyond} {end'} s c = record {
   within = c.within;
   least = value s.digits;
   most = Some (value s.digits);
@@ -173,9 +173,9 @@ stands_exactly {text} {at} {count} {beyond} {end'} close s c = record {
 }
 
 -- a number and a comma
-pub stands_at_least : {text : Text} {at count beyond comma end' : ℕ} (close : Text) → NumberStands text at count beyond → IsAfter (codes ",") text beyond comma →
+pub stands_at_least : {text : Text} {at count beyond comma end' : ℕ} {close : Text} → NumberStands text at count beyond → IsAfter (codes ",") text beyond comma →
     IsAfter close text comma end' → IntervalStands close text at (record { least = count; most = None }) end'
-stands_at_least {text} {at} {count} {beyond} {comma} {end'} close s c l = record {
+stands_at_least {text} {at} {count} {beyond} {comma} {end'} {close} s c l = record {
   within = l.within;
   least = value s.digits;
   most = None;
@@ -189,9 +189,9 @@ stands_at_least {text} {at} {count} {beyond} {comma} {end'} close s c l = record
 }
 
 -- two numbers
-pub stands_between : {text : Text} {at count beyond comma other last end' : ℕ} (close : Text) → NumberStands text at count beyond → IsAfter (codes ",") text beyond comma →
+pub stands_between : {text : Text} {at count beyond comma other last end' : ℕ} {close : Text} → NumberStands text at count beyond → IsAfter (codes ",") text beyond comma →
     NumberStands text comma other last → IsAfter close text last end' → IntervalStands close text at (record { least = count; most = Some other }) end'
-stands_between {text} {at} {count} {beyond} {comma} {other} {last} {end'} close s c o l = record {
+stands_between {text} {at} {count} {beyond} {comma} {other} {last} {end'} s c o l = record {
   within = l.within;
   least = value s.digits;
   most = Some (value o.digits);
@@ -205,9 +205,9 @@ stands_between {text} {at} {count} {beyond} {comma} {other} {last} {end'} close 
 }
 
 -- a number is the digits that come first
-pub number_stands : (text : Text) (at n v : ℕ) → at ≤ length text → IsDigitCount (drop at text) n → 0 < n → v ≡ capped (value (take n (drop at text))) →
+pub number_stands : {text : Text} {at n v : ℕ} → at ≤ length text → IsDigitCount (drop at text) n → 0 < n → v ≡ capped (value (take n (drop at text))) →
     NumberStands text at v (at + n)
-number_stands text at n v h count more e = record {
+number_stands {text} {at} {n} h count more e = record {
   within = omega (arith, simp length-drop at count.within);
   digits = take n (drop at text);
   number = record { not_empty = λ f. absurd (omega (arith, ap length f, length-take n (drop at text), count.within)); digits = count.digits };
@@ -217,5 +217,5 @@ number_stands text at n v h count more e = record {
 }
 
 -- the length of a part from its two ends
-pub same_front : (at n : ℕ) → (at + n) - at ≡ n
-same_front at n = omega arith
+pub same_front : (at : ℕ) {n : ℕ} → (at + n) - at ≡ n
+same_front at = omega arith

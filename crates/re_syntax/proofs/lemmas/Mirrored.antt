@@ -16,12 +16,12 @@ rest_same e = cc
 two_first : {A : Type 0} {x y : A} {xs ys : List A} → x ≡ y → xs ≡ ys → x ∷ xs ≡ y ∷ ys
 two_first e f = cc
 
-same_last : {A : Type 0} (xs ys : List A) (x y : A) → xs ++ (x ∷ []) ≡ ys ++ (y ∷ []) → (xs ≡ ys) × (x ≡ y)
-same_last [] [] x y e = (refl, first_same e)
-same_last [] (z ∷ ys) x y e = absurd (no_last ys y (rest_same e))
-same_last (z ∷ xs) [] x y e = absurd (no_last xs x (sym (rest_same e)))
-same_last (z ∷ xs) (w ∷ ys) x y e =
-    let more = same_last xs ys x y (rest_same e) in
+same_last : {A : Type 0} (xs ys : List A) {x y : A} → xs ++ (x ∷ []) ≡ ys ++ (y ∷ []) → (xs ≡ ys) × (x ≡ y)
+same_last [] [] e = (refl, first_same e)
+same_last [] (z ∷ ys) {y} e = absurd (no_last ys y (rest_same e))
+same_last (z ∷ xs) [] {x} e = absurd (no_last xs x (sym (rest_same e)))
+same_last (z ∷ xs) (w ∷ ys) {x} {y} e =
+    let more = same_last xs ys (rest_same e) in
     (two_first (first_same e) more.0, more.1)
 
 -- the partner of the last element
@@ -33,10 +33,10 @@ pub record Partner {A B : Type 0} (R : List A → A → B → Type 0) (xs : List
   pub mirrors : Mirrors R xs others
 
 module _ {A B : Type 0} {R : List A → A → B → Type 0} where
-  pub partner : {all xs : List A} {ys : List B} (x : A) → Mirrors R all ys → all ≡ xs ++ x ∷ [] → Partner R xs x ys
-  partner {xs = xs} x neither e = absurd (no_last xs x e)
-  partner {xs = xs} x (both {xs = zs} {ys = ys} {y = y} z m r f) e =
-      let same = same_last zs xs z x (sym f ∙ e) in
+  pub partner : {all xs : List A} {ys : List B} {x : A} → Mirrors R all ys → all ≡ xs ++ x ∷ [] → Partner R xs x ys
+  partner {xs = xs} {x} neither e = absurd (no_last xs x e)
+  partner {xs = xs} {x} (both {xs = zs} {ys = ys} {y = y} z m r f) e =
+      let same = same_last zs xs (sym f ∙ e) in
       record { first = y; others = ys; are = refl; is = subst (λ ws. R ws x y) same.0 (subst (λ w. R zs w y) same.1 r); mirrors = subst (λ ws. Mirrors R ws ys) same.0 m }
 
   pub none_mirrors : {all : List A} {ys : List B} → Mirrors R all ys → all ≡ [] → ys ≡ []

@@ -28,14 +28,14 @@ module _ (expressions : List Expression) (line : Text) (whole : Bool) where
           (i, longest.0, record { found = longest.1; earliest = (λ k l f. earliest k (l, f)); longest = longest.2 })
 
   -- the parts from a place on, by its distance from the line's end
-  ArePartsFrom-exist : (left from : ℕ) → length line ≤ from + left → (ps : List (ℕ × ℕ)) × ArePartsFrom expressions line whole from ps
-  ArePartsFrom-exist zero from near = ([], (λ i j f. absurd (omega (arith, f.begins, f.not_empty, f.on_line))))
-  ArePartsFrom-exist (suc left) from near =
+  ArePartsFrom-exist : (left : ℕ) {from : ℕ} → length line ≤ from + left → (ps : List (ℕ × ℕ)) × ArePartsFrom expressions line whole from ps
+  ArePartsFrom-exist zero near = ([], (λ i j f. absurd (omega (arith, f.begins, f.not_empty, f.on_line))))
+  ArePartsFrom-exist (suc left) {from} near =
       elim (IsPart-exists from) [
         | inr none ↦ ([], none)
-        | inl p ↦ (let f = p.2.found in let rest = ArePartsFrom-exist left p.1 (omega (arith, f.begins, f.not_empty)) in ((p.0, p.1) ∷ rest.0, (p.2, rest.1)))
+        | inl p ↦ (let f = p.2.found in let rest = ArePartsFrom-exist left (omega (arith, f.begins, f.not_empty)) in ((p.0, p.1) ∷ rest.0, (p.2, rest.1)))
       ]
 
 -- each line has a list of its parts
 pub AreParts-exist : (es : List Expression) (line : Text) (whole : Bool) → (ps : List (ℕ × ℕ)) × AreParts es line whole ps
-AreParts-exist es line whole = ArePartsFrom-exist es line whole (length line) 0 (omega arith)
+AreParts-exist es line whole = ArePartsFrom-exist es line whole (length line) (omega arith)

@@ -108,10 +108,10 @@ shallow_item : {c : Context} {least : ℕ} {most : Option ℕ} → c.last + leng
 shallow_item h (item k) = omega arith
 
 -- a group was opened
-pub group_taken : (at p n : ℕ) (old new : Shape) → n ≡ length old.groups.items → n ≢ most_levels → n ≤ most_levels → p ≡ up_to_word (old.before + old.item) →
+pub group_taken : {at p n : ℕ} {old new : Shape} → n ≡ length old.groups.items → n ≢ most_levels → n ≤ most_levels → p ≡ up_to_word (old.before + old.item) →
     new.place ≡ First → new.last ≡ 0 → new.height ≡ 0 → new.before ≡ 0 → new.item ≡ 0 →
     new.groups.items ≡ old.groups.items ++ record { opening = at; height = old.height; positions = p } ∷ [] → Takes opening at old new
-group_taken at p n old new count room fits q place last height before none e =
+group_taken {at} {p} {old} count room fits q place last height before none e =
     let more = ap length e ∙ length-append old.groups.items (record { opening = at; height = old.height; positions = p } ∷ []) in
     record {
       shows = λ text c within s. (
@@ -128,14 +128,14 @@ group_taken at p n old new count room fits q place last height before none e =
       counts = λ b h. record { before = before; item = none; around = both (record { opening = at; height = old.height; positions = p }) h.around (q ∙ counted h) e };
     }
 
-pub group_refused : (at : ℕ) (shape : Shape) (fault : PatternFault) (n : ℕ) → n ≡ length shape.groups.items → n ≡ most_levels → fault ≡ record { kind = TooDeep; at = at } → Refuses opening at shape fault
-group_refused at shape fault n count full e = record { fault_is = e; deep = λ text c s. group (omega (arith, as_many s.around)) }
+pub group_refused : {at : ℕ} {shape : Shape} {fault : PatternFault} {n : ℕ} → n ≡ length shape.groups.items → n ≡ most_levels → fault ≡ record { kind = TooDeep; at = at } → Refuses opening at shape fault
+group_refused count full e = record { fault_is = e; deep = λ text c s. group (omega (arith, as_many s.around)) }
 
 -- an item was repeated
-pub item_taken : (at n m : ℕ) (old new : Shape) (least : ℕ) (most : Option ℕ) → n ≡ length old.groups.items → old.last + n < most_levels → m ≡ up_to_word (copies least most * old.item) →
+pub item_taken : {at n m : ℕ} {old new : Shape} (least : ℕ) (most : Option ℕ) → n ≡ length old.groups.items → old.last + n < most_levels → m ≡ up_to_word (copies least most * old.item) →
     new.place ≡ Later → new.last ≡ old.last + 1 → new.height ≡ max old.height (old.last + 1) → new.before ≡ old.before → new.item ≡ m → new.groups.items ≡ old.groups.items →
     Takes (times least most) at old new
-item_taken at n m old new least most count room product place last height before item' e = record {
+item_taken least most count room product place last height before item' e = record {
   shows = λ text c within s. (
     shallow_item (omega (arith, as_many s.around, s.last_is)),
     record {
@@ -153,18 +153,18 @@ item_taken at n m old new least most count room product place last height before
   };
 }
 
-pub item_refused : (at : ℕ) (shape : Shape) (fault : PatternFault) (n least : ℕ) (most : Option ℕ) → n ≡ length shape.groups.items → most_levels ≤ shape.last + n → fault ≡ record { kind = TooDeep; at = at } →
+pub item_refused : {at : ℕ} {shape : Shape} {fault : PatternFault} {n : ℕ} (least : ℕ) (most : Option ℕ) → n ≡ length shape.groups.items → most_levels ≤ shape.last + n → fault ≡ record { kind = TooDeep; at = at } →
     Refuses (times least most) at shape fault
-item_refused at shape fault n least most count full e = record { fault_is = e; deep = λ text c s. item (omega (arith, as_many s.around, s.last_is)) }
+item_refused least most count full e = record { fault_is = e; deep = λ text c s. item (omega (arith, as_many s.around, s.last_is)) }
 
 -- a group was closed
-pub group_left : (at p : ℕ) (old new : Shape) (last : OpenGroup) → old.groups.items ≡ new.groups.items ++ last ∷ [] → p ≡ up_to_word (old.before + old.item) → new.place ≡ Later → new.last ≡ old.height + 1 →
+pub group_left : {at p : ℕ} {old new : Shape} (last : OpenGroup) → old.groups.items ≡ new.groups.items ++ last ∷ [] → p ≡ up_to_word (old.before + old.item) → new.place ≡ Later → new.last ≡ old.height + 1 →
     new.height ≡ max last.height (old.height + 1) → new.before ≡ last.positions → new.item ≡ p → Takes closing at old new
-group_left at p old new last e q place l height before item' = record { shows = λ text c within s. (λ d. shallow d refl, shown text c s); counts = counts }
+group_left {at} {old} {new} last e q place l height before item' = record { shows = λ text c within s. (λ d. shallow d refl, shown text c s); counts = counts }
   where
     shown : (text : Text) (c : Context) → Shows text old c → Shows text new (after (drop at text) closing c)
     shown text c s =
-        let inner = partner last s.around e in
+        let inner = partner s.around e in
         let fewer = ap length e ∙ length-append new.groups.items (last ∷ []) in
         subst (λ os. Shows text new (closed_group (suc c.height) os c)) (sym inner.are) (record {
           place_is = place;
@@ -176,7 +176,7 @@ group_left at p old new last e q place l height before item' = record { shows = 
 
     counts : (b : Built) → Counts old b → Counts new (left_group b.level b.outer)
     counts b h =
-        let inner = partner last h.around e in
+        let inner = partner h.around e in
         let x = choice (branches_of b.level) in
         subst (λ os. Counts new (left_group b.level os)) (sym inner.are) (record {
           before = before ∙ inner.is ∙ ap (λ n. up_to_word (positions (cat inner.first.branches) + n)) (sym (rest-snoc inner.first.items x));
@@ -185,8 +185,8 @@ group_left at p old new last e q place l height before item' = record { shows = 
         })
 
 -- none was open
-pub none_left : (at : ℕ) (shape : Shape) → shape.groups.items ≡ [] → Takes closing at shape shape
-none_left at shape e = record {
+pub none_left : {at : ℕ} {shape : Shape} → shape.groups.items ≡ [] → Takes closing at shape shape
+none_left {shape} e = record {
   shows = λ text c within s. (λ d. shallow d refl, subst (λ os. Shows text shape (closed_group (suc c.height) os c)) (sym (none_mirrors s.around e)) s);
   counts = λ b h.
       let none = none_mirrors h.around e in
@@ -199,33 +199,33 @@ flat : {text : Text} {c : Context} {old new : Shape} {place : ItemPlace} {m n : 
 flat {text} {c} {place = place} e s = subst (λ shape. Shows text shape (record { place = place; last = 0; height = c.height; around = c.around })) (sym e)
     (record { place_is = refl; last_is = refl; height_is = s.height_is; around = s.around; bounded = record { last_fits = omega (arith, s.bounded.height_fits); height_fits = s.bounded.height_fits } })
 
-pub bar_taken : (at : ℕ) (old new : Shape) → new ≡ record old { place = First; last = 0; before = up_to_word (old.before + old.item); item = 0 } → Takes bar at old new
-bar_taken at old new e = record {
+pub bar_taken : {at : ℕ} {old new : Shape} → new ≡ record old { place = First; last = 0; before = up_to_word (old.before + old.item); item = 0 } → Takes bar at old new
+bar_taken e = record {
   shows = λ text c within s. (λ d. shallow d refl, flat e s);
   counts = λ b h. subst (λ shape. Counts shape (build bar b)) (sym e)
       (record { before = counted h ∙ ap up_to_word (sym (positions-branches b.level) ∙ omega arith); item = refl; around = h.around });
 }
 
 -- an item without parts was taken
-one_taken : {old new : Shape} {place : ItemPlace} {n : ℕ} (b : Built) (e : Expression) → new ≡ record old { place = place; last = 0; before = up_to_word (old.before + old.item); item = n } →
+one_taken : {old new : Shape} {place : ItemPlace} {n : ℕ} {b : Built} (e : Expression) → new ≡ record old { place = place; last = 0; before = up_to_word (old.before + old.item); item = n } →
     n ≡ up_to_word (positions e) → Counts old b → Counts new (record { level = with_item e b.level; outer = b.outer })
-one_taken b x e p h = subst (λ shape. Counts shape (record { level = with_item x b.level; outer = b.outer })) (sym e) (record {
+one_taken {b} x e p h = subst (λ shape. Counts shape (record { level = with_item x b.level; outer = b.outer })) (sym e) (record {
   before = counted h ∙ ap (λ n. up_to_word (positions (cat b.level.branches) + n)) (sym (rest-snoc b.level.items x));
   item = p ∙ ap up_to_word (sym (last-snoc b.level.items x));
   around = h.around;
 })
 
-pub lead_taken : (at : ℕ) (old new : Shape) → new ≡ record old { place = AfterAnchor; last = 0; before = up_to_word (old.before + old.item); item = 0 } → Takes lead at old new
-lead_taken at old new e = record { shows = λ text c within s. (λ d. shallow d refl, flat e s); counts = λ b h. one_taken b begin e refl h }
+pub lead_taken : {at : ℕ} {old new : Shape} → new ≡ record old { place = AfterAnchor; last = 0; before = up_to_word (old.before + old.item); item = 0 } → Takes lead at old new
+lead_taken e = record { shows = λ text c within s. (λ d. shallow d refl, flat e s); counts = λ b h. one_taken begin e refl h }
 
-pub atom_taken : (at n : ℕ) (x : Expression) (old new : Shape) → n ≡ positions x → n ≤ 1 → new ≡ record old { place = Later; last = 0; before = up_to_word (old.before + old.item); item = n } → Takes (atom x) at old new
-atom_taken at n x old new p few e = record { shows = λ text c within s. (λ d. shallow d refl, flat e s); counts = λ b h. one_taken b x e (omega (arith, p)) h }
+pub atom_taken : {at n : ℕ} (x : Expression) {old new : Shape} → n ≡ positions x → n ≤ 1 → new ≡ record old { place = Later; last = 0; before = up_to_word (old.before + old.item); item = n } → Takes (atom x) at old new
+atom_taken x p few e = record { shows = λ text c within s. (λ d. shallow d refl, flat e s); counts = λ b h. one_taken x e (omega (arith, p)) h }
 
 -- What was read.
 
 -- whether a group is open
-open_is : {text : Text} {shape : Shape} {c : Context} → Shows text shape c → (n : ℕ) → n ≡ length shape.groups.items → is_group c.around ≡ nat_lt 0 n
-open_is s n e = go s.around n e
+open_is : {text : Text} {shape : Shape} {c : Context} → Shows text shape c → {n : ℕ} → n ≡ length shape.groups.items → is_group c.around ≡ nat_lt 0 n
+open_is s {n} e = go s.around n e
   where
     go : {text : Text} {gs : List OpenGroup} {os : List Around} → Mirrors (IsAround text) gs os → (n : ℕ) → n ≡ length gs → is_group os ≡ nat_lt 0 n
     go neither n e = rw e refl
@@ -233,7 +233,7 @@ open_is s n e = go s.around n e
 
 module _ {syntax : Syntax} {text : Text} {at : ℕ} {old : Shape} {done : List Token} (r : Reaches syntax text at old done) (n : ℕ) (is_open : n ≡ length old.groups.items) where
   here : {token : Read} {beyond : ℕ} → Stands syntax (nat_lt 0 n) old.place text at token beyond → IsToken syntax (is_group r.context.around) r.context.place (drop at text) (drop beyond text) (token_of token)
-  here {token} {beyond} t = subst (λ b. IsToken syntax b r.context.place (drop at text) (drop beyond text) (token_of token)) (sym (open_is r.shows n is_open))
+  here {token} {beyond} t = subst (λ b. IsToken syntax b r.context.place (drop at text) (drop beyond text) (token_of token)) (sym (open_is r.shows is_open))
       (subst (λ p. IsToken syntax (nat_lt 0 n) p (drop at text) (drop beyond text) (token_of token)) r.shows.place_is t.stands)
 
   -- a token was read and taken
@@ -251,16 +251,16 @@ module _ {syntax : Syntax} {text : Text} {at : ℕ} {old : Shape} {done : List T
       }
 
   -- no token is there
-  pub fault_met : (fault : PatternFault) → IsAt (IsTokenFault syntax (nat_lt 0 n) old.place (drop at text)) text fault → IsFirstFault syntax text fault
-  fault_met fault h = record {
+  pub fault_met : {fault : PatternFault} → IsAt (IsTokenFault syntax (nat_lt 0 n) old.place (drop at text)) text fault → IsFirstFault syntax text fault
+  fault_met {fault} h = record {
     within = h.within;
-    is_fault = r.fault _ _ (no_token (subst (λ b. IsTokenFault syntax b r.context.place (drop at text) fault.kind (drop fault.at text)) (sym (open_is r.shows n is_open))
+    is_fault = r.fault _ _ (no_token (subst (λ b. IsTokenFault syntax b r.context.place (drop at text) fault.kind (drop fault.at text)) (sym (open_is r.shows is_open))
         (subst (λ p. IsTokenFault syntax (nat_lt 0 n) p (drop at text) fault.kind (drop fault.at text)) r.shows.place_is h.is_fault)));
   }
 
   -- the token goes too deep
-  pub deep_met : {token : Read} {beyond : ℕ} (fault : PatternFault) → Stands syntax (nat_lt 0 n) old.place text at token beyond → Refuses (token_of token) at old fault → IsFirstFault syntax text fault
-  deep_met fault t h =
+  pub deep_met : {token : Read} {beyond : ℕ} {fault : PatternFault} → Stands syntax (nat_lt 0 n) old.place text at token beyond → Refuses (token_of token) at old fault → IsFirstFault syntax text fault
+  deep_met {fault} t h =
       subst (IsFirstFault syntax text) (sym h.fault_is) (record { within = r.within; is_fault = r.fault TooDeep (drop at text) (too_deep _ (here t) (h.deep text r.context r.shows)) })
 
 -- the text begins
@@ -272,8 +272,8 @@ reaches_start syntax text s h = record { within = omega arith; context = start; 
 pub at_end : {syntax : Syntax} {text : Text} {at : ℕ} {shape : Shape} {done : List Token} → Reaches syntax text at shape done → length text ≤ at → Reaches syntax text (length text) shape done
 at_end {syntax} {text} {at} {shape} {done} r h = subst (λ n. Reaches syntax text n shape done) (omega (arith, h, r.within)) r
 
-pub ends_whole : (shape : Shape) (count : ℕ) → count ≡ up_to_word (shape.before + shape.item) → shape.groups.items ≡ [] → Ends shape count
-ends_whole shape count e none = record {
+pub ends_whole : {shape : Shape} {count : ℕ} → count ≡ up_to_word (shape.before + shape.item) → shape.groups.items ≡ [] → Ends shape count
+ends_whole e none = record {
   ends = λ syntax text done r. (
     subst (IsCut syntax text) (append-nil done) (r.cut [] (subst (λ t. Cut syntax r.context t []) (sym (drop-length text)) (whole (none_mirrors r.shows.around none)))),
     e ∙ counted r.counts,
@@ -283,7 +283,7 @@ ends_whole shape count e none = record {
 pub ends_open : (shape : Shape) (fault : PatternFault) (others : List OpenGroup) (last : OpenGroup) → shape.groups.items ≡ others ++ last ∷ [] → fault ≡ record { kind = UnclosedGroup; at = last.opening } → EndsOpen shape fault
 ends_open shape fault others last e f = record {
   ends = λ syntax text done r.
-      let inner = partner last r.shows.around e in
+      let inner = partner r.shows.around e in
       subst (IsFirstFault syntax text) (sym f) (record {
         within = inner.is.within;
         is_fault = r.fault UnclosedGroup (drop last.opening text) (subst (λ t. FirstFault syntax r.context t UnclosedGroup (drop last.opening text)) (sym (drop-length text))

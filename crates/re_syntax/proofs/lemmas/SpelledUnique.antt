@@ -8,15 +8,15 @@ use Rattle.re_syntax.proofs.lemmas.PartsLaws.{ArePartsFrom-unique}
 
 -- a text spells one expression
 pub IsSpelled-unique : {syntax : Syntax} {t : Text} {d e : Expression} → IsSpelled syntax t d → IsSpelled syntax t e → d ≡ e
-IsSpelled-unique {syntax} {t} {d} {e} p q = one_meaning syntax t d e (keeps_spelled syntax t d p) (keeps_spelled syntax t e q)
+IsSpelled-unique {syntax} {t} {d} {e} p q = one_meaning (keeps_spelled syntax p) (keeps_spelled syntax q)
 
 -- the law on what a text spells
 pub spells_one : (text : Text) → SpellsOne text
 spells_one text syntax d e p q = IsSpelled-unique p q
 
 -- the law on lines and patterns
-pub has_one_split : (text : Text) → HasOneSplit text
-has_one_split text = record {
+pub has_one_split : {text : Text} → HasOneSplit text
+has_one_split {text} = record {
   lines = AreLines-lines_of text;
   no_other_lines = lines_of-unique text;
   ended_lines = AreEndedLines-ended_lines_of text;

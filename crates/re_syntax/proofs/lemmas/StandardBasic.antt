@@ -10,18 +10,18 @@ use Rattle.re_syntax.proofs.lemmas.StandardIntervals.{interval-kept}
 
 end_no_bar : {t : Text} → StandardEnd t → (w : Text) → t ≡ 92 ∷ 124 ∷ w → ⊥
 end_no_bar standard_of_text w e = cc
-end_no_bar standard_of_group w e = apart 41 124 (heads (tails e)) refl
+end_no_bar standard_of_group w e = apart (heads (tails e)) refl
 
 duplication_no_bar : {d : Text} {least : ℕ} {most : Option ℕ} → StandardDuplication d least most → (u w : Text) → d ++ u ≡ 92 ∷ 124 ∷ w → ⊥
-duplication_no_bar standard_star u w e = apart 42 92 (heads e) refl
-duplication_no_bar (standard_interval form allowed) u w e = apart 123 124 (heads (tails e)) refl
+duplication_no_bar standard_star u w e = apart (heads e) refl
+duplication_no_bar (standard_interval form allowed) u w e = apart (heads (tails e)) refl
 
 atom_no_bar : {p : ItemPlace} {h : ℕ} {t u : Text} {e : Expression} → StandardAtom p h t u e → (w : Text) → t ≡ 92 ∷ 124 ∷ w → ⊥
-atom_no_bar (standard_bracket b) w e = let (v, f) = bracket_front b in apart 91 92 (heads (sym f ∙ e)) refl
-atom_no_bar standard_period w e = apart 46 92 (heads e) refl
+atom_no_bar (standard_bracket b) w e = let (v, f) = bracket_front b in apart (heads (sym f ∙ e)) refl
+atom_no_bar standard_period w e = apart (heads e) refl
 atom_no_bar (standard_escaped b h) w e = h (rw (heads (tails e)) refl)
 atom_no_bar {p} (standard_ordinary b h k) w e = never p h refl (sym e)
-atom_no_bar (standard_group is) w e = apart 40 124 (heads (tails e)) refl
+atom_no_bar (standard_group is) w e = apart (heads (tails e)) refl
 
 item_no_bar : {p : ItemPlace} {h : ℕ} {t u : Text} {e : Expression} → StandardItem p h t u e → (w : Text) → t ≡ 92 ∷ 124 ∷ w → ⊥
 item_no_bar (standard_atom a) w e = atom_no_bar a w e
@@ -29,8 +29,8 @@ item_no_bar (standard_repeated i d) w e = item_no_bar i w e
 
 items_no_bar : {p : ItemPlace} {h : ℕ} {t u : Text} {es : List Expression} → StandardItems p h t u es → StandardEnd u → (w : Text) → t ≡ 92 ∷ 124 ∷ w → ⊥
 items_no_bar standard_none s w e = end_no_bar s w e
-items_no_bar (standard_leading is) s w e = apart 94 92 (heads e) refl
-items_no_bar (standard_trailing l) s w e = apart 36 92 (heads e) refl
+items_no_bar (standard_leading is) s w e = apart (heads e) refl
+items_no_bar (standard_trailing l) s w e = apart (heads e) refl
 items_no_bar (standard_item i is) s w e = item_no_bar i w e
 
 -- So each part of the standard is one here.

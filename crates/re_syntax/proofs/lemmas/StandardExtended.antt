@@ -61,7 +61,7 @@ mutual
   atom-kept standard_period n = period
   atom-kept standard_dollar n = dollar
   atom-kept (standard_escaped b h) n = escaped b h
-  atom-kept (standard_ordinary b h k) n = ordinary b h (λ e. no_interval-kept b n e (k e))
+  atom-kept (standard_ordinary b h k) n = ordinary b h (λ e. no_interval-kept n e (k e))
   atom-kept (standard_group bs) n = group (branches-kept bs (lacks_after n (40 ∷ [], refl)))
 
 -- a whole extended expression

@@ -9,8 +9,8 @@ interval-kept (standard_at_least m h) = at_least m h
 interval-kept (standard_between m n h k) = between m n h k
 
 -- where neither a comma nor an interval of the standard follows the brace, no interval does
-pub no_interval-kept : {u : Text} (b : ℕ) → HasNoOpenComma (b ∷ u) → b ≡ 123 → HasNoStandard (codes "}") u → HasNoInterval (codes "}") u
-no_interval-kept {u} b lacks brace h = record { none = λ v least most c. go c.inside least most c.form v c.whole }
+pub no_interval-kept : {u : Text} {b : ℕ} → HasNoOpenComma (b ∷ u) → b ≡ 123 → HasNoStandard (codes "}") u → HasNoInterval (codes "}") u
+no_interval-kept {u} lacks brace h = record { none = λ v least most c. go c.inside least most c.form v c.whole }
   where
     go : (inside : Text) (least : ℕ) (most : Option ℕ) → Interval inside least most → (v : Text) → u ≡ inside ++ (codes "}" ++ v) → ⊥
     go inside least most (exactly m k) v e = h.none m v least most (standard_exactly m k) e

@@ -196,7 +196,7 @@ module _ {syntax : Syntax} {Bs : Bool → ℕ → Text → Text → List Express
         let f = begun x in (0, record { beyond = f.rest; high = c.height; is_high = omega arith; fits = omega (arith, fits); cut = f.others; reads = grammar.single f.token })
     item_part ls (group {ks} {es} bs) c t fits x =
         let f = begun x in
-        let (q, n, h, s) = branches_part (closing ∷ ls) bs (after t opening c) f.rest refl (omega (arith, room f.shallow)) (to_right ks (closing ∷ []) ls f.others) in
+        let (q, n, h, s) = branches_part bs refl (omega (arith, room f.shallow)) (to_right ks (closing ∷ []) ls f.others) in
         let d = begun s.cut in
         let same : s.high ≡ h = s.is_high ∙ omega arith in (
           suc h,
@@ -214,27 +214,27 @@ module _ {syntax : Syntax} {Bs : Bool → ℕ → Text → Text → List Express
         let d = begun f.cut in
         (suc h, record { beyond = d.rest; high = max f.high (suc h); is_high = omega (arith, f.is_high); fits = omega (arith, room_above d.shallow); cut = d.others; reads = grammar.repeated f.reads d.token })
 
-    items_part : {ks : List Token} {es : List Expression} (ls : List Token) → Items ks es → (c : Context) (t : Text) → length c.around ≤ most_levels → Cut syntax c t (ks ++ ls) →
+    items_part : {ks : List Token} {es : List Expression} {ls : List Token} → Items ks es → {c : Context} {t : Text} → length c.around ≤ most_levels → Cut syntax c t (ks ++ ls) →
         (q : ItemPlace) × (n : ℕ) × (h : ℕ) × Part (λ u. Is (is_group c.around) c.place h t u es) c ls q n h
-    items_part ls none c t fits x = (c.place, c.last, 0, record { beyond = t; high = c.height; is_high = omega arith; fits = omega (arith, fits); cut = x; reads = grammar.none })
-    items_part ls (anchor is) c t fits x =
+    items_part none {c} {t} fits x = (c.place, c.last, 0, record { beyond = t; high = c.height; is_high = omega arith; fits = omega (arith, fits); cut = x; reads = grammar.none })
+    items_part {ls} (anchor is) {c} {t} fits x =
         let f = begun x in
-        let (q, n, h, s) = items_part ls is (after t lead c) f.rest fits f.others in
+        let (q, n, h, s) = items_part is fits f.others in
         (q, n, h, record { beyond = s.beyond; high = s.high; is_high = s.is_high; fits = s.fits; cut = s.cut; reads = grammar.anchor f.token s.reads })
-    items_part ls (item {ks} {ls = ms} i is) c t fits x =
+    items_part {ls} (item {ks} {ls = ms} i is) {c} {t} fits x =
         let (h, f) = item_part (ms ++ ls) i c t fits (to_right ks ms ls x) in
-        let (q, n, k, s) = items_part ls is (on c Later h f.high) f.beyond fits f.cut in
+        let (q, n, k, s) = items_part is fits f.cut in
         (q, n, max h k, record { beyond = s.beyond; high = s.high; is_high = omega (arith, s.is_high, f.is_high); fits = omega (arith, f.fits, s.fits); cut = s.cut; reads = grammar.item f.reads s.reads })
 
-    branches_part : {ks : List Token} {es : List Expression} (ls : List Token) → Branches ks es → (c : Context) (t : Text) → c.place ≡ First → length c.around ≤ most_levels → Cut syntax c t (ks ++ ls) →
+    branches_part : {ks : List Token} {es : List Expression} {ls : List Token} → Branches ks es → {c : Context} {t : Text} → c.place ≡ First → length c.around ≤ most_levels → Cut syntax c t (ks ++ ls) →
         (q : ItemPlace) × (n : ℕ) × (h : ℕ) × Part (λ u. Bs (is_group c.around) h t u es) c ls q n h
-    branches_part ls (last {es = es} is) c t e fits x =
-        let (q, n, h, s) = items_part ls is c t fits x in
+    branches_part {ls} (last {es = es} is) {c} {t} e fits x =
+        let (q, n, h, s) = items_part is fits x in
         (q, n, h, record { beyond = s.beyond; high = s.high; is_high = s.is_high; fits = s.fits; cut = s.cut; reads = grammar.last (subst (λ p. Is (is_group c.around) p h t s.beyond es) e s.reads) })
-    branches_part ls (more {ks} {ls = ms} {es = es} is bs) c t e fits x =
-        let (p, m, h, f) = items_part (bar ∷ ms ++ ls) is c t fits (to_right ks (bar ∷ ms) ls x) in
+    branches_part {ls} (more {ks} {ls = ms} {es = es} is bs) {c} {t} e fits x =
+        let (p, m, h, f) = items_part is fits (to_right ks (bar ∷ ms) ls x) in
         let d = begun f.cut in
-        let (q, n, k, s) = branches_part ls bs (after f.beyond bar (on c p m f.high)) d.rest refl fits d.others in (
+        let (q, n, k, s) = branches_part bs refl fits d.others in (
           q,
           n,
           max h k,
@@ -251,5 +251,5 @@ module _ {syntax : Syntax} {Bs : Bool → ℕ → Text → Text → List Express
   -- nothing else is spelled
   pub spelled : {t : Text} {e : Expression} → Spells syntax t e → IsSpelled syntax t e
   spelled {t} x =
-      let (q, n, h, s) = branches_part [] x.read start t refl (omega arith) (subst (Cut syntax start t) (sym (append-nil x.tokens)) x.cut) in
+      let (q, n, h, s) = branches_part x.read refl (omega arith) (subst (Cut syntax start t) (sym (append-nil x.tokens)) x.cut) in
       subst (IsSpelled syntax t) (sym x.whole) (grammar.spelled (subst (λ u. Bs false h t u x.branches) (cut_ends s.cut) s.reads) (omega (arith, s.fits)))

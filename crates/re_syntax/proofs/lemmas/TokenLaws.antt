@@ -23,32 +23,32 @@ placed Basic = basic_placed
 placed Extended = extended_placed
 placed Fixed = fixed_placed
 
-pub keeps_spelled : (syntax : Syntax) (text : Text) (e : Expression) → IsSpelled syntax text e → Spells syntax text e
-keeps_spelled Basic text e x = basic_spells x
-keeps_spelled Extended text e x = extended_spells x
-keeps_spelled Fixed text e x = fixed_spells x
+pub keeps_spelled : (syntax : Syntax) {text : Text} {e : Expression} → IsSpelled syntax text e → Spells syntax text e
+keeps_spelled Basic x = basic_spells x
+keeps_spelled Extended x = extended_spells x
+keeps_spelled Fixed x = fixed_spells x
 
-pub adds_none : (syntax : Syntax) (text : Text) (e : Expression) → Spells syntax text e → IsSpelled syntax text e
-adds_none Basic text e x = basic_spelled x
-adds_none Extended text e x = extended_spelled x
-adds_none Fixed text e x = fixed_spelled x
+pub adds_none : (syntax : Syntax) {text : Text} {e : Expression} → Spells syntax text e → IsSpelled syntax text e
+adds_none Basic x = basic_spelled x
+adds_none Extended x = extended_spelled x
+adds_none Fixed x = fixed_spelled x
 
-pub one_meaning : (syntax : Syntax) (text : Text) (d e : Expression) → Spells syntax text d → Spells syntax text e → d ≡ e
-one_meaning syntax text d e x y = same_meaning x y (cuts-unique (exact syntax) x.cut y.cut)
+pub one_meaning : {syntax : Syntax} {text : Text} {d e : Expression} → Spells syntax text d → Spells syntax text e → d ≡ e
+one_meaning {syntax} x y = same_meaning x y (cuts-unique (exact syntax) x.cut y.cut)
 
 -- a text that has a first fault spells nothing
 pub fault_spells_none : {syntax : Syntax} {text from : Text} {kind : FaultKind} → FirstFault syntax start text kind from → (e : Expression) → ¬ IsSpelled syntax text e
-fault_spells_none {syntax} {text} f e x = fault-no_cut (exact syntax) f (keeps_spelled syntax text e x).cut
+fault_spells_none {syntax} {text} f e x = fault-no_cut (exact syntax) f (keeps_spelled syntax x).cut
 
 -- what is built of the whole cut are its branches
-pub cut_branches : (syntax : Syntax) (text : Text) (ks : List Token) → IsCut syntax text ks → Branches ks (branches_of (build_all ks nothing_built).level)
-cut_branches syntax text ks x = cut_built (placed syntax) x
+pub cut_branches : {syntax : Syntax} {text : Text} {ks : List Token} → IsCut syntax text ks → Branches ks (branches_of (build_all ks nothing_built).level)
+cut_branches {syntax} x = cut_built (placed syntax) x
 
 pub has_one_cut : (text : Text) (syntax : Syntax) → HasOneCut syntax text
 has_one_cut text syntax = record {
   cuts = λ ks ls x y. cuts-unique (exact syntax) x y;
-  faults = λ f g x y. faults-unique (exact syntax) text f g x y;
+  faults = λ f g x y. faults-unique (exact syntax) x y;
   never_both = λ f ks x y. fault-no_cut (exact syntax) x.is_fault y;
-  spelled = λ e. (keeps_spelled syntax text e, adds_none syntax text e);
+  spelled = λ e. (keeps_spelled syntax, adds_none syntax);
   each = λ ks x. cut_spells (placed syntax) x;
 }

@@ -17,16 +17,16 @@ pub record SameInterval (a b : ℕ) (x y : Option ℕ) (u v : Text) : Type 0 whe
 pub closed-unique : (c : ℕ) (w : Text) → in_class Digit c ≡ false → lacks c (codes ",") ≡ true → {t s u v : Text} {a b : ℕ} {x y : Option ℕ} →
     ClosedInterval (c ∷ w) t u a x → ClosedInterval (c ∷ w) s v b y → t ≡ s → SameInterval a b x y (w ++ u) (w ++ v)
 closed-unique c w n k {u = u} {v = v} {a = a} {b = b} {x = x} {y = y} p q e =
-    let same = cut-unique c p.inside q.inside (w ++ u) (w ++ v) (interval_lacks c n k p.form) (interval_lacks c n k q.form) (sym p.whole ∙ e ∙ q.whole) in
-    let numbers = Interval-unique p.inside q.inside a b x y p.form q.form same.0 in
+    let same = cut-unique c p.inside q.inside (interval_lacks c n k p.form) (interval_lacks c n k q.form) (sym p.whole ∙ e ∙ q.whole) in
+    let numbers = Interval-unique p.form q.form same.0 in
     record { least = numbers.0; most = numbers.1; rests = same.1 }
 
 pub same_times : {a b : ℕ} {x y : Option ℕ} → a ≡ b → x ≡ y → times a x ≡ times b y
 same_times p q = cc
 
 -- an interval and what closes it
-pub closed_by : (close : Text) {t : Text} {least : ℕ} {most : Option ℕ} (u : Text) → Interval t least most → ClosedInterval close ((t ++ close) ++ u) u least most
-closed_by close {t} u form = record { inside = t; form = form; whole = append_assoc t close u }
+pub closed_by : {close : Text} {t : Text} {least : ℕ} {most : Option ℕ} (u : Text) → Interval t least most → ClosedInterval close ((t ++ close) ++ u) u least most
+closed_by {close} {t} u form = record { inside = t; form = form; whole = append_assoc t close u }
 
 pub no_closed : {close t s u : Text} {a : ℕ} {x : Option ℕ} → HasNoInterval close t → ClosedInterval close s u a x → s ≡ t → ⊥
 no_closed {close} {u = u} {a = a} {x = x} h c e = h.none u a x (subst (λ r. ClosedInterval close r u a x) e c)

@@ -16,20 +16,20 @@ use Rattle.re_syntax.proofs.lemmas.Places.{front_here}
 
 module _ {syntax : Syntax} {g : Bool} {p : ItemPlace} {text : Text} {at : ℕ} where
   -- a token by the text from its place on
-  stands_by : {beyond : ℕ} {t : Text} (token : Read) → at < beyond → beyond ≤ length text → drop at text ≡ t → IsToken syntax g p t (drop beyond text) (token_of token) → Stands syntax g p text at token beyond
-  stands_by token f w e x = record { forward = f; within = w; stands = rw e x }
+  stands_by : {beyond : ℕ} {t : Text} {token : Read} → at < beyond → beyond ≤ length text → drop at text ≡ t → IsToken syntax g p t (drop beyond text) (token_of token) → Stands syntax g p text at token beyond
+  stands_by f w e x = record { forward = f; within = w; stands = rw e x }
 
   -- some bytes, one byte, an escape, and a bracket expression
-  pub bytes_stand : {beyond : ℕ} (bytes : Text) (token : Read) → 0 < length bytes → IsAfter bytes text at beyond → IsToken syntax g p (bytes ++ drop beyond text) (drop beyond text) (token_of token) →
+  pub bytes_stand : {beyond : ℕ} {bytes : Text} (token : Read) → 0 < length bytes → IsAfter bytes text at beyond → IsToken syntax g p (bytes ++ drop beyond text) (drop beyond text) (token_of token) →
       Stands syntax g p text at token beyond
-  bytes_stand bytes token some s x = stands_by token (omega (arith, s.place, some)) s.within s.front x
+  bytes_stand token some s x = stands_by (omega (arith, s.place, some)) s.within s.front x
 
-  pub byte_stands : (b : ℕ) (token : Read) → at < length text → get_or text at 0 ≡ b → IsToken syntax g p (b ∷ drop (at + 1) text) (drop (at + 1) text) (token_of token) → Stands syntax g p text at token (at + 1)
-  byte_stands b token h e x = stands_by token (omega arith) (omega arith) (front_here text at b h e) x
+  pub byte_stands : {b : ℕ} {token : Read} → at < length text → get_or text at 0 ≡ b → IsToken syntax g p (b ∷ drop (at + 1) text) (drop (at + 1) text) (token_of token) → Stands syntax g p text at token (at + 1)
+  byte_stands {b} {token} h e x = stands_by (omega arith) (omega arith) (front_here text at h e) x
 
   pub escape_stands : {others : Text} {b : ℕ} (it : Atom) → EscapeStands others text at b → atom_expression it ≡ byte b → IsToken syntax g p (92 ∷ b ∷ drop (at + 2) text) (drop (at + 2) text) (atom (byte b)) →
       Stands syntax g p text at (Atomic it) (at + 2)
-  escape_stands it s e x = stands_by (Atomic it) (omega arith) s.within s.front (rw e x)
+  escape_stands it s e x = stands_by (omega arith) s.within s.front (rw e x)
 
   pub bracket_stands : {beyond : ℕ} (it : Atom) → IsBracketUpTo text at beyond (atom_expression it) → IsToken syntax g p (drop at text) (drop beyond text) (atom (atom_expression it)) → Stands syntax g p text at (Atomic it) beyond
   bracket_stands it b x = let within = b.within in record { forward = omega (arith, simp length-drop at (bracket-shortens b.stands)); within = within; stands = x }
@@ -40,13 +40,13 @@ module _ {syntax : Syntax} {g : Bool} {p : ItemPlace} {text : Text} {at : ℕ} w
   times_stand {beyond} e d some x =
       let within = d.within in
       let lengths : length (drop at text) ≡ length d.bytes + length (drop beyond text) = ap length d.front ∙ length-append d.bytes (drop beyond text) in
-      stands_by (Times _) (omega (arith, simp length-drop at lengths, some)) within d.front (rw e x)
+      stands_by (omega (arith, simp length-drop at lengths, some)) within d.front (rw e x)
 
 -- an interval whose counts are allowed is a duplication, and one whose counts are refused is a fault
 module _ {opening close text : Text} {at inside beyond : ℕ} {counts : Counts} (s : IsAfter opening text at inside) (i : IntervalStands close text inside counts beyond) where
   pub interval_stands : {D : Text → ℕ → Option ℕ → Type 0} → IsAllowed counts.least counts.most → (IsAllowed i.least i.most → D (opening ++ i.stands.inside ++ close) i.least i.most) → HasOne D text at counts beyond
   interval_stands h f =
-      let same = are_counts counts.least i.least counts.most i.most i.least_is i.most_is h in
+      let same = are_counts counts.most i.most i.least_is i.most_is h in
       let allowed : IsAllowed i.least i.most = rw (sym same.least, sym same.most) h in
       record {
         within = i.within;
@@ -57,12 +57,12 @@ module _ {opening close text : Text} {at inside beyond : ℕ} {counts : Counts} 
 
   pub bad_interval : {kind : FaultKind} (P : Text → FaultKind → Text → Type 0) → at ≤ length text → IsDisallowed kind counts.least counts.most →
       (IsDisallowed kind i.least i.most → P (opening ++ drop inside text) kind (opening ++ drop inside text)) → IsAt (P (drop at text)) text (record { kind = kind; at = at })
-  bad_interval {kind} P h bad f = record { within = h; is_fault = subst (λ t. P t kind t) (sym s.front) (f (disallowed_too bad i.least i.most i.least_is i.most_is)) }
+  bad_interval {kind} P h bad f = record { within = h; is_fault = subst (λ t. P t kind t) (sym s.front) (f (disallowed_too bad i.most i.least_is i.most_is)) }
 
 -- what closes an interval is no part of it
 pub closing_no_part : (b : ℕ) (t : Text) → in_class Digit b ≡ false → nat_eq b 44 ≡ false → IsNoPart (b ∷ t)
 closing_no_part b t n m = record {
   not_empty = λ e. cc;
   no_digit = λ c u e h. (let f = sym n ∙ rw (sym (heads e)) at h in cc);
-  no_comma = λ h. apart b 44 (heads h.1) m;
+  no_comma = λ h. apart (heads h.1) m;
 }

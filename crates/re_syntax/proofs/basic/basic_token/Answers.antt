@@ -1,4 +1,4 @@
-use Rattle.re_syntax.proofs.Prelude.{◌≡◌, ◌≢◌, ◌+◌, err_from_is_err_and, get_or, drop, refl, codes, rules, arith, Begins, HasNoTail, HasNoTimes}
+use Rattle.re_syntax.proofs.Prelude.{◌≡◌, ◌≢◌, err_from_is_err_and, get_or, drop, refl, codes, rules, arith, Begins, HasNoTail, HasNoTimes}
 use Rattle.re_syntax.specs.declared.tokens.ItemPlace.TheVariants.{First}
 use Rattle.re_syntax.specs.BasicTokens.{leads, trails, repeats, bracket, in_bracket}
 use Rattle.re_syntax.proofs.lemmas.BasicTokenReading.{dup_length, single}
@@ -13,13 +13,13 @@ returns-in-Some-clause-read c =
     times_stand found.0 found.1 (dup_length found.1.duplication) (repeats found.1.duplication)
 
 pub returns-in-Some-after_tail-clause-read : goal.returns-in-Some-after_tail-clause-read
-returns-in-Some-after_tail-clause-read c = let t = c.in-Some-after_tail.ensures in bytes_stand (codes "$") _ (omega arith) t.stands (trails t.last)
+returns-in-Some-after_tail-clause-read c = let t = c.in-Some-after_tail.ensures in bytes_stand _ (omega arith) t.stands (trails t.last)
 
 pub returns-in-Some-after_lead-clause-read : goal.returns-in-Some-after_lead-clause-read
-returns-in-Some-after_lead-clause-read c = let l = c.in-Some-after_lead.ensures in rw l.0 (bytes_stand (codes "^") _ (omega arith) l.1 leads)
+returns-in-Some-after_lead-clause-read c = let l = c.in-Some-after_lead.ensures in rw l.0 (bytes_stand _ (omega arith) l.1 leads)
 
 pub atom_at-requires : goal.atom_at-requires
-atom_at-requires c = byte_here c.args.text.now c.args.at 91 c.requires c.in-91.is
+atom_at-requires c = byte_here c.args.text.now c.args.at c.requires c.in-91.is
 
 pub returns-in_err-atom-in-91-clause-refused : goal.returns-in_err-atom-in-91-clause-refused
 returns-in_err-atom-in-91-clause-refused c =
@@ -37,6 +37,6 @@ returns-in_default-text-clause-read c =
     let no_lead : c.args.place ≡ First → ¬ Begins (codes "^") (drop c.args.at c.args.text.now) = search rules in
     let not_bracket : b ≢ 91 = search rules in
     let not_backslash : b ≢ 92 = search rules in
-    let front = front_here c.args.text.now c.args.at b c.requires refl in
-    byte_stands b _ c.requires refl
-    (rw c.meant_by.ensures (single c.args.in_group c.args.place b (drop (c.args.at + 1) c.args.text.now) (rw front at none) (rw front at no_tail) (λ q. rw front at (no_lead q)) not_bracket not_backslash))
+    let front = front_here c.args.text.now c.args.at c.requires refl in
+    byte_stands c.requires refl
+    (rw c.meant_by.ensures (single b (rw front at none) (rw front at no_tail) (λ q. rw front at (no_lead q)) not_bracket not_backslash))

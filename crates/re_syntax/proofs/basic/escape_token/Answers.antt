@@ -6,13 +6,13 @@ use Rattle.re_syntax.proofs.lemmas.TokenReading.{bytes_stand, escape_stands}
 use Rattle.re_syntax.proofs.basic.escape_token.Goals as goal
 
 pub returns-in-Some-clause-read : goal.returns-in-Some-clause-read
-returns-in-Some-clause-read c p = bytes_stand (codes "\\(") _ (omega arith) c.in-Some.ensures opens
+returns-in-Some-clause-read c p = bytes_stand _ (omega arith) c.in-Some.ensures opens
 
 pub returns-in-Some-after-clause-read : goal.returns-in-Some-after-clause-read
-returns-in-Some-after-clause-read c p = bytes_stand (codes "\\|") _ (omega arith) c.in-Some-after.ensures parts
+returns-in-Some-after-clause-read c p = bytes_stand _ (omega arith) c.in-Some-after.ensures parts
 
 pub returns-then-in_group-clause-read : goal.returns-then-in_group-clause-read
-returns-then-in_group-clause-read c p = rw c.if-in_group.true (bytes_stand (codes "\\)") _ (omega arith) c.in-Some-after-2.ensures closes)
+returns-then-in_group-clause-read c p = rw c.if-in_group.true (bytes_stand _ (omega arith) c.in-Some-after-2.ensures closes)
 
 pub returns-in-Some-after-2-clause-refused : goal.returns-in-Some-after-2-clause-refused
 returns-in-Some-after-2-clause-refused c p = record { within = c.requires.within; is_fault = rw (c.if-in_group.false, c.in-Some-after-2.ensures.front) unopened }

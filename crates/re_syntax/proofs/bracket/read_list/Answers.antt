@@ -16,7 +16,7 @@ pub returns-in_err-bytes-clause-refused : goal.returns-in_err-bytes-clause-refus
 returns-in_err-bytes-clause-refused c =
     let p = err_from_is_err_and c.from_residual-in_err-bytes.result c.from_residual-in_err-bytes.ensures.1 in
     let refused = rw c.loop-place-test.ensures.else_same at c.in_err-bytes.ensures.refused in
-    rw (p.1, p.2) (list_fault c.args.opening c.args.cursor.now c.loop-place.cursor c.loop-place.place _ c.loop-place.invariant.same_text c.loop-place.invariant.goes_on.fault refused)
+    rw (p.1, p.2) (list_fault c.args.opening c.args.cursor.now c.loop-place.cursor c.loop-place.place c.loop-place.invariant.same_text c.loop-place.invariant.goes_on.fault refused)
 
 pub loop-place-smaller : goal.loop-place-smaller
 loop-place-smaller c = element-shortens (rw c.loop-place-test.ensures.else_same at c.in_ok-bytes.ensures.read)

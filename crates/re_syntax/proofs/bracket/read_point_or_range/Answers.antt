@@ -21,12 +21,12 @@ returns-in_err-first-clause-refused c =
 pub returns-then-not-may_begin-clause-refused : goal.returns-then-not-may_begin-clause-refused
 returns-then-not-may_begin-clause-refused c =
     let past = c.in-Some.ensures.found in
-    stray_before c.args.opening c.args.place c.args.cursor.now c.skip_hyphen.new.cursor _ c.stray_hyphen.result _ (past.passes.same_text ∙ c.in_ok-first.ensures.same_text)
+    stray_before c.args.opening c.args.place c.args.cursor.now c.skip_hyphen.new.cursor c.stray_hyphen.result (past.passes.same_text ∙ c.in_ok-first.ensures.same_text)
     c.in_ok-first.ensures.read c.if-not-may_begin.ensures.0 past.passes.passed past.not_last c.if-not-may_begin.ensures.1 c.stray_hyphen.ensures
 
 pub returns-in_err-last-in-Some-clause-refused : goal.returns-in_err-last-in-Some-clause-refused
 returns-in_err-last-in-Some-clause-refused c =
     let p = err_from_is_err_and c.from_residual-in_err-last-in-Some.result c.from_residual-in_err-last-in-Some.ensures.1 in
     let past = c.in-Some.ensures.found in
-    rw (p.1, p.2) (range_before c.args.opening c.args.place c.args.cursor.now c.skip_hyphen.new.cursor _ _ _ (past.passes.same_text ∙ c.in_ok-first.ensures.same_text)
+    rw (p.1, p.2) (range_before c.args.opening c.args.cursor.now c.skip_hyphen.new.cursor _ (past.passes.same_text ∙ c.in_ok-first.ensures.same_text)
     c.requires.goes_on c.if-not-may_begin.ensures c.in_ok-first.ensures.read past.passes.passed past.not_last c.in_err-last-in-Some.ensures.refused)

@@ -1,17 +1,16 @@
 use Rattle.re_syntax.proofs.Prelude.{inl, inr, err_from_is_err_and}
 use Rattle.re_syntax.specs.BracketFaults.{no_end, of_class, descends}
-use Rattle.re_syntax.specs.Working.BracketSteps.{from_place}
 use Rattle.re_syntax.proofs.lemmas.BracketFaultsReading.{bad_range_at, fault_as}
 use Rattle.re_syntax.proofs.bracket.read_range_end.Goals as goal
 
 pub returns-then-skip-clause-refused : goal.returns-then-skip-clause-refused
 returns-then-skip-clause-refused c =
-    bad_range_at (from_place c.args.opening c.args.cursor.now) c.args.first c.args.cursor.now c.args.hyphen c.requires.hyphen_before (of_class (inl (_, c.if-skip.ensures.skipped.passed)))
+    bad_range_at c.args.cursor.now c.requires.hyphen_before (of_class (inl (_, c.if-skip.ensures.skipped.passed)))
 
 pub returns-then-skip-2-clause-refused : goal.returns-then-skip-2-clause-refused
 returns-then-skip-2-clause-refused c =
     let past = rw c.if-skip.ensures.else_same at c.if-skip-2.ensures.skipped in
-    bad_range_at (from_place c.args.opening c.args.cursor.now) c.args.first c.args.cursor.now c.args.hyphen c.requires.hyphen_before (of_class (inr (_, past.passed)))
+    bad_range_at c.args.cursor.now c.requires.hyphen_before (of_class (inr (_, past.passed)))
 
 pub returns-in_err-last-clause-refused : goal.returns-in_err-last-clause-refused
 returns-in_err-last-clause-refused c =
@@ -22,4 +21,4 @@ returns-in_err-last-clause-refused c =
 pub returns-then-last-first-clause-refused : goal.returns-then-last-first-clause-refused
 returns-then-last-first-clause-refused c =
     let point = rw (c.if-skip-2.ensures.else_same, c.if-skip.ensures.else_same) at c.in_ok-last.ensures.read in
-    bad_range_at (from_place c.args.opening c.args.cursor.now) c.args.first c.args.cursor.now c.args.hyphen c.requires.hyphen_before (descends point c.if-last-first.true)
+    bad_range_at c.args.cursor.now c.requires.hyphen_before (descends point c.if-last-first.true)

@@ -9,7 +9,7 @@ returns-in-Some c p n m =
     let cursor = c.args.cursor.now in
     let some : left cursor ≢ [] = λ e. (let f = sym c.in-Some.ensures.1 ∙ e in cc) in
     record {
-      within = hyphen_within cursor c.args.hyphen (left cursor) c.requires.hyphen_before;
+      within = hyphen_within cursor (left cursor) c.requires.hyphen_before;
       is_fault = subst (ElementFault (from_place c.args.opening cursor) p (codes "--" ++ left cursor) BadRange) (sym c.requires.hyphen_before) (stray n some m);
     }
 

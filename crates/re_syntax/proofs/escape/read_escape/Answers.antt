@@ -2,12 +2,12 @@ use Rattle.re_syntax.proofs.lemmas.EscapeLaws.{escape_stands, refused_escape, tr
 use Rattle.re_syntax.proofs.escape.read_escape.Goals as goal
 
 pub returns-in-None-clause-refused : goal.returns-in-None-clause-refused
-returns-in-None-clause-refused c = trailing_backslash c.args.others.now c.args.text.now c.args.at c.requires c.in-None.ensures
+returns-in-None-clause-refused c = trailing_backslash c.args.others.now c.args.at c.requires c.in-None.ensures
 
 pub returns-in-None-escape_fault-clause-read : goal.returns-in-None-escape_fault-clause-read
 returns-in-None-escape_fault-clause-read c =
-    escape_stands c.args.others.now c.args.text.now c.args.at c.in-Some.byte c.requires c.in-Some.ensures c.in-None-escape_fault.ensures
+    escape_stands c.requires c.in-Some.ensures c.in-None-escape_fault.ensures
 
 pub returns-in-Some-escape_fault-clause-refused : goal.returns-in-Some-escape_fault-clause-refused
 returns-in-Some-escape_fault-clause-refused c =
-    refused_escape c.args.others.now c.args.text.now c.args.at c.in-Some.byte c.in-Some-escape_fault.kind c.requires c.in-Some.ensures c.in-Some-escape_fault.ensures
+    refused_escape c.args.others.now c.args.at c.in-Some.byte c.in-Some-escape_fault.kind c.requires c.in-Some.ensures c.in-Some-escape_fault.ensures

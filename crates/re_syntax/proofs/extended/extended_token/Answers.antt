@@ -1,4 +1,4 @@
-use Rattle.re_syntax.proofs.Prelude.{err_from_is_err_and, ◌≢◌, ◌+◌, get_or, drop, refl, rules, OpensDuplication}
+use Rattle.re_syntax.proofs.Prelude.{err_from_is_err_and, ◌≢◌, get_or, drop, refl, rules, OpensDuplication}
 use Rattle.re_syntax.specs.ExtendedTokens.{in_bracket}
 use Rattle.re_syntax.specs.ExtendedTokens.{opens, parts, leads, repeats, bracket, dollar}
 use Rattle.re_syntax.proofs.lemmas.BracketFaultsReading.{fault_as}
@@ -13,7 +13,7 @@ returns-in-Some-clause-read c =
     times_stand found.0 found.1 (dup_length found.1.duplication) (repeats found.1.duplication)
 
 pub atom_at-requires : goal.atom_at-requires
-atom_at-requires c = byte_here c.args.text.now c.args.at 91 c.requires c.in-91.is
+atom_at-requires c = byte_here c.args.text.now c.args.at c.requires c.in-91.is
 
 pub returns-in_err-atom-in-91-clause-refused : goal.returns-in_err-atom-in-91-clause-refused
 returns-in_err-atom-in-91-clause-refused c =
@@ -24,16 +24,16 @@ pub returns-in_ok-atom-in-91-clause-read : goal.returns-in_ok-atom-in-91-clause-
 returns-in_ok-atom-in-91-clause-read c = bracket_stands _ c.in_ok-atom-in-91.ensures.read (bracket c.in_ok-atom-in-91.ensures.read.stands)
 
 pub returns-in-40-clause-read : goal.returns-in-40-clause-read
-returns-in-40-clause-read c = byte_stands 40 _ c.requires c.in-40.is opens
+returns-in-40-clause-read c = byte_stands c.requires c.in-40.is opens
 
 pub returns-in-124-clause-read : goal.returns-in-124-clause-read
-returns-in-124-clause-read c = byte_stands 124 _ c.requires c.in-124.is parts
+returns-in-124-clause-read c = byte_stands c.requires c.in-124.is parts
 
 pub returns-in-94-clause-read : goal.returns-in-94-clause-read
-returns-in-94-clause-read c = byte_stands 94 _ c.requires c.in-94.is leads
+returns-in-94-clause-read c = byte_stands c.requires c.in-94.is leads
 
 pub returns-in-36-clause-read : goal.returns-in-36-clause-read
-returns-in-36-clause-read c = byte_stands 36 _ c.requires c.in-36.is dollar
+returns-in-36-clause-read c = byte_stands c.requires c.in-36.is dollar
 
 pub returns-in_default-text-clause-read : goal.returns-in_default-text-clause-read
 returns-in_default-text-clause-read c =
@@ -45,6 +45,6 @@ returns-in_default-text-clause-read c =
     let not_dollar : b ≢ 36 = search rules in
     let not_bar : b ≢ 124 = search rules in
     let not_caret : b ≢ 94 = search rules in
-    byte_stands b _ c.requires refl
+    byte_stands c.requires refl
     (rw c.single_token.ensures
-    (single c.args.in_group c.args.place b (drop (c.args.at + 1) c.args.text.now) (rw (front_here c.args.text.now c.args.at b c.requires refl) at none) not_bracket not_backslash not_group not_dollar not_bar not_caret))
+    (single b (rw (front_here c.args.text.now c.args.at c.requires refl) at none) not_bracket not_backslash not_group not_dollar not_bar not_caret))

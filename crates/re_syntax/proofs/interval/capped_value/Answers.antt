@@ -7,5 +7,5 @@ loop-digit-preserved c =
     let v = c.loop-digit.value in
     let w = value (take c.loop-digit.digit-index c.args.digits.now) in
     let d = get_or c.args.digits.now c.loop-digit.digit-index 0 - 48 in
-    c.min-value.ensures ∙ ap (λ r. min (10 * v + r) 256) c.from.ensures ∙ capped-step v w d c.loop-digit.invariant
+    c.min-value.ensures ∙ ap (λ r. min (10 * v + r) 256) c.from.ensures ∙ capped-step w d c.loop-digit.invariant
     ∙ sym (ap capped (value_after-take 0 c.args.digits.now c.loop-digit.digit-index c.loop-digit-test.true))

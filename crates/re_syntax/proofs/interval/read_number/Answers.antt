@@ -4,5 +4,5 @@ use Rattle.re_syntax.proofs.interval.read_number.Goals as goal
 
 pub returns : goal.returns
 returns c =
-    number_stands c.args.text.now c.args.at c.digit_count-count.result c.capped_value.result c.requires (rw take_rest at c.digit_count-count.ensures) (omega arith)
-    (c.capped_value.ensures ∙ ap (λ n. capped (value (take n (drop c.args.at c.args.text.now)))) (same_front c.args.at c.digit_count-count.result))
+    number_stands c.requires (rw take_rest at c.digit_count-count.ensures) (omega arith)
+    (c.capped_value.ensures ∙ ap (λ n. capped (value (take n (drop c.args.at c.args.text.now)))) (same_front c.args.at))

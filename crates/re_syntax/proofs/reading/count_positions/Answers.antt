@@ -26,6 +26,6 @@ returns-clause-counted c =
     let level = (build_all done nothing_built).level in
     record {
       expression = choice (branches_of level);
-      spelled = built_spelled c.args.syntax c.args.text.now done cut;
+      spelled = built_spelled cut;
       counted = count ∙ ap up_to_word (sym (positions-choice (branches_of level) ∙ positions-branches level));
     }

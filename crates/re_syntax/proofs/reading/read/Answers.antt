@@ -18,7 +18,7 @@ returns-in_err-token-clause-refused c =
 pub tokens-preserved : goal.tokens-preserved
 tokens-preserved c =
     let (done, r, b) = c.tokens.invariant in
-    (_, c.in_ok-token.ensures.read done r, builds_more done _ c.tokens.building _ b c.in_ok-build.ensures.built)
+    (_, c.in_ok-token.ensures.read done r, builds_more done b c.in_ok-build.ensures.built)
 
 pub returns-in_err-positions-clause-refused : goal.returns-in_err-positions-clause-refused
 returns-in_err-positions-clause-refused c =
@@ -30,7 +30,7 @@ pub returns-clause-read : goal.returns-clause-read
 returns-clause-read c =
     let (done, r, b) = c.tokens.invariant in
     let cut = (c.in_ok-positions.ensures.whole.ends c.args.syntax c.args.text.now done (at_end r c.tokens-test.false)).0 in
-    subst (IsSpelled c.args.syntax c.args.text.now) (sym (c.in_ok-tree.ensures.made (build_all done nothing_built).level b.level)) (built_spelled c.args.syntax c.args.text.now done cut)
+    subst (IsSpelled c.args.syntax c.args.text.now) (sym (c.in_ok-tree.ensures.made (build_all done nothing_built).level b.level)) (built_spelled cut)
 
 pub returns-clause-only : goal.returns-clause-only
 returns-clause-only c other spelled = spells_one c.args.text.now c.args.syntax other _ spelled (returns-clause-read c)

@@ -16,4 +16,4 @@ pub returns-in-Extended-clause-refused : goal.returns-in-Extended-clause-refused
 returns-in-Extended-clause-refused c = rw c.in-Extended.is c.extended_token.ensures.refused
 
 pub returns-in-Fixed-clause-read : goal.returns-in-Fixed-clause-read
-returns-in-Fixed-clause-read c = rw c.in-Fixed.is (byte_stands _ _ c.requires refl (rw c.only.ensures (one_byte _)))
+returns-in-Fixed-clause-read c = rw c.in-Fixed.is (byte_stands c.requires refl (rw c.only.ensures (one_byte _)))

@@ -4,9 +4,9 @@ use Rattle.re_syntax.proofs.shape.repeat.Goals as goal
 
 pub returns-then-shape-len-ge-MOST_LEVELS-clause-refused : goal.returns-then-shape-len-ge-MOST_LEVELS-clause-refused
 returns-then-shape-len-ge-MOST_LEVELS-clause-refused c =
-    item_refused c.args.at c.args.shape.now c.too_deep.result c.len.result c.args.counts.least c.args.counts.most c.len.ensures.value c.if-shape-len-ge-MOST_LEVELS.true c.too_deep.ensures
+    item_refused c.args.counts.least c.args.counts.most c.len.ensures.value c.if-shape-len-ge-MOST_LEVELS.true c.too_deep.ensures
 
 pub returns-clause-read : goal.returns-clause-read
 returns-clause-read c =
-    item_taken c.args.at _ c.saturating_mul-shape.result c.args.shape.now _ c.args.counts.least c.args.counts.most c.len.ensures.value c.if-shape-len-ge-MOST_LEVELS.false
+    item_taken c.args.counts.least c.args.counts.most c.len.ensures.value c.if-shape-len-ge-MOST_LEVELS.false
     (c.saturating_mul-shape.ensures ∙ ap (λ n. up_to_word (n * c.args.shape.now.item)) c.copies_of.ensures) refl refl c.max-shape.ensures refl refl refl

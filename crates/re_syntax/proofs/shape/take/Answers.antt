@@ -3,11 +3,11 @@ use Rattle.re_syntax.specs.Working.TokenSteps.{atom_expression}
 use Rattle.re_syntax.proofs.shape.take.Goals as goal
 
 pub returns-in-Bar-clause-read : goal.returns-in-Bar-clause-read
-returns-in-Bar-clause-read c = rw c.in-Bar.is (bar_taken c.args.at c.args.shape.now _ c.go_on.ensures)
+returns-in-Bar-clause-read c = rw c.in-Bar.is (bar_taken c.go_on.ensures)
 
 pub returns-in-Lead-clause-read : goal.returns-in-Lead-clause-read
-returns-in-Lead-clause-read c = rw c.in-Lead.is (lead_taken c.args.at c.args.shape.now _ c.go_on-in-Lead.ensures)
+returns-in-Lead-clause-read c = rw c.in-Lead.is (lead_taken c.go_on-in-Lead.ensures)
 
 pub returns-in-Atom-clause-read : goal.returns-in-Atom-clause-read
 returns-in-Atom-clause-read c =
-    rw c.in-Atom.is (atom_taken c.args.at c.positions_of.result (atom_expression c.in-Atom.atom) c.args.shape.now _ c.positions_of.ensures.counted c.positions_of.ensures.few c.go_on-in-Atom.ensures)
+    rw c.in-Atom.is (atom_taken (atom_expression c.in-Atom.atom) c.positions_of.ensures.counted c.positions_of.ensures.few c.go_on-in-Atom.ensures)
