@@ -82,7 +82,7 @@ enum { GAXTREL_OK = 0, GAXTREL_REFUSED = 1, GAXTREL_NO_MEMORY = 2, GAXTREL_NO_SY
 
 enum { GAXTREL_NO_STATES = 3, GAXTREL_NO_SESSION = 3 };
 
-enum { GAXTREL_NO = 0, GAXTREL_YES = 1, GAXTREL_MISUSED = 3 };
+enum { GAXTREL_NO = 0, GAXTREL_YES = 1, GAXTREL_MISUSED = 3, GAXTREL_JOINED = 4 };
 
 enum {
     GAXTREL_UNCLOSED_BRACKET = 1,
@@ -130,6 +130,11 @@ uint32_t gaxtrel_compile(gaxtrel_matcher *matcher, const uint8_t *pattern, size_
 uint32_t gaxtrel_compile_lines(gaxtrel_matcher *matcher, const uint8_t *patterns, size_t length,
                                uint32_t syntax, bool fold, bool whole, gaxtrel_fault *fault);
 
+/* The same, but each pattern is kept apart, so that gaxtrel_which can say which ones match a line.
+   Where there are many other searches take longer. */
+uint32_t gaxtrel_compile_each(gaxtrel_matcher *matcher, const uint8_t *patterns, size_t length,
+                              uint32_t syntax, bool fold, bool whole, gaxtrel_fault *fault);
+
 /* Frees what `matcher` holds. It then holds none, and may be used again. */
 void gaxtrel_free(gaxtrel_matcher *matcher);
 
@@ -139,6 +144,13 @@ void gaxtrel_free(gaxtrel_matcher *matcher);
 
 /* Whether the line is matched. At most p * (length + 1). */
 uint32_t gaxtrel_is_match(gaxtrel_matcher *matcher, const uint8_t *line, size_t length);
+
+/* Which patterns match the line: how many there are goes to `count`, and the numbers of the first
+   ones, counted from 0 and ascending, to `numbers`, which has room for `room`. `matcher` is one of
+   gaxtrel_compile or gaxtrel_compile_each; else it answers GAXTREL_JOINED, and nothing is written.
+   At most p * (length + 1). */
+uint32_t gaxtrel_which(gaxtrel_matcher *matcher, const uint8_t *line, size_t length, size_t *numbers,
+                       size_t room, size_t *count);
 
 /* The next part of the line: of the matched stretches that are not empty and begin at `from` or
    later the one that begins earliest, and of those that begin there the longest. `part` is written

@@ -1,5 +1,5 @@
 -- What is found of a search that serves for another is found for that.
-use Rattle.std.proofs.Common.{◌≡◌, ◌∙◌, ℕ, ◌+◌, ◌↔◌, List, Option, None, Some, length, refl, sym, ap, subst, arith}
+use Rattle.std.proofs.Common.{◌≡◌, ◌∙◌, ℕ, ◌+◌, ◌↔◌, Bool, true, List, Option, None, Some, length, map, refl, sym, ap, subst, arith}
 use Rattle.re_syntax.specs.Bytes.{Text}
 use Rattle.re_syntax.specs.Parts.{ArePartsFrom}
 use Rattle.re_trees.specs.declared.span.Span.{Span}
@@ -13,24 +13,25 @@ use Rattle.grep_core.proofs.lemmas.SameChoice.{Any-Matches, ArePartsFrom-same, I
 use Rattle.gaxtrel.specs.declared.held.Held.{Held}
 use Rattle.gaxtrel.specs.declared.held.Held.TheVariants.{Patterns}
 use Rattle.gaxtrel.specs.Held.{IsFor, patterns_in}
-use Rattle.gaxtrel.specs.Kept.{Kept, Serves, sought_in}
-use Rattle.gaxtrel.specs.Calls.{FindsLine, PutsParts, line_cost}
+use Rattle.gaxtrel.specs.Kept.{Kept, Serves, Stays, sought_in}
+use Rattle.gaxtrel.specs.Calls.{FindsLine, PutsNumbers, PutsParts, line_cost}
 use Rattle.gaxtrel.specs.declared.part.GaxtrelPart.{GaxtrelPart}
 
 -- a search serves for itself
-pub serves_itself : (asked sought : Sought) → asked ≡ sought → Serves asked sought
-serves_itself asked sought is = subst (Serves asked) is (record { same = λ line i j. (λ a. a, λ a. a); fewer = omega arith; whole = refl })
+pub serves_itself : (apart : Bool) (asked sought : Sought) → asked ≡ sought → Serves apart asked sought
+serves_itself apart asked sought is = subst (Serves apart asked) is (record { same = λ line i j. (λ a. a, λ a. a); fewer = omega arith; whole = refl; each = λ _. refl })
 
 -- what was taken out serves for what is searched for, and so does what is held after a call
-pub served : (held : Option Held) (sought : Sought) → IsFor held sought → (boxed now : Held) (kept : Kept) → held ≡ Some boxed → now ≡ boxed → now ≡ Patterns kept
-    → Serves (sought_in kept) sought × ((after : Option Held) (last : Kept) → after ≡ Some (Patterns last) → sought_in last ≡ sought_in kept → IsFor after sought)
-served held sought is boxed now kept taken value kind =
+pub served : (apart : Bool) (held : Option Held) (sought : Sought) → IsFor apart held sought → (boxed now : Held) (kept : Kept) → held ≡ Some boxed → now ≡ boxed → now ≡ Patterns kept
+    → Serves apart (sought_in kept) sought × ((after : Option Held) (last : Kept) → after ≡ Some (Patterns last) → Stays kept last → IsFor apart after sought) × (kept.apart ≡ apart)
+served apart held sought is boxed now kept taken value kind =
     let both : Some is.kept ≡ Some kept = sym is.is_there ∙ ap patterns_in (taken ∙ ap Some (sym value ∙ kind)) in
     let same : is.kept ≡ kept = cc both in
-    let serves = subst (λ (k : Kept). Serves (sought_in k) sought) same is.serves in
-    (serves, λ after last holds stays. record { kept = last; is_there = ap patterns_in holds; serves = subst (λ s. Serves s sought) (sym stays) serves })
+    let serves = subst (λ (k : Kept). Serves apart (sought_in k) sought) same is.serves in
+    let now_apart = subst (λ (k : Kept). k.apart ≡ apart) same is.is_apart in
+    (serves, (λ after last holds stays. record { kept = last; is_there = ap patterns_in holds; is_apart = stays.1 ∙ now_apart; serves = subst (λ s. Serves apart s sought) (sym stays.0) serves }), now_apart)
 
-module _ (asked sought : Sought) (serves : Serves asked sought) where
+module _ {apart : Bool} (asked sought : Sought) (serves : Serves apart asked sought) where
   is_here : (line : Text) → IsSought asked line → IsSought sought line
   is_here line is = subst (SomeMatches sought.expressions line) serves.whole (Any-Matches asked.expressions sought.expressions serves.same line asked.whole is)
 
@@ -45,7 +46,12 @@ module _ (asked sought : Sought) (serves : Serves asked sought) where
   part_served line from (Some s) part = subst (λ w. FindsPart sought.expressions line w from (Some s)) serves.whole (IsPart-same asked.expressions sought.expressions serves.same line asked.whole from s.start s.end part)
 
   pub parts_served : (line : Text) (from : ℕ) (old new : List GaxtrelPart) (count : ℕ) → PutsParts asked line from old new count → PutsParts sought line from old new count
-  parts_served line from old new count (all, are, long, put) = (all, subst (λ w. ArePartsFrom sought.expressions line w from all) serves.whole (ArePartsFrom-same asked.expressions sought.expressions serves.same line asked.whole from all are), long, put)
+  parts_served line from old new count (all, are, long, put) =
+      let places = map (λ (part : GaxtrelPart). (part.start, part.end)) all in
+      (all, subst (λ w. ArePartsFrom sought.expressions line w from places) serves.whole (ArePartsFrom-same asked.expressions sought.expressions serves.same line asked.whole from places are), long, put)
+
+  pub numbers_served : apart ≡ true → (line : Text) (old new : List ℕ) (count : ℕ) → PutsNumbers asked line old new count → PutsNumbers sought line old new count
+  numbers_served is line old new count = subst (λ (s : Sought). PutsNumbers s line old new count) (λ i. record { expressions = serves.each is i; whole = serves.whole i })
 
   pub count_served : (lines : List Text) (count : ℕ) → CountsSought asked lines count → CountsSought sought lines count
   count_served lines count counts = counts_same (IsSought asked) (IsSought sought) is_here is_there lines count counts

@@ -2,7 +2,9 @@
 //! `gaxtrel.h`.
 #![tactic(auto)]
 
+mod array;
 mod compile;
+mod each;
 mod handle;
 mod held;
 mod holder;
@@ -17,6 +19,7 @@ mod session;
 mod text_reader;
 mod text_search;
 mod version;
+mod which;
 mod work;
 
 pub use holder::GaxtrelHolder;
