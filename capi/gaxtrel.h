@@ -63,6 +63,14 @@ typedef struct gaxtrel_part {
     size_t end;
 } gaxtrel_part;
 
+/* A line of a text: from its first byte to the byte after its last, without its newline; and its
+   number, or 2^64 - 1 for a greater one. */
+typedef struct gaxtrel_line {
+    size_t start;
+    size_t end;
+    uint64_t number;
+} gaxtrel_line;
+
 /* What the library was compiled for: no other machine, and no option that packs structs. */
 #if defined __cplusplus && __cplusplus >= 201103L
 #define GAXTREL_HOLDS static_assert
@@ -71,7 +79,7 @@ typedef struct gaxtrel_part {
 #endif
 #ifdef GAXTREL_HOLDS
 GAXTREL_HOLDS(sizeof(gaxtrel_matcher) == 40 && sizeof(gaxtrel_session) == 40 && sizeof(gaxtrel_fault) == 24 &&
-                  sizeof(gaxtrel_part) == 16,
+                  sizeof(gaxtrel_part) == 16 && sizeof(gaxtrel_line) == 24,
               "libgaxtrel has structs of other sizes");
 #undef GAXTREL_HOLDS
 #endif
@@ -172,6 +180,14 @@ uint32_t gaxtrel_parts(gaxtrel_matcher *matcher, const uint8_t *line, size_t len
    there is no such line p * (length + 1). */
 uint32_t gaxtrel_next_line(gaxtrel_matcher *matcher, const uint8_t *text, size_t length, size_t from,
                            gaxtrel_part *line);
+
+/* The matched lines of what is left of a text from `from` on, where the line `number` begins: the
+   first ones go to `lines`, which has room for `room`, and how many these are to `count`. The next
+   call is from `lines[count - 1].end + 1` with `lines[count - 1].number + 1`, if `count` is `room`;
+   else they are all. At most p * (lines[count - 1].end + 1 - from), or where they are all
+   p * (length + 1 - from), and none if `room` is 0. */
+uint32_t gaxtrel_lines(gaxtrel_matcher *matcher, const uint8_t *text, size_t length, size_t from,
+                       uint64_t number, gaxtrel_line *lines, size_t room, size_t *count);
 
 /* How many lines of a text are matched goes to `count`. At most p * (length + 1). */
 uint32_t gaxtrel_count_lines(gaxtrel_matcher *matcher, const uint8_t *text, size_t length,

@@ -199,6 +199,40 @@ static int lines(void) {
     return 0;
 }
 
+/* The lines of a text at once, with their numbers. */
+static int numbered_lines(void) {
+    gaxtrel_matcher m = GAXTREL_NONE;
+    gaxtrel_fault fault;
+    gaxtrel_line found[4] = {{90, 91, 92}, {90, 91, 92}, {90, 91, 92}, {90, 91, 92}};
+    size_t count = 77;
+    static const uint8_t text[] = "xa\nab\n\nxyz\nzx\nbz";
+    CHECK(130, gaxtrel_lines(&m, P("x"), 0, 1, found, 4, &count) == GAXTREL_MISUSED && count == 77);
+    CHECK(131, gaxtrel_compile_lines(&m, P("^a\nz$"), GAXTREL_BASIC, false, false, &fault) == GAXTREL_OK);
+    CHECK(132, gaxtrel_lines(&m, text, sizeof text - 1, 0, 1, found, 4, &count) == GAXTREL_YES && count == 3);
+    CHECK(133, found[0].start == 3 && found[0].end == 5 && found[0].number == 2);
+    CHECK(134, found[1].start == 7 && found[1].end == 10 && found[1].number == 4);
+    CHECK(135, found[2].start == 14 && found[2].end == 16 && found[2].number == 6 && found[3].start == 90);
+    CHECK(136, steps(&m) <= 2 * 17 && m.work.passed <= 2 * 17);
+    /* as far as there is room, and on from there */
+    CHECK(137, gaxtrel_lines(&m, text, sizeof text - 1, 0, 1, found, 1, &count) == GAXTREL_YES && count == 1);
+    CHECK(138, found[0].start == 3 && found[1].start == 7 && steps(&m) <= 2 * 6 && m.work.passed <= 2 * 6);
+    CHECK(139, gaxtrel_lines(&m, text, sizeof text - 1, 6, 3, found + 1, 1, &count) == GAXTREL_YES && count == 1);
+    CHECK(140, found[1].start == 7 && found[1].number == 4 && steps(&m) <= 2 * 5 && m.work.passed <= 2 * 5);
+    CHECK(141, gaxtrel_lines(&m, text, sizeof text - 1, 11, UINT64_MAX, found, 4, &count) == GAXTREL_YES && count == 1);
+    CHECK(142, found[0].start == 14 && found[0].end == 16 && found[0].number == UINT64_MAX && found[1].start == 7);
+    CHECK(143, gaxtrel_lines(&m, text, sizeof text - 1, 17, 7, found, 4, &count) == GAXTREL_NO && count == 0);
+    CHECK(144, gaxtrel_lines(&m, text, sizeof text - 1, SIZE_MAX, 7, found, 4, &count) == GAXTREL_NO && count == 0);
+    CHECK(145, gaxtrel_lines(&m, text, sizeof text - 1, 0, 1, found, 0, &count) == GAXTREL_NO && count == 0);
+    CHECK(146, steps(&m) + m.work.passed == 0 && found[0].start == 14);
+    /* each line is matched, and empty */
+    CHECK(147, gaxtrel_compile(&m, P(""), GAXTREL_BASIC, false, false, &fault) == GAXTREL_OK);
+    CHECK(148, gaxtrel_lines(&m, P("\n\na"), 0, 1, found, 4, &count) == GAXTREL_YES && count == 3);
+    CHECK(149, found[0].end == 0 && found[1].start == 1 && found[1].number == 2 && found[2].start == 2);
+    CHECK(150, found[2].end == 3 && found[2].number == 3 && found[3].start == 90);
+    gaxtrel_free(&m);
+    return 0;
+}
+
 /* Patterns that take others time beyond the line: no more than a step a byte and one more. */
 static int hostile(void) {
     static const char *const patterns[] = {
@@ -234,6 +268,7 @@ int main(void) {
     if (!failed) failed = which();
     if (!failed) failed = parts();
     if (!failed) failed = lines();
+    if (!failed) failed = numbered_lines();
     if (!failed) failed = hostile();
     if (!failed) puts("each call answers as it has to");
     return failed;

@@ -5,6 +5,7 @@ pub mod HandleValues
 pub mod ArrayLemmas
 pub mod WhichLemmas
 pub mod TextLemmas
+pub mod LineLemmas
 pub mod KeptLemmas
 pub mod ServedLemmas
 pub mod CommandLemmas

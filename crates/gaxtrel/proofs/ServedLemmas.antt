@@ -1,6 +1,7 @@
 -- What is found of a search that serves for another is found for that.
-use Rattle.std.proofs.Common.{◌≡◌, ◌∙◌, ℕ, ◌+◌, ◌↔◌, Bool, true, List, Option, None, Some, length, map, refl, sym, ap, subst, arith}
+use Rattle.std.proofs.Common.{◌≡◌, ◌∙◌, ℕ, ◌+◌, ◌↔◌, Bool, true, List, [], ◌∷◌, inl, inr, Option, None, Some, length, drop, map, refl, sym, ap, subst, arith}
 use Rattle.re_syntax.specs.Bytes.{Text}
+use Rattle.re_syntax.specs.Lines.{lines_of}
 use Rattle.re_syntax.specs.Parts.{ArePartsFrom}
 use Rattle.re_trees.specs.declared.span.Span.{Span}
 use Rattle.re_meter.specs.Meters.{Steps, AddsAtMost}
@@ -14,8 +15,9 @@ use Rattle.gaxtrel.specs.declared.held.Held.{Held}
 use Rattle.gaxtrel.specs.declared.held.Held.TheVariants.{Patterns}
 use Rattle.gaxtrel.specs.Held.{IsFor, patterns_in}
 use Rattle.gaxtrel.specs.Kept.{Kept, Serves, Stays, sought_in}
-use Rattle.gaxtrel.specs.Calls.{FindsLine, PutsNumbers, PutsParts, line_cost}
+use Rattle.gaxtrel.specs.Calls.{AreLines, FindsLine, PutsLines, PutsNumbers, PutsParts, line_cost}
 use Rattle.gaxtrel.specs.declared.part.GaxtrelPart.{GaxtrelPart}
+use Rattle.gaxtrel.specs.declared.text_lines.GaxtrelLine.{GaxtrelLine}
 
 -- a search serves for itself
 pub serves_itself : (apart : Bool) (asked sought : Sought) → asked ≡ sought → Serves apart asked sought
@@ -58,6 +60,21 @@ module _ {apart : Bool} (asked sought : Sought) (serves : Serves apart asked sou
 
   pub cost_served : (text : Text) (old new : Steps) → AddsAtMost (line_cost (length asked.expressions) text) old new → AddsAtMost (line_cost (length sought.expressions) text) old new
   cost_served text old new few = adds_for_more (length asked.expressions) (length sought.expressions) (length text + 1) old new serves.fewer few
+
+  same_lines : (lines : List Text) (at number : ℕ) (all : List GaxtrelLine) → AreLines asked lines at number all → AreLines sought lines at number all
+  same_lines [] at number all none = none
+  same_lines (line ∷ lines) at number all (inl (holds, (more, is, are))) = inl (is_here line holds, (more, is, same_lines lines (at + length line + 1) (number + 1) more are))
+  same_lines (line ∷ lines) at number all (inr (not, are)) = inr ((λ h. not (is_there line h)), same_lines lines (at + length line + 1) (number + 1) all are)
+
+  pub lines_served : (text : Text) (from number count : ℕ) (old new : List GaxtrelLine) (begun ended : Steps) → PutsLines asked text from number old new count begun ended → PutsLines sought text from number old new count begun ended
+  lines_served text from number count old new begun ended puts = record {
+    all = puts.all;
+    are = same_lines (lines_of (drop from text)) from number puts.all puts.are;
+    counted = puts.counted;
+    put = puts.put;
+    few = adds_for_more (length asked.expressions) (length sought.expressions) _ begun ended serves.fewer puts.few;
+    fewer = λ full. adds_for_more (length asked.expressions) (length sought.expressions) _ begun ended serves.fewer (puts.fewer full);
+  }
 
   pub next_served : (text : Text) (from : ℕ) (place : Option Span) (old new : Steps) → FindsLine asked text from place old new → FindsLine sought text from place old new
   next_served text from place old new finds = record {

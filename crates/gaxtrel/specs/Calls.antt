@@ -1,5 +1,5 @@
 -- What the calls of the library take and answer.
-use Rattle.std.specs.Prelude.{◌≡◌, ℕ, ◌+◌, ◌*◌, ◌⊎◌, Bool, List, [], ◌∷◌, Option, Some, None, drop, length, map}
+use Rattle.std.specs.Prelude.{◌≡◌, ℕ, ◌+◌, ◌-◌, ◌*◌, ◌^◌, ◌⊎◌, Bool, List, [], ◌∷◌, Option, Some, None, drop, length, map, min}
 use Rattle.re_syntax.specs.Bytes.{Text}
 use Rattle.re_syntax.specs.declared.syntax.Syntax.{Syntax}
 use Rattle.re_syntax.specs.declared.syntax.Syntax.TheVariants as s
@@ -12,10 +12,11 @@ use Rattle.re_syntax.specs.Lines.{lines_of}
 use Rattle.re_syntax.specs.Parts.{ArePartsFrom}
 use Rattle.re_syntax.specs.Profile.{most_patterns}
 use Rattle.re_meter.specs.Meters.{Steps, AddsAtMost, fresh}
-use Rattle.re_search.specs.Working.Sought.{FindsSought, Sought}
+use Rattle.re_search.specs.Working.Sought.{FindsSought, IsSought, Sought}
 use Rattle.gaxtrel.specs.declared.held.Held.{Held}
 use Rattle.gaxtrel.specs.declared.numbers.GaxtrelFault.{GaxtrelFault}
 use Rattle.gaxtrel.specs.declared.part.GaxtrelPart.{GaxtrelPart}
+use Rattle.gaxtrel.specs.declared.text_lines.GaxtrelLine.{GaxtrelLine}
 use Rattle.gaxtrel.specs.declared.work.GaxtrelWork.{GaxtrelWork}
 
 -- the version: 1,000,000 times its first number, 1,000 times its second, and its third
@@ -133,3 +134,33 @@ pub record FindsLine (sought : Sought) (text : Text) (from : ℕ) (place : Optio
   pub finds : FindsSought sought (lines_of (drop from text)) found
   pub is_place : place ≡ moved from found
   pub few : AddsAtMost (length sought.expressions * bytes_to_next (drop from text) found) old new
+
+-- a line; its number is at most 2^64 - 1
+abbrev pub line_at : ℕ → ℕ → ℕ → GaxtrelLine
+line_at start end number = record { start = start; end = end; number = min number (2 ^ 64 - 1) }
+
+-- the matched lines of a text that begins at a place, its first line with a number
+abbrev pub AreLines : Sought → List Text → ℕ → ℕ → List GaxtrelLine → Type 0
+AreLines sought [] at number lines = lines ≡ []
+AreLines sought (text ∷ texts) at number lines =
+    (IsSought sought text
+    × ((more : List GaxtrelLine) × (lines ≡ line_at at (at + length text) number ∷ more)
+    × AreLines sought texts (at + length text + 1) (number + 1) more))
+    ⊎ ((IsSought sought text → ⊥) × AreLines sought texts (at + length text + 1) (number + 1) lines)
+
+-- the place after these lines, of which the first is searched for from a place on
+abbrev pub after_lines : ℕ → List GaxtrelLine → ℕ
+after_lines from [] = from
+after_lines from (line ∷ lines) = after_lines (line.end + 1) lines
+
+-- so many matched lines of a text from a place on were written over an array: all, or as many as
+-- there is room for, and then nothing after these was searched
+pub record PutsLines (sought : Sought) (text : Text) (from number : ℕ) (old new : List GaxtrelLine)
+    (count : ℕ) (begun ended : Steps) : Type 0 where
+  pub all : List GaxtrelLine
+  pub are : AreLines sought (lines_of (drop from text)) from number all
+  pub counted : count ≡ min (length old) (length all)
+  pub put : new ≡ put_over all old
+  pub few : AddsAtMost (length sought.expressions * (length (drop from text) + 1)) begun ended
+  pub fewer : count ≡ length old →
+      AddsAtMost (length sought.expressions * (after_lines from new - from)) begun ended

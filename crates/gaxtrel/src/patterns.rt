@@ -11,11 +11,12 @@ ghost use Rattle.re_search.specs.Reading.{IsOutOfMemory, IsReadable, IsRefusedFo
 ghost use Rattle.re_search.specs.Working.Sought.{CountsSought, IsSought};
 ghost use Rattle.grep_core.specs.Matchers.{IsFirstRefused};
 ghost use Rattle.gaxtrel.specs.Kept.{Serves, Stays, expressions_in, sought_in};
-ghost use Rattle.gaxtrel.specs.Calls.{FindsLine, PutsNumbers, PutsParts, line_cost};
+ghost use Rattle.gaxtrel.specs.Calls.{FindsLine, PutsLines, PutsNumbers, PutsParts, line_cost};
 
 use crate::each::{NO_MEMORY, STATES, add, matchers_of};
 use crate::line_parts::put_parts;
 use crate::part::GaxtrelPart;
+use crate::text_lines::{GaxtrelLine, put_lines};
 use crate::text_search::{count_in_text, next_in_text};
 use crate::which::put_numbers;
 use grep_core::Options;
@@ -253,6 +254,24 @@ impl Patterns {
             start: from + at.start,
             end: from + at.end,
         })
+    }
+
+    /// How many lines of a text from a place on were written over the array: the first ones that
+    /// some pattern matches, as many as it has room for. The line at that place has a number.
+    pub(crate) fn lines(
+        &mut self,
+        text: &[u8],
+        from: usize,
+        number: u64,
+        lines: &mut [GaxtrelLine],
+        meter: &mut Meter,
+    ) -> usize
+        ensures put { PutsLines (sought_in self.old) text.now from number lines.old lines.new result
+            meter.old meter.new }
+        ensures same { Stays self.old self.new }
+    {
+        let whole = self.whole;
+        put_lines(&mut self.matchers, whole, text, from, number, lines, meter)
     }
 
     /// How many lines of a text some pattern matches.

@@ -6,19 +6,21 @@ ghost use Rattle.re_meter.specs.Meters.{AddsAtMost, fresh};
 ghost use Rattle.re_auto.specs.Searches.{FindsPart};
 ghost use Rattle.re_search.specs.Working.Sought.{CountsSought, IsSought, Sought};
 ghost use Rattle.gaxtrel.specs.Held.{IsFor, patterns_in};
-ghost use Rattle.gaxtrel.specs.Calls.{FindsLine, IsMisused, PutsNumbers, PutsParts, Tells, line_cost};
-ghost use Rattle.gaxtrel.specs.Calls.{steps_of};
+ghost use Rattle.gaxtrel.specs.Calls.{FindsLine, IsMisused, PutsLines, PutsNumbers};
+ghost use Rattle.gaxtrel.specs.Calls.{PutsParts, Tells, line_cost, steps_of};
 
 use crate::held::Held;
 use crate::holder::GaxtrelHolder;
 use crate::part::{GaxtrelPart, put_found};
+use crate::text_lines::GaxtrelLine;
 use re_auto::fresh_meter;
 use std::alloc::Global;
 
 /// Whether the line is matched: 1 if so, 0 if not; 3 if `matcher` holds no patterns.
 #[unsafe(no_mangle)]
 pub extern "C" fn gaxtrel_is_match(alloc: Global, matcher: &mut GaxtrelHolder, line: &[u8]) -> u32
-    ensures answered { (apart : Bool) (sought : Sought) → IsFor apart matcher.old.handle.held sought →
+    ensures answered { (apart : Bool) (sought : Sought) →
+        IsFor apart matcher.old.handle.held sought →
         IsFor apart matcher.new.handle.held sought
         × (result < 2) × ((result ≡ 1) ↔ IsSought sought line.now) }
     ensures work { (apart : Bool) (sought : Sought) → IsFor apart matcher.old.handle.held sought →
@@ -187,6 +189,42 @@ pub extern "C" fn gaxtrel_next_line(
     put_found(found, line)
 }
 
+/// The matched lines of what is left of a text from `from` on, where the line with this number
+/// begins: the first ones go over `lines`, as many as it has room for, and how many these are to
+/// `count`. Answers 1 if there is one, 0 if not; 3 if `matcher` holds no patterns: then nothing is
+/// written.
+#[unsafe(no_mangle)]
+pub extern "C" fn gaxtrel_lines(
+    alloc: Global,
+    matcher: &mut GaxtrelHolder,
+    text: &[u8],
+    from: usize,
+    number: u64,
+    lines: &mut [GaxtrelLine],
+    count: &mut usize,
+) -> u32
+    ensures found { (apart : Bool) (sought : Sought) → IsFor apart matcher.old.handle.held sought →
+        IsFor apart matcher.new.handle.held sought
+        × (result < 2) × ((result ≡ 1) ↔ (1 ≤ count.new))
+        × PutsLines sought text.now from number lines.old lines.new count.new fresh
+        (steps_of matcher.new.work) }
+    ensures none { patterns_in matcher.old.handle.held ≡ None → IsMisused result
+        matcher.old.handle.held matcher.new.handle.held matcher.new.work
+        × (lines.new ≡ lines.old) × (count.new ≡ count.old) }
+{
+    let Some(mut boxed) = matcher.take(alloc) else {
+        return 3;
+    };
+    let Held::Patterns(patterns) = &mut *boxed else {
+        return matcher.put_back(boxed);
+    };
+    let mut meter = fresh_meter();
+    let found = patterns.lines(text, from, number, lines, &mut meter);
+    *matcher = GaxtrelHolder::of(boxed, &meter);
+    *count = found;
+    (found > 0) as u32
+}
+
 /// How many lines of a text are matched goes to `count`: 1 if some is, 0 if none is; 3 if
 /// `matcher` holds no patterns.
 #[unsafe(no_mangle)]
@@ -196,7 +234,8 @@ pub extern "C" fn gaxtrel_count_lines(
     text: &[u8],
     count: &mut u64,
 ) -> u32
-    ensures counted { (apart : Bool) (sought : Sought) → IsFor apart matcher.old.handle.held sought →
+    ensures counted { (apart : Bool) (sought : Sought) →
+        IsFor apart matcher.old.handle.held sought →
         IsFor apart matcher.new.handle.held sought × (result < 2) × ((result ≡ 1) ↔ (1 ≤ count.new))
         × CountsSought sought (lines_of text.now) count.new }
     ensures work { (apart : Bool) (sought : Sought) → IsFor apart matcher.old.handle.held sought →

@@ -39,7 +39,8 @@ pub(crate) fn put_numbers(
 fn put_if(matched: bool, numbers: &mut [usize], count: usize, number: usize) -> usize
     requires { count < 2 ^ 63 }
     ensures few { result ≤ count + 1 }
-    ensures put { MatchBool matched ((numbers.new ≡ set numbers.old count number) × (result ≡ count + 1))
+    ensures put { MatchBool matched
+        ((numbers.new ≡ set numbers.old count number) × (result ≡ count + 1))
         ((numbers.new ≡ numbers.old) × (result ≡ count)) }
 {
     if !matched {
