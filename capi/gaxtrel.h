@@ -139,7 +139,7 @@ uint32_t gaxtrel_compile_lines(gaxtrel_matcher *matcher, const uint8_t *patterns
                                uint32_t syntax, bool fold, bool whole, gaxtrel_fault *fault);
 
 /* The same, but each pattern is kept apart, so that gaxtrel_which can say which ones match a line.
-   Where there are many other searches take longer. */
+   Where there are many, other searches take longer. */
 uint32_t gaxtrel_compile_each(gaxtrel_matcher *matcher, const uint8_t *patterns, size_t length,
                               uint32_t syntax, bool fold, bool whole, gaxtrel_fault *fault);
 
@@ -153,10 +153,10 @@ void gaxtrel_free(gaxtrel_matcher *matcher);
 /* Whether the line is matched. At most p * (length + 1). */
 uint32_t gaxtrel_is_match(gaxtrel_matcher *matcher, const uint8_t *line, size_t length);
 
-/* Which patterns match the line: how many there are goes to `count`, and the numbers of the first
-   ones, counted from 0 and ascending, to `numbers`, which has room for `room`. `matcher` is one of
-   gaxtrel_compile or gaxtrel_compile_each; else it answers GAXTREL_JOINED, and nothing is written.
-   At most p * (length + 1). */
+/* Which patterns match the line: how many these are goes to `count`, and the numbers of the first
+   ones, counted from 0 and ascending, to `numbers`, which has room for `room`. At most
+   p * (length + 1). A matcher of gaxtrel_compile_lines answers GAXTREL_JOINED: nothing is written,
+   and `work` is 0. */
 uint32_t gaxtrel_which(gaxtrel_matcher *matcher, const uint8_t *line, size_t length, size_t *numbers,
                        size_t room, size_t *count);
 
@@ -182,10 +182,10 @@ uint32_t gaxtrel_next_line(gaxtrel_matcher *matcher, const uint8_t *text, size_t
                            gaxtrel_part *line);
 
 /* The matched lines of what is left of a text from `from` on, where the line `number` begins: the
-   first ones go to `lines`, which has room for `room`, and how many these are to `count`. The next
-   call is from `lines[count - 1].end + 1` with `lines[count - 1].number + 1`, if `count` is `room`;
-   else they are all. At most p * (lines[count - 1].end + 1 - from), or where they are all
-   p * (length + 1 - from), and none if `room` is 0. */
+   first ones go to `lines`, which has room for `room`, and how many these are to `count`. If they
+   are fewer than `room`, they are all; else the next call is from `lines[room - 1].end + 1`, with
+   the number after `lines[room - 1].number`. At most p * (lines[room - 1].end + 1 - from), or where
+   they are fewer p * (length + 1), and nothing if `room` is 0. */
 uint32_t gaxtrel_lines(gaxtrel_matcher *matcher, const uint8_t *text, size_t length, size_t from,
                        uint64_t number, gaxtrel_line *lines, size_t room, size_t *count);
 
@@ -223,24 +223,33 @@ void gaxtrel_session_free(gaxtrel_session *session);
    to a function goes without that. */
 #define GAXTREL_PLACE(name, type)                                                                        \
     static inline type *name(type *at) {                                                                 \
-        static uint64_t none[2];                                                                         \
+        static uint64_t none[3];                                                                         \
         return at ? at : (type *)none;                                                                   \
     }
 GAXTREL_PLACE(gaxtrel_private_text, const uint8_t)
 GAXTREL_PLACE(gaxtrel_private_into, uint8_t)
 GAXTREL_PLACE(gaxtrel_private_parts, gaxtrel_part)
+GAXTREL_PLACE(gaxtrel_private_numbers, size_t)
+GAXTREL_PLACE(gaxtrel_private_lines, gaxtrel_line)
 #undef GAXTREL_PLACE
 
 #define GAXTREL_TEXT(call, held, text, ...) call(held, gaxtrel_private_text(text), __VA_ARGS__)
 #define GAXTREL_INTO(call, held, from, into, ...) call(held, from, gaxtrel_private_into(into), __VA_ARGS__)
 #define GAXTREL_PARTS(call, held, line, length, from, parts, ...)                                        \
     call(held, gaxtrel_private_text(line), length, from, gaxtrel_private_parts(parts), __VA_ARGS__)
+#define GAXTREL_NUMBERS(call, held, line, length, numbers, ...)                                          \
+    call(held, gaxtrel_private_text(line), length, gaxtrel_private_numbers(numbers), __VA_ARGS__)
+#define GAXTREL_LINES(call, held, text, length, from, number, lines, ...)                                \
+    call(held, gaxtrel_private_text(text), length, from, number, gaxtrel_private_lines(lines), __VA_ARGS__)
 #define gaxtrel_compile(...) GAXTREL_TEXT(gaxtrel_compile, __VA_ARGS__)
 #define gaxtrel_compile_lines(...) GAXTREL_TEXT(gaxtrel_compile_lines, __VA_ARGS__)
+#define gaxtrel_compile_each(...) GAXTREL_TEXT(gaxtrel_compile_each, __VA_ARGS__)
 #define gaxtrel_is_match(...) GAXTREL_TEXT(gaxtrel_is_match, __VA_ARGS__)
+#define gaxtrel_which(...) GAXTREL_NUMBERS(gaxtrel_which, __VA_ARGS__)
 #define gaxtrel_find(...) GAXTREL_TEXT(gaxtrel_find, __VA_ARGS__)
 #define gaxtrel_parts(...) GAXTREL_PARTS(gaxtrel_parts, __VA_ARGS__)
 #define gaxtrel_next_line(...) GAXTREL_TEXT(gaxtrel_next_line, __VA_ARGS__)
+#define gaxtrel_lines(...) GAXTREL_LINES(gaxtrel_lines, __VA_ARGS__)
 #define gaxtrel_count_lines(...) GAXTREL_TEXT(gaxtrel_count_lines, __VA_ARGS__)
 #define gaxtrel_session_answer(...) GAXTREL_TEXT(gaxtrel_session_answer, __VA_ARGS__)
 #define gaxtrel_session_replies(...) GAXTREL_INTO(gaxtrel_session_replies, __VA_ARGS__)

@@ -53,6 +53,7 @@ static int answers(gaxtrel_matcher *m, size_t k) {
     size_t length = strlen(cases[k].line), size = strlen(cases[k].text), at = 0;
     size_t number, count;
     gaxtrel_part part;
+    gaxtrel_line found;
     uint64_t lines, n = 0;
     if (gaxtrel_is_match(m, line, length) != cases[k].matched) return 1;
     if (gaxtrel_find(m, line, length, 0, &part) != cases[k].matched) return 2;
@@ -63,6 +64,7 @@ static int answers(gaxtrel_matcher *m, size_t k) {
     if (wrong) return wrong;
     if (gaxtrel_count_lines(m, text, size, &lines) > 1 || lines != cases[k].lines) return 7;
     for (; gaxtrel_next_line(m, text, size, at, &part) == GAXTREL_YES; at = part.end + 1) n++;
+    if (gaxtrel_lines(m, text, size, 0, 1, &found, 1, &count) != (lines > 0)) return 12;
     return n == lines ? 0 : 8;
 }
 
