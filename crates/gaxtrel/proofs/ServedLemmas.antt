@@ -24,16 +24,16 @@ pub serves_itself : (apart : Bool) (asked sought : Sought) → asked ≡ sought 
 serves_itself apart asked sought is = subst (Serves apart asked) is (record { same = λ line i j. (λ a. a, λ a. a); fewer = omega arith; whole = refl; each = λ _. refl })
 
 -- what was taken out serves for what is searched for, and so does what is held after a call
-pub served : (apart : Bool) (held : Option Held) (sought : Sought) → IsFor apart held sought → (boxed now : Held) (kept : Kept) → held ≡ Some boxed → now ≡ boxed → now ≡ Patterns kept
+pub served : {apart : Bool} {held : Option Held} {sought : Sought} {boxed now : Held} {kept : Kept} → IsFor apart held sought → held ≡ Some boxed → now ≡ boxed → now ≡ Patterns kept
     → Serves apart (sought_in kept) sought × ((after : Option Held) (last : Kept) → after ≡ Some (Patterns last) → Stays kept last → IsFor apart after sought) × (kept.apart ≡ apart)
-served apart held sought is boxed now kept taken value kind =
+served {apart} {held} {sought} {boxed} {now} {kept} is taken value kind =
     let both : Some is.kept ≡ Some kept = sym is.is_there ∙ ap patterns_in (taken ∙ ap Some (sym value ∙ kind)) in
     let same : is.kept ≡ kept = cc both in
     let serves = subst (λ (k : Kept). Serves apart (sought_in k) sought) same is.serves in
     let now_apart = subst (λ (k : Kept). k.apart ≡ apart) same is.is_apart in
     (serves, (λ after last holds stays. record { kept = last; is_there = ap patterns_in holds; is_apart = stays.1 ∙ now_apart; serves = subst (λ s. Serves apart s sought) (sym stays.0) serves }), now_apart)
 
-module _ {apart : Bool} (asked sought : Sought) (serves : Serves apart asked sought) where
+module _ {apart : Bool} {asked sought : Sought} (serves : Serves apart asked sought) where
   is_here : (line : Text) → IsSought asked line → IsSought sought line
   is_here line is = subst (SomeMatches sought.expressions line) serves.whole (Any-Matches asked.expressions sought.expressions serves.same line asked.whole is)
 

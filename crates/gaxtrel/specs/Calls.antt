@@ -13,6 +13,7 @@ use Rattle.re_syntax.specs.Parts.{ArePartsFrom}
 use Rattle.re_syntax.specs.Profile.{most_patterns}
 use Rattle.re_meter.specs.Meters.{Steps, AddsAtMost, fresh}
 use Rattle.re_search.specs.Working.Sought.{FindsSought, IsSought, Sought}
+use Rattle.gaxtrel.specs.Held.{IsFor}
 use Rattle.gaxtrel.specs.declared.held.Held.{Held}
 use Rattle.gaxtrel.specs.declared.numbers.GaxtrelFault.{GaxtrelFault}
 use Rattle.gaxtrel.specs.declared.part.GaxtrelPart.{GaxtrelPart}
@@ -82,6 +83,11 @@ IsMisused answer old new work = (answer ≡ 3) × (new ≡ old) × (steps_of wor
 -- a search of a line by so many matchers
 abbrev pub line_cost : ℕ → Text → ℕ
 line_cost matchers line = matchers * (length line + 1)
+
+-- what is held searches for this still, and the work that is shown is at most that of one search
+abbrev pub HasSearched : Bool → Sought → Text → Option Held → GaxtrelWork → Type 0
+HasSearched apart sought line held work =
+    IsFor apart held sought × AddsAtMost (line_cost (length sought.expressions) line) fresh (steps_of work)
 
 -- a search for the next line of a text: up to the end of that line; without one the whole text
 abbrev pub bytes_to_next : Text → Option Span → ℕ

@@ -1,13 +1,13 @@
 //! The calls that search a line or a text.
-ghost use Rattle.std.specs.Prelude.{◌≡◌, ◌≤◌, ◌<◌, ◌↔◌, Bool, true, false, None, Option, length};
+ghost use Rattle.std.specs.Prelude.{◌≡◌, ◌≤◌, ◌<◌, ◌↔◌, Bool, true, false, None, Option};
 ghost use Rattle.re_syntax.specs.Lines.{lines_of};
 ghost use Rattle.re_trees.specs.declared.span.Span.{Span};
-ghost use Rattle.re_meter.specs.Meters.{AddsAtMost, fresh};
+ghost use Rattle.re_meter.specs.Meters.{fresh};
 ghost use Rattle.re_auto.specs.Searches.{FindsPart};
 ghost use Rattle.re_search.specs.Working.Sought.{CountsSought, IsSought, Sought};
 ghost use Rattle.gaxtrel.specs.Held.{IsFor, patterns_in};
-ghost use Rattle.gaxtrel.specs.Calls.{FindsLine, IsMisused, PutsLines, PutsNumbers};
-ghost use Rattle.gaxtrel.specs.Calls.{PutsParts, Tells, line_cost, steps_of};
+ghost use Rattle.gaxtrel.specs.Calls.{FindsLine, HasSearched, IsMisused, PutsLines, PutsNumbers};
+ghost use Rattle.gaxtrel.specs.Calls.{PutsParts, Tells, steps_of};
 
 use crate::held::Held;
 use crate::holder::GaxtrelHolder;
@@ -21,11 +21,8 @@ use std::alloc::Global;
 pub extern "C" fn gaxtrel_is_match(alloc: Global, matcher: &mut GaxtrelHolder, line: &[u8]) -> u32
     ensures answered { (apart : Bool) (sought : Sought) →
         IsFor apart matcher.old.handle.held sought →
-        IsFor apart matcher.new.handle.held sought
+        HasSearched apart sought line.now matcher.new.handle.held matcher.new.work
         × (result < 2) × ((result ≡ 1) ↔ IsSought sought line.now) }
-    ensures work { (apart : Bool) (sought : Sought) → IsFor apart matcher.old.handle.held sought →
-        AddsAtMost (line_cost (length sought.expressions) line.now) fresh
-        (steps_of matcher.new.work) }
     ensures none { patterns_in matcher.old.handle.held ≡ None → IsMisused result
         matcher.old.handle.held matcher.new.handle.held matcher.new.work }
 {
@@ -52,12 +49,9 @@ pub extern "C" fn gaxtrel_find(
     part: &mut GaxtrelPart,
 ) -> u32
     ensures found { (apart : Bool) (sought : Sought) → IsFor apart matcher.old.handle.held sought →
-        IsFor apart matcher.new.handle.held sought
+        HasSearched apart sought line.now matcher.new.handle.held matcher.new.work
         × ((found : Option Span) × FindsPart sought.expressions line.now sought.whole from found
         × Tells result part.new found) }
-    ensures work { (apart : Bool) (sought : Sought) → IsFor apart matcher.old.handle.held sought →
-        AddsAtMost (line_cost (length sought.expressions) line.now) fresh
-        (steps_of matcher.new.work) }
     ensures none { patterns_in matcher.old.handle.held ≡ None → IsMisused result
         matcher.old.handle.held matcher.new.handle.held matcher.new.work }
     ensures no_part { (result ≡ 1 → ⊥) → part.new ≡ part.old }
@@ -87,13 +81,11 @@ pub extern "C" fn gaxtrel_parts(
     count: &mut usize,
 ) -> u32
     ensures kept { (apart : Bool) (sought : Sought) → IsFor apart matcher.old.handle.held sought →
-        IsFor apart matcher.new.handle.held sought × (result ≤ 2) }
+        HasSearched apart sought line.now matcher.new.handle.held matcher.new.work
+        × (result ≤ 2) }
     ensures found { (apart : Bool) (sought : Sought) → IsFor apart matcher.old.handle.held sought →
         (result ≡ 2 → ⊥) → ((result ≡ 1) ↔ (1 ≤ count.new))
         × PutsParts sought line.now from parts.old parts.new count.new }
-    ensures work { (apart : Bool) (sought : Sought) → IsFor apart matcher.old.handle.held sought →
-        AddsAtMost (line_cost (length sought.expressions) line.now) fresh
-        (steps_of matcher.new.work) }
     ensures refused { result ≡ 2 → (parts.new ≡ parts.old) × (count.new ≡ count.old)
         × (steps_of matcher.new.work ≡ fresh) }
     ensures none { patterns_in matcher.old.handle.held ≡ None → IsMisused result
@@ -128,12 +120,9 @@ pub extern "C" fn gaxtrel_which(
     count: &mut usize,
 ) -> u32
     ensures found { (sought : Sought) → IsFor true matcher.old.handle.held sought →
-        IsFor true matcher.new.handle.held sought
+        HasSearched true sought line.now matcher.new.handle.held matcher.new.work
         × (result < 2) × ((result ≡ 1) ↔ (1 ≤ count.new))
         × PutsNumbers sought line.now numbers.old numbers.new count.new }
-    ensures work { (sought : Sought) → IsFor true matcher.old.handle.held sought →
-        AddsAtMost (line_cost (length sought.expressions) line.now) fresh
-        (steps_of matcher.new.work) }
     ensures joined { (sought : Sought) → IsFor false matcher.old.handle.held sought →
         (result ≡ 4) × IsFor false matcher.new.handle.held sought
         × (steps_of matcher.new.work ≡ fresh) × (numbers.new ≡ numbers.old)
@@ -236,11 +225,9 @@ pub extern "C" fn gaxtrel_count_lines(
 ) -> u32
     ensures counted { (apart : Bool) (sought : Sought) →
         IsFor apart matcher.old.handle.held sought →
-        IsFor apart matcher.new.handle.held sought × (result < 2) × ((result ≡ 1) ↔ (1 ≤ count.new))
+        HasSearched apart sought text.now matcher.new.handle.held matcher.new.work
+        × (result < 2) × ((result ≡ 1) ↔ (1 ≤ count.new))
         × CountsSought sought (lines_of text.now) count.new }
-    ensures work { (apart : Bool) (sought : Sought) → IsFor apart matcher.old.handle.held sought →
-        AddsAtMost (line_cost (length sought.expressions) text.now) fresh
-        (steps_of matcher.new.work) }
     ensures none { patterns_in matcher.old.handle.held ≡ None → IsMisused result
         matcher.old.handle.held matcher.new.handle.held matcher.new.work × (count.new ≡ count.old) }
 {
