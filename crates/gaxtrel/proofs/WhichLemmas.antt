@@ -1,5 +1,5 @@
 -- The numbers of the expressions that match a line, one expression more at a time.
-use Rattle.std.proofs.Common.{◌≡◌, ◌∙◌, ◌↔◌, ℕ, ◌+◌, ◌<◌, ◌≤◌, Bool, true, false, IsTrue, MatchBool, List, ◌∷◌, [], inl, inr, length, drop, set, get_or, refl, sym, ap, subst, arith, add-one}
+use Rattle.std.proofs.Common.{◌≡◌, ◌∙◌, ◌↔◌, ℕ, ◌+◌, ◌<◌, Bool, true, false, IsTrue, MatchBool, List, ◌∷◌, inl, inr, length, drop, set, get_or, refl, sym, subst, add-one}
 use Rattle.std.proofs.lemmas.Bool.{false≢true}
 use Rattle.std.proofs.Math.Seq.{drop-cons}
 use Rattle.re_syntax.specs.Bytes.{Text}

@@ -1,4 +1,4 @@
-use Rattle.std.proofs.Common.{rules, false, refl, sym, true, ◌∙◌}
+use Rattle.std.proofs.Common.{rules, refl, sym, ◌∙◌}
 use Rattle.std.proofs.lemmas.Bool.{false≢true}
 use Rattle.gaxtrel.proofs.ServedLemmas.{cost_served, numbers_served, served}
 use Rattle.gaxtrel.proofs.search.gaxtrel_which.Goals as goal

@@ -1,4 +1,4 @@
-use Rattle.std.proofs.Common.{arith, refl, subst, sym, ap, ◌≡◌, ◌∙◌, ◌*◌, ◌+◌, ◌-◌, ◌≤◌, length, take, drop}
+use Rattle.std.proofs.Common.{arith, refl, ap, ◌≡◌, ◌∙◌, ◌+◌, ◌-◌, take, drop}
 use Rattle.std.proofs.lemmas.List.{length-drop, take_rest}
 use Rattle.re_search.specs.Working.Sought.{IsSought, sought_of}
 use Rattle.re_search.proofs.lemmas.KeptMatchers.{same_over}

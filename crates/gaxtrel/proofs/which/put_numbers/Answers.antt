@@ -1,6 +1,5 @@
-use Rattle.std.proofs.Common.{◌≡◌, ◌∙◌, ◌↔◌, IsTrue, List, [], get_or, length, arith, refl, sym, subst}
+use Rattle.std.proofs.Common.{◌≡◌, ◌∙◌, [], get_or, arith, refl, sym, subst}
 use Rattle.std.proofs.lemmas.List.{drop_all, length-map}
-use Rattle.re_syntax.specs.Holds.{Matches}
 use Rattle.re_search.specs.Working.Matchers.{expressions_of, matched_expression, wants_whole}
 use Rattle.re_search.proofs.lemmas.KeptMatchers.{one_kept}
 use Rattle.re_search.proofs.lemmas.OneMatcherMore.{steps_more, value_at, within}
