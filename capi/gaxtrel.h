@@ -63,6 +63,14 @@ typedef struct gaxtrel_part {
     size_t end;
 } gaxtrel_part;
 
+/* A line of a text: from its first byte to the byte after its last, without its newline; and its
+   number, or 2^64 - 1 for a greater one. */
+typedef struct gaxtrel_line {
+    size_t start;
+    size_t end;
+    uint64_t number;
+} gaxtrel_line;
+
 /* What the library was compiled for: no other machine, and no option that packs structs. */
 #if defined __cplusplus && __cplusplus >= 201103L
 #define GAXTREL_HOLDS static_assert
@@ -71,7 +79,7 @@ typedef struct gaxtrel_part {
 #endif
 #ifdef GAXTREL_HOLDS
 GAXTREL_HOLDS(sizeof(gaxtrel_matcher) == 40 && sizeof(gaxtrel_session) == 40 && sizeof(gaxtrel_fault) == 24 &&
-                  sizeof(gaxtrel_part) == 16,
+                  sizeof(gaxtrel_part) == 16 && sizeof(gaxtrel_line) == 24,
               "libgaxtrel has structs of other sizes");
 #undef GAXTREL_HOLDS
 #endif
@@ -82,7 +90,7 @@ enum { GAXTREL_OK = 0, GAXTREL_REFUSED = 1, GAXTREL_NO_MEMORY = 2, GAXTREL_NO_SY
 
 enum { GAXTREL_NO_STATES = 3, GAXTREL_NO_SESSION = 3 };
 
-enum { GAXTREL_NO = 0, GAXTREL_YES = 1, GAXTREL_MISUSED = 3 };
+enum { GAXTREL_NO = 0, GAXTREL_YES = 1, GAXTREL_MISUSED = 3, GAXTREL_JOINED = 4 };
 
 enum {
     GAXTREL_UNCLOSED_BRACKET = 1,
@@ -130,6 +138,11 @@ uint32_t gaxtrel_compile(gaxtrel_matcher *matcher, const uint8_t *pattern, size_
 uint32_t gaxtrel_compile_lines(gaxtrel_matcher *matcher, const uint8_t *patterns, size_t length,
                                uint32_t syntax, bool fold, bool whole, gaxtrel_fault *fault);
 
+/* The same, but each pattern is kept apart, so that gaxtrel_which can say which ones match a line.
+   Where there are many, other searches take longer. */
+uint32_t gaxtrel_compile_each(gaxtrel_matcher *matcher, const uint8_t *patterns, size_t length,
+                              uint32_t syntax, bool fold, bool whole, gaxtrel_fault *fault);
+
 /* Frees what `matcher` holds. It then holds none, and may be used again. */
 void gaxtrel_free(gaxtrel_matcher *matcher);
 
@@ -139,6 +152,13 @@ void gaxtrel_free(gaxtrel_matcher *matcher);
 
 /* Whether the line is matched. At most p * (length + 1). */
 uint32_t gaxtrel_is_match(gaxtrel_matcher *matcher, const uint8_t *line, size_t length);
+
+/* Which patterns match the line: how many these are goes to `count`, and the numbers of the first
+   ones, counted from 0 and ascending, to `numbers`, which has room for `room`. At most
+   p * (length + 1). A matcher of gaxtrel_compile_lines answers GAXTREL_JOINED: nothing is written,
+   and `work` is 0. */
+uint32_t gaxtrel_which(gaxtrel_matcher *matcher, const uint8_t *line, size_t length, size_t *numbers,
+                       size_t room, size_t *count);
 
 /* The next part of the line: of the matched stretches that are not empty and begin at `from` or
    later the one that begins earliest, and of those that begin there the longest. `part` is written
@@ -160,6 +180,14 @@ uint32_t gaxtrel_parts(gaxtrel_matcher *matcher, const uint8_t *line, size_t len
    there is no such line p * (length + 1). */
 uint32_t gaxtrel_next_line(gaxtrel_matcher *matcher, const uint8_t *text, size_t length, size_t from,
                            gaxtrel_part *line);
+
+/* The matched lines of what is left of a text from `from` on, where the line `number` begins: the
+   first ones go to `lines`, which has room for `room`, and how many these are to `count`. If they
+   are fewer than `room`, they are all; else the next call is from `lines[room - 1].end + 1`, with
+   the number after `lines[room - 1].number`. At most p * (lines[room - 1].end + 1 - from), or where
+   they are fewer p * (length + 1), and nothing if `room` is 0. */
+uint32_t gaxtrel_lines(gaxtrel_matcher *matcher, const uint8_t *text, size_t length, size_t from,
+                       uint64_t number, gaxtrel_line *lines, size_t room, size_t *count);
 
 /* How many lines of a text are matched goes to `count`. At most p * (length + 1). */
 uint32_t gaxtrel_count_lines(gaxtrel_matcher *matcher, const uint8_t *text, size_t length,
@@ -195,24 +223,33 @@ void gaxtrel_session_free(gaxtrel_session *session);
    to a function goes without that. */
 #define GAXTREL_PLACE(name, type)                                                                        \
     static inline type *name(type *at) {                                                                 \
-        static uint64_t none[2];                                                                         \
+        static uint64_t none[3];                                                                         \
         return at ? at : (type *)none;                                                                   \
     }
 GAXTREL_PLACE(gaxtrel_private_text, const uint8_t)
 GAXTREL_PLACE(gaxtrel_private_into, uint8_t)
 GAXTREL_PLACE(gaxtrel_private_parts, gaxtrel_part)
+GAXTREL_PLACE(gaxtrel_private_numbers, size_t)
+GAXTREL_PLACE(gaxtrel_private_lines, gaxtrel_line)
 #undef GAXTREL_PLACE
 
 #define GAXTREL_TEXT(call, held, text, ...) call(held, gaxtrel_private_text(text), __VA_ARGS__)
 #define GAXTREL_INTO(call, held, from, into, ...) call(held, from, gaxtrel_private_into(into), __VA_ARGS__)
 #define GAXTREL_PARTS(call, held, line, length, from, parts, ...)                                        \
     call(held, gaxtrel_private_text(line), length, from, gaxtrel_private_parts(parts), __VA_ARGS__)
+#define GAXTREL_NUMBERS(call, held, line, length, numbers, ...)                                          \
+    call(held, gaxtrel_private_text(line), length, gaxtrel_private_numbers(numbers), __VA_ARGS__)
+#define GAXTREL_LINES(call, held, text, length, from, number, lines, ...)                                \
+    call(held, gaxtrel_private_text(text), length, from, number, gaxtrel_private_lines(lines), __VA_ARGS__)
 #define gaxtrel_compile(...) GAXTREL_TEXT(gaxtrel_compile, __VA_ARGS__)
 #define gaxtrel_compile_lines(...) GAXTREL_TEXT(gaxtrel_compile_lines, __VA_ARGS__)
+#define gaxtrel_compile_each(...) GAXTREL_TEXT(gaxtrel_compile_each, __VA_ARGS__)
 #define gaxtrel_is_match(...) GAXTREL_TEXT(gaxtrel_is_match, __VA_ARGS__)
+#define gaxtrel_which(...) GAXTREL_NUMBERS(gaxtrel_which, __VA_ARGS__)
 #define gaxtrel_find(...) GAXTREL_TEXT(gaxtrel_find, __VA_ARGS__)
 #define gaxtrel_parts(...) GAXTREL_PARTS(gaxtrel_parts, __VA_ARGS__)
 #define gaxtrel_next_line(...) GAXTREL_TEXT(gaxtrel_next_line, __VA_ARGS__)
+#define gaxtrel_lines(...) GAXTREL_LINES(gaxtrel_lines, __VA_ARGS__)
 #define gaxtrel_count_lines(...) GAXTREL_TEXT(gaxtrel_count_lines, __VA_ARGS__)
 #define gaxtrel_session_answer(...) GAXTREL_TEXT(gaxtrel_session_answer, __VA_ARGS__)
 #define gaxtrel_session_replies(...) GAXTREL_INTO(gaxtrel_session_replies, __VA_ARGS__)

@@ -43,7 +43,7 @@ static void dealloc(PyObject *self) {
 static int judged(uint32_t answer) {
     if (answer == GAXTREL_NO || answer == GAXTREL_YES) return (int)answer;
     if (answer == GAXTREL_NO_MEMORY) PyErr_NoMemory();
-    else PyErr_SetString(PyExc_ValueError, "it is closed");
+    else PyErr_SetString(PyExc_ValueError, answer == GAXTREL_JOINED ? "its patterns are joined" : "it is closed");
     return -1;
 }
 
@@ -56,10 +56,10 @@ static PyObject *work_of(const gaxtrel_work *work) {
 static PyObject *compile(PyObject *self, PyObject *words) {
     PyObject *pattern;
     unsigned syntax;
-    int fold, whole, several;
+    int fold, whole, several, apart;
     gaxtrel_fault fault;
-    if (!PyArg_ParseTuple(words, "SIppp", &pattern, &syntax, &fold, &whole, &several)) return NULL;
-    int refused = judged((several ? gaxtrel_compile_lines : gaxtrel_compile)(
+    if (!PyArg_ParseTuple(words, "SIpppp", &pattern, &syntax, &fold, &whole, &several, &apart)) return NULL;
+    int refused = judged((apart ? gaxtrel_compile_each : several ? gaxtrel_compile_lines : gaxtrel_compile)(
         MATCHER(self), (const uint8_t *)PyBytes_AsString(pattern), PyBytes_Size(pattern), syntax, fold, whole, &fault));
     if (refused <= 0) return refused ? NULL : Py_NewRef(Py_None);
     return Py_BuildValue("snn", gaxtrel_kind_name(fault.kind), fault.at, fault.pattern);
@@ -82,6 +82,25 @@ static PyObject *count_lines(PyObject *self, PyObject *lines) {
     int found = judged(gaxtrel_count_lines(MATCHER(self), TEXT(text), &count));
     PyBuffer_Release(&text);
     return found < 0 ? NULL : PyLong_FromUnsignedLongLong(count);
+}
+
+static PyObject *which(PyObject *self, PyObject *line) {
+    Py_buffer text;
+    size_t first[64], *numbers = first, room = 64, count = 0;
+    if (PyObject_GetBuffer(line, &text, PyBUF_SIMPLE)) return NULL;
+    int matched = judged(gaxtrel_which(MATCHER(self), TEXT(text), numbers, room, &count));
+    if (count > room) {
+        numbers = PyMem_Malloc((room = count) * sizeof *numbers);
+        matched = judged(numbers ? gaxtrel_which(MATCHER(self), TEXT(text), numbers, room, &count) : GAXTREL_NO_MEMORY);
+    }
+    PyBuffer_Release(&text);
+    PyObject *list = matched < 0 ? NULL : PyList_New((Py_ssize_t)count), *number;
+    for (size_t k = 0; list && k < count; k++) {
+        if ((number = PyLong_FromSize_t(numbers[k]))) PyList_SetItem(list, (Py_ssize_t)k, number);
+        else Py_CLEAR(list);
+    }
+    if (numbers != first) PyMem_Free(numbers);
+    return list;
 }
 
 /* A gaxtrel.Match, which is a named tuple. */
@@ -176,6 +195,8 @@ static PyMethodDef matcher_methods[] = {
     {"_work", matcher_work, METH_NOARGS, NULL},
     {"_next_line", SEARCH(next_line), NULL},
     {"is_match", is_match, METH_O, "Whether the line is matched."},
+    {"which", which, METH_O,
+     "The numbers of the patterns that match the line, from 0. Lines of `compile_lines` need its `apart`."},
     {"fullmatch", fullmatch, METH_O, "The line, if all of it is matched."},
     {"search", SEARCH(search),
      "The matched part that begins earliest from a place on, and of those the longest. It is not empty."},

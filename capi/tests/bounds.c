@@ -34,12 +34,17 @@ int main(void) {
             for (size_t i = 0; i < size; i++) bytes[i] = "abcdef0123 xz:\n"[rand() % 15];
             uint8_t *line = copied(bytes, size);
             gaxtrel_part part, *parts = malloc(3 * sizeof *parts);
-            size_t count;
+            size_t count, *number = malloc(sizeof *number);
             uint64_t lines;
+            gaxtrel_line *found = malloc(2 * sizeof *found);
             uint32_t matched = gaxtrel_is_match(&m, line, size);
             if (gaxtrel_find(&m, line, size, size / 3, &part) == GAXTREL_YES && !matched) return 2;
             if (gaxtrel_parts(&m, line, size, 0, parts, 3, &count) == GAXTREL_YES && !matched) return 3;
             if (gaxtrel_next_line(&m, line, size, 0, &part) != gaxtrel_count_lines(&m, line, size, &lines)) return 4;
+            if (gaxtrel_which(&m, line, size, number, 1, &count) != matched) return 5;
+            if (gaxtrel_lines(&m, line, size, 0, 1, found, 2, &count) != (lines > 0)) return 6;
+            free(found);
+            free(number);
             free(parts);
             free(line);
         }

@@ -15,13 +15,14 @@ static long calls, differ;
 static uint8_t *ends[3], *text, pattern[2 * MOST], commands[ROOM];
 static size_t length, from, size, patterns, written;
 static uint32_t syntax;
-static bool several, fold, whole;
+static bool several, apart, fold, whole;
 
 #define LAW(holds) law(holds, __LINE__, #holds)
 #define CALL(answer) (calls++, answer)
 #define ONE_OF(words) words[below(sizeof words / sizeof *words)]
 #define TEXT text, length
 #define NO_PART(part) ((part).start == 77 && (part).end == 78)
+#define NO_LINE(line) (NO_PART(line) && (line).number == 79)
 
 static uint32_t below(size_t n) {
     dice ^= dice << 13, dice ^= dice >> 7, dice ^= dice << 17;
@@ -72,7 +73,7 @@ static void put_tokens(uint32_t count) {
 /* Tokens, and perhaps a few bytes that are put wrong. */
 static void make_pattern(void) {
     syntax = below(40) ? below(3) : GAXTREL_FIXED + 1 + below(1u << below(32));
-    several = below(2), fold = below(2), whole = !below(8), patterns = !several, size = 0;
+    several = below(2), apart = !several || below(2), fold = below(2), whole = !below(8), patterns = !several, size = 0;
     uint32_t lines = several ? below(below(9) ? 4 : 200) : 1, most = below(4) ? 4 : lines > 3 ? 9 : 40;
     for (uint32_t k = 0; k < lines; k++) put(k ? "\n" : ""), put_tokens(below(most));
     if (several && below(2)) put("\n");
@@ -110,6 +111,28 @@ static gaxtrel_part find(gaxtrel_matcher *m, size_t at, bool wanted) {
     return part;
 }
 
+/* The numbers of patterns that are kept apart are those of matchers of one pattern each. */
+static void ask_which(gaxtrel_matcher *m, uint32_t matched) {
+    size_t room = below(3) ? patterns : below(3), count = 77, seen = 0;
+    size_t *end = (size_t *)ends[2], *numbers = end - room;
+    for (size_t *number = numbers - 1; number < end; number++) *number = SIZE_MAX;
+    uint32_t some = CALL(gaxtrel_which(m, TEXT, room || below(2) ? numbers : NULL, room, &count));
+    LAW(apart ? some == matched && some == (count > 0) : some == GAXTREL_JOINED && count == 77);
+    LAW(within(m, apart ? length + 1 : 0) && numbers[-1] == SIZE_MAX);
+    if (apart && patterns > 3 && below(9)) return;
+    for (size_t k = 0, start = 0, stop; apart && k < patterns; k++, start = stop + 1) {
+        gaxtrel_matcher one = GAXTREL_NONE;
+        gaxtrel_fault fault;
+        uint8_t *newline = several ? memchr(pattern + start, '\n', size - start) : NULL;
+        stop = newline ? (size_t)(newline - pattern) : size;
+        LAW(!CALL(gaxtrel_compile(&one, pattern + start, stop - start, syntax, fold, whole, &fault)));
+        if (CALL(gaxtrel_is_match(&one, TEXT))) LAW(seen++ >= room || numbers[seen - 1] == k);
+        gaxtrel_free(&one);
+    }
+    LAW(!apart || seen == count);
+    for (; seen < room; seen++) LAW(numbers[seen] == SIZE_MAX);
+}
+
 /* The laws of a line; a sum of what is answered, which no history changes. */
 static size_t ask_line(gaxtrel_matcher *m) {
     size_t room = below(3) ? length + 2 : below(4), count = 77, at = from;
@@ -127,37 +150,60 @@ static size_t ask_line(gaxtrel_matcher *m) {
     for (size_t i = 0; i < seen; at = parts[i++].end) LAW(at <= parts[i].start && parts[i].start < parts[i].end);
     for (size_t i = seen; i < room; i++) LAW(NO_PART(parts[i]));
     LAW(!seen || at <= length);
+    ask_which(m, matched);
     return matched + 3 * first.start + 5 * first.end + 7 * count;
+}
+
+static uint64_t plus(uint64_t number, uint64_t more) { return number > UINT64_MAX - more ? UINT64_MAX : number + more; }
+
+/* How many of the first matched lines from a place on were written over an array at the end of a page. */
+static size_t put_lines(gaxtrel_matcher *m, size_t at, uint64_t number, size_t room) {
+    gaxtrel_line *end = (gaxtrel_line *)ends[2], *lines = end - room;
+    size_t count = 77;
+    for (gaxtrel_line *line = lines - 1; line < end; line++) *line = (gaxtrel_line){77, 78, 79};
+    uint32_t some = CALL(gaxtrel_lines(m, TEXT, at, number, room || below(2) ? lines : NULL, room, &count));
+    LAW(some == (count > 0) && count <= room && NO_LINE(lines[-1]));
+    LAW(within(m, count < room ? length + 1 : room ? end[-1].end + 1 - at : 0));
+    for (size_t i = count; i < room; i++) LAW(NO_LINE(lines[i]));
+    return count;
 }
 
 /* The laws of a text; how many of its lines are matched. */
 static uint64_t ask_text(gaxtrel_matcher *m) {
-    uint64_t lines = 77, seen = 0;
-    size_t at = 0, end;
+    uint64_t lines = 77, seen = 0, number = below(4) ? below(9) : UINT64_MAX - below(9), newlines = 0;
+    size_t at = 0, end, room = below(3) ? length + 1 : below(4), count;
     gaxtrel_part line = {77, 78}, left = line;
+    gaxtrel_line *found = (gaxtrel_line *)ends[2] - room;
     LAW(CALL(gaxtrel_count_lines(m, TEXT, &lines)) == (lines > 0) && within(m, length + 1));
     uint32_t some = CALL(gaxtrel_next_line(m, TEXT, from, &line));
     LAW(some == (from < length && CALL(gaxtrel_next_line(m, text + from, length - from, 0, &left))));
     LAW(some ? line.start == from + left.start && line.end == from + left.end : NO_PART(line));
+    count = put_lines(m, from, number, room);
+    for (size_t i = from; some && i < line.start; i++) newlines += text[i] == '\n';
+    LAW(!room || (count > 0) == some);
+    LAW(!count || (found->start == line.start && found->end == line.end && found->number == plus(number, newlines)));
     if (length > 40 && below(length > 300 ? 30 : 5)) return lines;
-    for (size_t start = 0; start < length; start = end + 1) {
+    LAW(put_lines(m, 0, number, room) == (lines < room ? lines : room));
+    for (size_t start = 0; start < length; start = end + 1, number = plus(number, 1)) {
         uint8_t *newline = memchr(text + start, '\n', length - start);
         end = newline ? (size_t)(newline - text) : length;
         if (!CALL(gaxtrel_is_match(m, text + start, end - start))) continue;
         LAW(CALL(gaxtrel_next_line(m, TEXT, at, &line)) == GAXTREL_YES && within(m, end + 1 - at));
         LAW(line.start == start && line.end == end);
+        LAW(seen >= room || (found[seen].start == start && found[seen].end == end && found[seen].number == number));
         at = end + 1, seen++;
     }
     LAW(CALL(gaxtrel_next_line(m, TEXT, at, &line)) == GAXTREL_NO && within(m, length + 1 - at) && seen == lines);
     return lines;
 }
 
-/* Whether it is made. */
+/* Whether it is made; of a list perhaps so that its patterns are apart. */
 static bool compile(gaxtrel_matcher *m, bool list) {
     gaxtrel_fault fault = {77, 78, 79};
     const uint8_t *at = copied(ends[0], pattern, size);
-    uint32_t answer = CALL(list ? gaxtrel_compile_lines(m, at, size, syntax, fold, whole, &fault)
-                                : gaxtrel_compile(m, at, size, syntax, fold, whole, &fault));
+    uint32_t answer = CALL(!list  ? gaxtrel_compile(m, at, size, syntax, fold, whole, &fault)
+                           : apart ? gaxtrel_compile_each(m, at, size, syntax, fold, whole, &fault)
+                                  : gaxtrel_compile_lines(m, at, size, syntax, fold, whole, &fault));
     LAW(syntax > GAXTREL_FIXED ? answer == GAXTREL_NO_SYNTAX : answer <= GAXTREL_REFUSED);
     LAW(answer == GAXTREL_REFUSED ? strcmp(gaxtrel_kind_name(fault.kind), "Unknown") && fault.at <= size &&
                                         (list ? fault.pattern < patterns : fault.pattern == 0)
@@ -168,15 +214,20 @@ static bool compile(gaxtrel_matcher *m, bool list) {
 /* A matcher that is made anew, of one pattern perhaps as of a list, answers the same. */
 static void ask_fresh(size_t line, uint64_t lines) {
     gaxtrel_matcher fresh = GAXTREL_NONE;
-    bool list = size && !memchr(pattern, '\n', size) ? below(2) : several;
+    bool list = size && !memchr(pattern, '\n', size) ? below(2) : several, before = apart;
+    apart = !list || below(2);
     LAW(compile(&fresh, list) && ask_line(&fresh) == line && ask_text(&fresh) == lines);
+    apart = before;
     gaxtrel_free(&fresh);
 }
 
 static void misuse(gaxtrel_matcher *m, gaxtrel_session *s) {
     gaxtrel_part part = {77, 78};
-    size_t count = 77;
+    gaxtrel_line line = {77, 78, 79};
+    size_t count = 77, number = 77;
     uint64_t lines = 77;
+    LAW(CALL(gaxtrel_which(m, TEXT, &number, 1, &count)) == GAXTREL_MISUSED && number == 77);
+    LAW(CALL(gaxtrel_lines(m, TEXT, from, 1, &line, 1, &count)) == GAXTREL_MISUSED && NO_LINE(line));
     LAW(CALL(gaxtrel_is_match(m, TEXT)) == GAXTREL_MISUSED && CALL(gaxtrel_find(m, TEXT, 0, &part)) == GAXTREL_MISUSED);
     LAW(CALL(gaxtrel_parts(m, TEXT, from, &part, 1, &count)) == GAXTREL_MISUSED);
     LAW(CALL(gaxtrel_next_line(m, TEXT, from, &part)) == GAXTREL_MISUSED && NO_PART(part));

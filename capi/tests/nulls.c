@@ -8,6 +8,9 @@ NO_NULL(gaxtrel_compile);
 NO_NULL(gaxtrel_compile_lines);
 NO_NULL(gaxtrel_is_match);
 NO_NULL(gaxtrel_find);
+NO_NULL(gaxtrel_compile_each);
+NO_NULL(gaxtrel_which);
+NO_NULL(gaxtrel_lines);
 NO_NULL(gaxtrel_parts);
 NO_NULL(gaxtrel_next_line);
 NO_NULL(gaxtrel_count_lines);
@@ -19,6 +22,8 @@ static int wrong_match(gaxtrel_matcher *m, uint32_t wanted) {
     size_t count = 7;
     uint64_t lines = 7;
     if (gaxtrel_is_match(m, NULL, 0) != wanted) return 1;
+    if (gaxtrel_lines(m, NULL, 0, 0, 0, NULL, 0, &count) != GAXTREL_NO || count != 0) return 6;
+    if (gaxtrel_which(m, NULL, 0, NULL, 0, &count) != wanted || count != wanted) return 7;
     if (gaxtrel_find(m, NULL, 0, 0, &part) != GAXTREL_NO) return 2;
     if (gaxtrel_parts(m, NULL, 0, 0, NULL, 0, &count) != GAXTREL_NO || count != 0) return 3;
     if (gaxtrel_next_line(m, NULL, 0, 0, &part) != GAXTREL_NO) return 4;
@@ -30,7 +35,8 @@ static int wrong(void) {
     gaxtrel_session s = GAXTREL_NONE;
     gaxtrel_fault fault;
     size_t count = 7;
-    if (gaxtrel_compile_lines(&m, NULL, 0, GAXTREL_BASIC, false, false, &fault) != GAXTREL_OK) return 11;
+    if (gaxtrel_compile_lines(&m, NULL, 0, GAXTREL_BASIC, false, false, &fault) != GAXTREL_OK) return 10;
+    if (gaxtrel_compile_each(&m, NULL, 0, GAXTREL_BASIC, false, false, &fault) != GAXTREL_OK) return 11;
     if (wrong_match(&m, GAXTREL_NO)) return 20 + wrong_match(&m, GAXTREL_NO);
     if (gaxtrel_compile(&m, NULL, 0, GAXTREL_BASIC, false, true, &fault) != GAXTREL_OK) return 12;
     if (wrong_match(&m, GAXTREL_YES)) return 30 + wrong_match(&m, GAXTREL_YES);

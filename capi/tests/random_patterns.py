@@ -106,8 +106,9 @@ def found(it: Asked) -> list[tuple[int, list[bytes]]] | str:
     """What the library finds: the numbers of the matched lines with their parts, or the fault. Its calls for one line
     and for a text, and for one pattern and for several, have to agree."""
     words = {"syntax": it.syntax, "fold": it.fold, "whole": it.whole}
+    texts = b"".join(text + b"\n" for text in it.patterns)
     try:
-        made = gaxtrel.compile_lines(b"".join(text + b"\n" for text in it.patterns), **words)
+        made = gaxtrel.compile_lines(texts, **words)
     except gaxtrel.Error as error:
         return f"grep: {error}\n"
     rows = []
@@ -124,11 +125,13 @@ def found(it: Asked) -> list[tuple[int, list[bytes]]] | str:
     text = b"\n".join(it.lines) + b"\n"
     assert made.count_lines(text) == len(rows)
     assert [place.group() for place in made.lines(text)] == [it.lines[number - 1] for number, _ in rows]
-    if len(it.patterns) == 1:
-        alone = gaxtrel.compile(it.patterns[0], **words)
-        for text in it.lines:
-            assert alone.is_match(text) == made.is_match(text)
-            assert [part.span() for part in alone.finditer(text)] == [part.span() for part in made.finditer(text)]
+    apart = gaxtrel.compile_lines(texts, apart=True, **words)
+    alone = [gaxtrel.compile(one, **words) for one in it.patterns]
+    for text in it.lines:
+        assert apart.which(text) == [number for number, one in enumerate(alone) if one.is_match(text)]
+        assert bool(apart.which(text)) == made.is_match(text)
+        for one in [apart, *alone[:len(alone) == 1]]:
+            assert [part.span() for part in one.finditer(text)] == [part.span() for part in made.finditer(text)]
     return rows
 
 

@@ -51,31 +51,36 @@ static int has_parts(gaxtrel_matcher *m, size_t k) {
 static int answers(gaxtrel_matcher *m, size_t k) {
     const uint8_t *line = (const uint8_t *)cases[k].line, *text = (const uint8_t *)cases[k].text;
     size_t length = strlen(cases[k].line), size = strlen(cases[k].text), at = 0;
+    size_t number, count;
     gaxtrel_part part;
+    gaxtrel_line found;
     uint64_t lines, n = 0;
     if (gaxtrel_is_match(m, line, length) != cases[k].matched) return 1;
     if (gaxtrel_find(m, line, length, 0, &part) != cases[k].matched) return 2;
     if (cases[k].matched && (part.start != cases[k].start || part.end != cases[k].end)) return 3;
+    uint32_t which = gaxtrel_which(m, line, length, &number, 1, &count);
+    if (which != cases[k].matched && which != GAXTREL_JOINED) return 11;
     int wrong = has_parts(m, k);
     if (wrong) return wrong;
     if (gaxtrel_count_lines(m, text, size, &lines) > 1 || lines != cases[k].lines) return 7;
     for (; gaxtrel_next_line(m, text, size, at, &part) == GAXTREL_YES; at = part.end + 1) n++;
+    if (gaxtrel_lines(m, text, size, 0, 1, &found, 1, &count) != (lines > 0)) return 12;
     return n == lines ? 0 : 8;
 }
 
 int main(void) {
     long runs = 0, refused = 0;
-    for (size_t k = 0; k < sizeof cases / sizeof *cases; k++) {
+    for (size_t run = 0; run < 2 * (sizeof cases / sizeof *cases); run++) {
+        size_t k = run / 2;
         for (long n = 0;; n++) {
             gaxtrel_matcher m = GAXTREL_NONE;
             gaxtrel_fault fault;
             const uint8_t *patterns = (const uint8_t *)cases[k].patterns;
             size_t length = strlen(cases[k].patterns);
             left = n;
-            uint32_t status =
-                strchr(cases[k].patterns, '\n')
-                    ? gaxtrel_compile_lines(&m, patterns, length, cases[k].syntax, cases[k].fold, false, &fault)
-                    : gaxtrel_compile(&m, patterns, length, cases[k].syntax, cases[k].fold, false, &fault);
+            uint32_t (*compile)(gaxtrel_matcher *, const uint8_t *, size_t, uint32_t, bool, bool, gaxtrel_fault *) =
+                run % 2 ? gaxtrel_compile_each : strchr(cases[k].patterns, '\n') ? gaxtrel_compile_lines : gaxtrel_compile;
+            uint32_t status = compile(&m, patterns, length, cases[k].syntax, cases[k].fold, false, &fault);
             int wrong = 0;
             if (status == GAXTREL_OK) {
                 for (int again = 0; again < 3 && !wrong; again++) wrong = answers(&m, k);

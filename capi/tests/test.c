@@ -98,10 +98,44 @@ static int most_patterns(void) {
         CHECK(43, gaxtrel_compile_lines(&m, text, sizeof text, syntax, false, false, &fault) == GAXTREL_REFUSED);
         CHECK(44, fault.kind == GAXTREL_TOO_MANY_PATTERNS && fault.at == 0 && fault.pattern == MOST);
         CHECK(45, gaxtrel_is_match(&m, P("a(b")) == GAXTREL_MISUSED);
+        CHECK(49, gaxtrel_compile_each(&m, text, sizeof text, syntax, false, false, &fault) == GAXTREL_REFUSED);
     }
     CHECK(46, gaxtrel_compile_lines(&m, text, sizeof text, 7, false, false, &fault) == GAXTREL_NO_SYNTAX);
     CHECK(47, gaxtrel_compile_lines(&m, text, 2 * MOST, GAXTREL_EXTENDED, false, false, &fault) == GAXTREL_REFUSED);
     CHECK(48, fault.kind == GAXTREL_UNCLOSED_GROUP && fault.pattern == 0);
+    return 0;
+}
+
+/* Which of several patterns match a line. */
+static int which(void) {
+    gaxtrel_matcher m = GAXTREL_NONE;
+    gaxtrel_fault fault;
+    size_t numbers[4] = {90, 90, 90, 90}, count = 77;
+    CHECK(100, gaxtrel_which(&m, P("x"), numbers, 4, &count) == GAXTREL_MISUSED && count == 77);
+    CHECK(101, gaxtrel_compile_each(&m, P("ab\n^x\nb$\n[0-9]"), GAXTREL_EXTENDED, false, false, &fault) == GAXTREL_OK);
+    CHECK(102, gaxtrel_which(&m, P("xab"), numbers, 4, &count) == GAXTREL_YES && count == 3 && took(&m));
+    CHECK(103, numbers[0] == 0 && numbers[1] == 1 && numbers[2] == 2 && numbers[3] == 90);
+    CHECK(104, steps(&m) <= 4 * 4 && m.work.passed <= 4 * 4);
+    CHECK(105, gaxtrel_which(&m, P("7b"), numbers, 1, &count) == GAXTREL_YES && count == 2);
+    CHECK(106, numbers[0] == 2 && numbers[1] == 1);
+    CHECK(107, gaxtrel_which(&m, P("z"), numbers, 4, &count) == GAXTREL_NO && count == 0 && numbers[0] == 2);
+    CHECK(108, gaxtrel_which(&m, P("x"), numbers, 0, &count) == GAXTREL_YES && count == 1 && numbers[0] == 2);
+    /* other calls ask all of them */
+    CHECK(109, gaxtrel_is_match(&m, P("xz")) == GAXTREL_YES && gaxtrel_is_match(&m, P("z")) == GAXTREL_NO);
+    CHECK(110, gaxtrel_which(&m, P("ab 1"), numbers, 4, &count) == GAXTREL_YES && count == 2);
+    CHECK(111, numbers[0] == 0 && numbers[1] == 3);
+    /* one pattern is apart, joined ones are not */
+    CHECK(112, gaxtrel_compile(&m, P("b"), GAXTREL_EXTENDED, false, false, &fault) == GAXTREL_OK);
+    CHECK(113, gaxtrel_which(&m, P("ab"), numbers, 4, &count) == GAXTREL_YES && count == 1 && numbers[0] == 0);
+    CHECK(114, gaxtrel_compile_lines(&m, P("a\nb"), GAXTREL_EXTENDED, false, false, &fault) == GAXTREL_OK);
+    CHECK(115, gaxtrel_which(&m, P("ab"), numbers + 1, 3, &count) == GAXTREL_JOINED && count == 1 && numbers[1] == 3);
+    CHECK(116, steps(&m) + m.work.passed == 0 && gaxtrel_is_match(&m, P("ab")) == GAXTREL_YES);
+    CHECK(117, gaxtrel_compile_each(&m, P("a\n(b"), GAXTREL_EXTENDED, false, false, &fault) == GAXTREL_REFUSED);
+    CHECK(118, fault.pattern == 1 && fault.kind == GAXTREL_UNCLOSED_GROUP && fault.at == 0);
+    CHECK(119, gaxtrel_which(&m, P("a"), numbers, 4, &count) == GAXTREL_MISUSED);
+    CHECK(120, gaxtrel_compile_each(&m, P(""), GAXTREL_EXTENDED, false, false, &fault) == GAXTREL_OK);
+    CHECK(121, gaxtrel_which(&m, P("a"), numbers, 4, &count) == GAXTREL_NO && count == 0);
+    gaxtrel_free(&m);
     return 0;
 }
 
@@ -165,6 +199,40 @@ static int lines(void) {
     return 0;
 }
 
+/* The lines of a text at once, with their numbers. */
+static int numbered_lines(void) {
+    gaxtrel_matcher m = GAXTREL_NONE;
+    gaxtrel_fault fault;
+    gaxtrel_line found[4] = {{90, 91, 92}, {90, 91, 92}, {90, 91, 92}, {90, 91, 92}};
+    size_t count = 77;
+    static const uint8_t text[] = "xa\nab\n\nxyz\nzx\nbz";
+    CHECK(130, gaxtrel_lines(&m, P("x"), 0, 1, found, 4, &count) == GAXTREL_MISUSED && count == 77);
+    CHECK(131, gaxtrel_compile_lines(&m, P("^a\nz$"), GAXTREL_BASIC, false, false, &fault) == GAXTREL_OK);
+    CHECK(132, gaxtrel_lines(&m, text, sizeof text - 1, 0, 1, found, 4, &count) == GAXTREL_YES && count == 3);
+    CHECK(133, found[0].start == 3 && found[0].end == 5 && found[0].number == 2);
+    CHECK(134, found[1].start == 7 && found[1].end == 10 && found[1].number == 4);
+    CHECK(135, found[2].start == 14 && found[2].end == 16 && found[2].number == 6 && found[3].start == 90);
+    CHECK(136, steps(&m) <= 2 * 17 && m.work.passed <= 2 * 17);
+    /* as far as there is room, and on from there */
+    CHECK(137, gaxtrel_lines(&m, text, sizeof text - 1, 0, 1, found, 1, &count) == GAXTREL_YES && count == 1);
+    CHECK(138, found[0].start == 3 && found[1].start == 7 && steps(&m) <= 2 * 6 && m.work.passed <= 2 * 6);
+    CHECK(139, gaxtrel_lines(&m, text, sizeof text - 1, 6, 3, found + 1, 1, &count) == GAXTREL_YES && count == 1);
+    CHECK(140, found[1].start == 7 && found[1].number == 4 && steps(&m) <= 2 * 5 && m.work.passed <= 2 * 5);
+    CHECK(141, gaxtrel_lines(&m, text, sizeof text - 1, 11, UINT64_MAX, found, 4, &count) == GAXTREL_YES && count == 1);
+    CHECK(142, found[0].start == 14 && found[0].end == 16 && found[0].number == UINT64_MAX && found[1].start == 7);
+    CHECK(143, gaxtrel_lines(&m, text, sizeof text - 1, 17, 7, found, 4, &count) == GAXTREL_NO && count == 0);
+    CHECK(144, gaxtrel_lines(&m, text, sizeof text - 1, SIZE_MAX, 7, found, 4, &count) == GAXTREL_NO && count == 0);
+    CHECK(145, gaxtrel_lines(&m, text, sizeof text - 1, 0, 1, found, 0, &count) == GAXTREL_NO && count == 0);
+    CHECK(146, steps(&m) + m.work.passed == 0 && found[0].start == 14);
+    /* each line is matched, and empty */
+    CHECK(147, gaxtrel_compile(&m, P(""), GAXTREL_BASIC, false, false, &fault) == GAXTREL_OK);
+    CHECK(148, gaxtrel_lines(&m, P("\n\na"), 0, 1, found, 4, &count) == GAXTREL_YES && count == 3);
+    CHECK(149, found[0].end == 0 && found[1].start == 1 && found[1].number == 2 && found[2].start == 2);
+    CHECK(150, found[2].end == 3 && found[2].number == 3 && found[3].start == 90);
+    gaxtrel_free(&m);
+    return 0;
+}
+
 /* Patterns that take others time beyond the line: no more than a step a byte and one more. */
 static int hostile(void) {
     static const char *const patterns[] = {
@@ -197,8 +265,10 @@ int main(void) {
     int failed = one();
     if (!failed) failed = several();
     if (!failed) failed = most_patterns();
+    if (!failed) failed = which();
     if (!failed) failed = parts();
     if (!failed) failed = lines();
+    if (!failed) failed = numbered_lines();
     if (!failed) failed = hostile();
     if (!failed) puts("each call answers as it has to");
     return failed;

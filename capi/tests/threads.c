@@ -26,9 +26,14 @@ static long wrong_answers(gaxtrel_matcher *m) {
     for (size_t k = 0; k < LINES; k++) {
         char line[LINES + 8];
         memset(line, 'x', k);
-        size_t length = k + strlen(strcpy(line + k, ends[k % 4])), count = 9;
+        size_t length = k + strlen(strcpy(line + k, ends[k % 4])), count = 9, number = 9;
         gaxtrel_part part = {0, 0};
+        gaxtrel_line found = {9, 9, 9};
         wrong += gaxtrel_is_match(m, (const uint8_t *)line, length) != (parts[k % 4] > 0);
+        wrong += gaxtrel_which(m, (const uint8_t *)line, length, &number, 1, &count) != (parts[k % 4] > 0);
+        wrong += count != (parts[k % 4] > 0) || (count > 0 && number != 0);
+        wrong += gaxtrel_lines(m, (const uint8_t *)line, length, 0, k, &found, 1, &count) != (parts[k % 4] > 0);
+        wrong += count > 0 && (found.start != 0 || found.end != length || found.number != k);
         wrong += gaxtrel_parts(m, (const uint8_t *)line, length, 0, &part, 1, &count) != (parts[k % 4] > 0);
         wrong += count != parts[k % 4] || (count > 0 && part.start != k);
     }

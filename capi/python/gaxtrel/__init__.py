@@ -108,10 +108,10 @@ class Pattern(_core.Matcher):
     """What `compile` and `compile_lines` make. Threads that share one take turns."""
 
     def __init__(self, pattern: bytes, syntax: Syntax = Syntax.EXTENDED, fold: bool = False,
-                 whole: bool = False, several: bool = False) -> None:
+                 whole: bool = False, several: bool = False, apart: bool = False) -> None:
         self.pattern, self.syntax, self.fold, self.whole = pattern, Syntax(syntax), fold, whole
-        self.several = several
-        if fault := self._compile(pattern, self.syntax, fold, whole, several):
+        self.several, self.apart = several, apart
+        if fault := self._compile(pattern, self.syntax, fold, whole, several, apart):
             raise Error(Kind[fault[0]], *fault[1:])
 
     def lines(self, text: Text, start: int = 0) -> Iterator[Match]:
@@ -126,7 +126,7 @@ class Pattern(_core.Matcher):
         return Work(*self._work())
 
     def __reduce__(self) -> tuple[Any, ...]:
-        return Pattern, (self.pattern, self.syntax, self.fold, self.whole, self.several)
+        return Pattern, (self.pattern, self.syntax, self.fold, self.whole, self.several, self.apart)
 
     def __repr__(self) -> str:
         return f"<gaxtrel.Pattern {self.pattern!r} {self.syntax.name}>"
@@ -160,7 +160,8 @@ def compile(pattern: bytes, syntax: Syntax = Syntax.EXTENDED, *, fold: bool = Fa
 
 
 def compile_lines(patterns: bytes, syntax: Syntax = Syntax.EXTENDED, *, fold: bool = False,
-                  whole: bool = False) -> Pattern:
+                  whole: bool = False, apart: bool = False) -> Pattern:
     """Several patterns, which are the lines of `patterns`: a line is matched where one of them
-    matches it. No bytes are no pattern, which matches nothing."""
-    return Pattern(patterns, syntax, fold, whole, several=True)
+    matches it. No bytes are no pattern, which matches nothing. With `apart` its `which` says which
+    ones match a line; where there are many, other searches take longer then."""
+    return Pattern(patterns, syntax, fold, whole, True, apart)

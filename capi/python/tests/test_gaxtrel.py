@@ -100,6 +100,19 @@ class Searches(unittest.TestCase):
         self.assertFalse(gaxtrel.compile_lines(b"").is_match(b""))
         self.assertTrue(gaxtrel.compile_lines(b"\n").is_match(b"a"))
 
+    def test_which(self) -> None:
+        pattern = gaxtrel.compile_lines(b"ab\n^x\nB$\n[0-9]", fold=True, apart=True)
+        for line, numbers in {b"xab": [0, 1, 2], b"7b": [2, 3], b"z": [], b"": []}.items():
+            self.assertEqual(pattern.which(line), numbers)
+            self.assertEqual(pattern.is_match(line), bool(numbers))
+        self.assertEqual(self.pattern.which(b"abc"), [0])
+        self.assertEqual(gaxtrel.compile_lines(b"a\nb\n" * 500, apart=True).which(b"b"), list(range(1, 1000, 2)))
+        with self.assertRaisesRegex(ValueError, "joined"):
+            gaxtrel.compile_lines(b"a\nb").which(b"a")
+        with self.assertRaises(gaxtrel.Error) as refused:
+            gaxtrel.compile_lines(b"a\n(b\n[", apart=True)
+        self.assertEqual((refused.exception.kind, refused.exception.pattern), (Kind.UnclosedGroup, 1))
+
     def test_work_is_bounded(self) -> None:
         pattern = gaxtrel.compile(b"a|a*[bc]")
         line = b"a" * 20_000
@@ -147,7 +160,7 @@ class Errors(unittest.TestCase):
             self.assertRaises(TypeError, gaxtrel.compile, wrong)
         for wrong in ("a", None, 7):
             self.assertRaises(TypeError, gaxtrel.compile, wrong)
-            for call in ("is_match", "fullmatch", "search", "finditer", "count_lines"):
+            for call in ("is_match", "which", "fullmatch", "search", "finditer", "count_lines"):
                 self.assertRaises(TypeError, getattr(gaxtrel.compile(b"a"), call), wrong)
             self.assertRaises(TypeError, list, map(list, [gaxtrel.compile(b"a").lines(wrong)]))
         self.assertRaises(ValueError, gaxtrel.compile, b"a", 3)
@@ -155,18 +168,18 @@ class Errors(unittest.TestCase):
     def test_closed(self) -> None:
         with gaxtrel.compile(b"a") as pattern:
             self.assertTrue(pattern.is_match(b"a"))
-        for call in ("is_match", "fullmatch", "search", "finditer", "count_lines"):
+        for call in ("is_match", "which", "fullmatch", "search", "finditer", "count_lines"):
             self.assertRaises(ValueError, getattr(pattern, call), b"a")
         pattern.close()
 
 
 class Objects(unittest.TestCase):
     def test_copies_are_patterns_of_their_own(self) -> None:
-        pattern = gaxtrel.compile_lines(b"a\nb", fold=True, whole=True)
+        pattern = gaxtrel.compile_lines(b"a\nb", fold=True, whole=True, apart=True)
         for again in (copy.copy(pattern), copy.deepcopy(pattern), pickle.loads(pickle.dumps(pattern))):
             again.close()
             self.assertTrue(pattern.is_match(b"B"))
-            self.assertFalse(pattern.is_match(b"BA"))
+            self.assertFalse(pattern.which(b"BA"))
 
     def test_a_pattern_with_each_thread(self) -> None:
         def work(seen: list[bool]) -> None:
@@ -216,8 +229,9 @@ class Objects(unittest.TestCase):
         session.answer(b"file f 1\nab\n")
         refusals = 0
         for call, *words in ((pattern.fullmatch, b"bc"), (pattern.search, line, 1000), (pattern.finditer, line),
+                             (gaxtrel.compile_lines(b".\n" * 900, apart=True).which, b"abc"),
                              (pattern._next_line, line, 1000), (session._answer, b"page 0 9\n"),
-                             (gaxtrel.compile(b"")._compile, b"a(", 1, False, False, False)):
+                             (gaxtrel.compile(b"")._compile, b"a(", 1, False, False, False, False)):
             wanted, refused, number = str(call(*words)).split(" at ")[0], True, 0
             while refused:
                 refused, given = False, None
@@ -231,7 +245,7 @@ class Objects(unittest.TestCase):
                 refusals += refused
                 self.assertTrue(refused or str(given).split(" at ")[0] == wanted)
                 number += 1
-        self.assertGreater(refusals, 500)  # one for each part of finditer
+        self.assertGreater(refusals, 1100)  # one for each part of finditer and most numbers of which
 
     def test_one_session_for_all_threads(self) -> None:
         session = gaxtrel.Session(1)

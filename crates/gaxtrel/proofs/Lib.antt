@@ -2,8 +2,10 @@
 pub mod Values
 pub mod HandleValues
 -- lemmas by subject; the answers to goals of functions lie in folders of their modules
-pub mod PartLemmas
+pub mod ArrayLemmas
+pub mod WhichLemmas
 pub mod TextLemmas
+pub mod LineLemmas
 pub mod KeptLemmas
 pub mod ServedLemmas
 pub mod CommandLemmas

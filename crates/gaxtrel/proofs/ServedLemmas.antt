@@ -1,6 +1,7 @@
 -- What is found of a search that serves for another is found for that.
-use Rattle.std.proofs.Common.{◌≡◌, ◌∙◌, ℕ, ◌+◌, ◌↔◌, List, Option, None, Some, length, refl, sym, ap, subst, arith}
+use Rattle.std.proofs.Common.{◌≡◌, ◌∙◌, ℕ, ◌+◌, ◌↔◌, Bool, true, List, [], ◌∷◌, inl, inr, Option, None, Some, length, drop, map, refl, sym, ap, subst, arith}
 use Rattle.re_syntax.specs.Bytes.{Text}
+use Rattle.re_syntax.specs.Lines.{lines_of}
 use Rattle.re_syntax.specs.Parts.{ArePartsFrom}
 use Rattle.re_trees.specs.declared.span.Span.{Span}
 use Rattle.re_meter.specs.Meters.{Steps, AddsAtMost}
@@ -13,24 +14,26 @@ use Rattle.grep_core.proofs.lemmas.SameChoice.{Any-Matches, ArePartsFrom-same, I
 use Rattle.gaxtrel.specs.declared.held.Held.{Held}
 use Rattle.gaxtrel.specs.declared.held.Held.TheVariants.{Patterns}
 use Rattle.gaxtrel.specs.Held.{IsFor, patterns_in}
-use Rattle.gaxtrel.specs.Kept.{Kept, Serves, sought_in}
-use Rattle.gaxtrel.specs.Calls.{FindsLine, PutsParts, line_cost}
+use Rattle.gaxtrel.specs.Kept.{Kept, Serves, Stays, sought_in}
+use Rattle.gaxtrel.specs.Calls.{AreLines, FindsLine, PutsLines, PutsNumbers, PutsParts, line_cost}
 use Rattle.gaxtrel.specs.declared.part.GaxtrelPart.{GaxtrelPart}
+use Rattle.gaxtrel.specs.declared.text_lines.GaxtrelLine.{GaxtrelLine}
 
 -- a search serves for itself
-pub serves_itself : (asked sought : Sought) → asked ≡ sought → Serves asked sought
-serves_itself asked sought is = subst (Serves asked) is (record { same = λ line i j. (λ a. a, λ a. a); fewer = omega arith; whole = refl })
+pub serves_itself : (apart : Bool) (asked sought : Sought) → asked ≡ sought → Serves apart asked sought
+serves_itself apart asked sought is = subst (Serves apart asked) is (record { same = λ line i j. (λ a. a, λ a. a); fewer = omega arith; whole = refl; each = λ _. refl })
 
 -- what was taken out serves for what is searched for, and so does what is held after a call
-pub served : (held : Option Held) (sought : Sought) → IsFor held sought → (boxed now : Held) (kept : Kept) → held ≡ Some boxed → now ≡ boxed → now ≡ Patterns kept
-    → Serves (sought_in kept) sought × ((after : Option Held) (last : Kept) → after ≡ Some (Patterns last) → sought_in last ≡ sought_in kept → IsFor after sought)
-served held sought is boxed now kept taken value kind =
+pub served : {apart : Bool} {held : Option Held} {sought : Sought} {boxed now : Held} {kept : Kept} → IsFor apart held sought → held ≡ Some boxed → now ≡ boxed → now ≡ Patterns kept
+    → Serves apart (sought_in kept) sought × ((after : Option Held) (last : Kept) → after ≡ Some (Patterns last) → Stays kept last → IsFor apart after sought) × (kept.apart ≡ apart)
+served {apart} {held} {sought} {boxed} {now} {kept} is taken value kind =
     let both : Some is.kept ≡ Some kept = sym is.is_there ∙ ap patterns_in (taken ∙ ap Some (sym value ∙ kind)) in
     let same : is.kept ≡ kept = cc both in
-    let serves = subst (λ (k : Kept). Serves (sought_in k) sought) same is.serves in
-    (serves, λ after last holds stays. record { kept = last; is_there = ap patterns_in holds; serves = subst (λ s. Serves s sought) (sym stays) serves })
+    let serves = subst (λ (k : Kept). Serves apart (sought_in k) sought) same is.serves in
+    let now_apart = subst (λ (k : Kept). k.apart ≡ apart) same is.is_apart in
+    (serves, (λ after last holds stays. record { kept = last; is_there = ap patterns_in holds; is_apart = stays.1 ∙ now_apart; serves = subst (λ s. Serves apart s sought) (sym stays.0) serves }), now_apart)
 
-module _ (asked sought : Sought) (serves : Serves asked sought) where
+module _ {apart : Bool} {asked sought : Sought} (serves : Serves apart asked sought) where
   is_here : (line : Text) → IsSought asked line → IsSought sought line
   is_here line is = subst (SomeMatches sought.expressions line) serves.whole (Any-Matches asked.expressions sought.expressions serves.same line asked.whole is)
 
@@ -45,13 +48,33 @@ module _ (asked sought : Sought) (serves : Serves asked sought) where
   part_served line from (Some s) part = subst (λ w. FindsPart sought.expressions line w from (Some s)) serves.whole (IsPart-same asked.expressions sought.expressions serves.same line asked.whole from s.start s.end part)
 
   pub parts_served : (line : Text) (from : ℕ) (old new : List GaxtrelPart) (count : ℕ) → PutsParts asked line from old new count → PutsParts sought line from old new count
-  parts_served line from old new count (all, are, long, put) = (all, subst (λ w. ArePartsFrom sought.expressions line w from all) serves.whole (ArePartsFrom-same asked.expressions sought.expressions serves.same line asked.whole from all are), long, put)
+  parts_served line from old new count (all, are, long, put) =
+      let places = map (λ (part : GaxtrelPart). (part.start, part.end)) all in
+      (all, subst (λ w. ArePartsFrom sought.expressions line w from places) serves.whole (ArePartsFrom-same asked.expressions sought.expressions serves.same line asked.whole from places are), long, put)
+
+  pub numbers_served : apart ≡ true → (line : Text) (old new : List ℕ) (count : ℕ) → PutsNumbers asked line old new count → PutsNumbers sought line old new count
+  numbers_served is line old new count = subst (λ (s : Sought). PutsNumbers s line old new count) (λ i. record { expressions = serves.each is i; whole = serves.whole i })
 
   pub count_served : (lines : List Text) (count : ℕ) → CountsSought asked lines count → CountsSought sought lines count
   count_served lines count counts = counts_same (IsSought asked) (IsSought sought) is_here is_there lines count counts
 
   pub cost_served : (text : Text) (old new : Steps) → AddsAtMost (line_cost (length asked.expressions) text) old new → AddsAtMost (line_cost (length sought.expressions) text) old new
   cost_served text old new few = adds_for_more (length asked.expressions) (length sought.expressions) (length text + 1) old new serves.fewer few
+
+  same_lines : (lines : List Text) (at number : ℕ) (all : List GaxtrelLine) → AreLines asked lines at number all → AreLines sought lines at number all
+  same_lines [] at number all none = none
+  same_lines (line ∷ lines) at number all (inl (holds, (more, is, are))) = inl (is_here line holds, (more, is, same_lines lines (at + length line + 1) (number + 1) more are))
+  same_lines (line ∷ lines) at number all (inr (not, are)) = inr ((λ h. not (is_there line h)), same_lines lines (at + length line + 1) (number + 1) all are)
+
+  pub lines_served : (text : Text) (from number count : ℕ) (old new : List GaxtrelLine) (begun ended : Steps) → PutsLines asked text from number old new count begun ended → PutsLines sought text from number old new count begun ended
+  lines_served text from number count old new begun ended puts = record {
+    all = puts.all;
+    are = same_lines (lines_of (drop from text)) from number puts.all puts.are;
+    counted = puts.counted;
+    put = puts.put;
+    few = adds_for_more (length asked.expressions) (length sought.expressions) _ begun ended serves.fewer puts.few;
+    fewer = λ full. adds_for_more (length asked.expressions) (length sought.expressions) _ begun ended serves.fewer (puts.fewer full);
+  }
 
   pub next_served : (text : Text) (from : ℕ) (place : Option Span) (old new : Steps) → FindsLine asked text from place old new → FindsLine sought text from place old new
   next_served text from place old new finds = record {

@@ -161,10 +161,13 @@ module _ (text : Text) (cut : ℕ) (passed : PassesAll (λ _. ⊤) text cut) whe
           grouped k a b = omega arith
 
 -- past its end a text has no line
+pub no_line_left : (P : Text → Type 0) (text : Text) (from : ℕ) → length text ≤ from → All (λ line. ¬ P line) (lines_of (drop from text))
+no_line_left P text from past = subst (All (λ line. ¬ P line)) (sym (lines_of-empty (drop from text) (ap length (drop_all from text past)))) (All-nil (λ line. ¬ P line))
+
 pub none_past : (sought : Sought) (text : Text) (from : ℕ) (steps : Steps) → length text ≤ from → FindsLine sought text from None steps steps
 none_past sought text from steps past = record {
   found = None;
-  finds = subst (λ l. All (λ line. ¬ IsSought sought line) l) (sym (lines_of-empty (drop from text) (ap length (drop_all from text past)))) (All-nil (λ line. ¬ IsSought sought line));
+  finds = no_line_left (IsSought sought) text from past;
   is_place = refl;
   few = adds_none _ _ steps;
 }

@@ -1,19 +1,23 @@
 -- What the calls of the library take and answer.
-use Rattle.std.specs.Prelude.{◌≡◌, ℕ, ◌+◌, ◌*◌, List, [], ◌∷◌, Option, Some, None, drop, length}
+use Rattle.std.specs.Prelude.{◌≡◌, ℕ, ◌+◌, ◌-◌, ◌*◌, ◌^◌, ◌⊎◌, Bool, List, [], ◌∷◌, Option, Some, None, drop, length, map, min}
 use Rattle.re_syntax.specs.Bytes.{Text}
 use Rattle.re_syntax.specs.declared.syntax.Syntax.{Syntax}
 use Rattle.re_syntax.specs.declared.syntax.Syntax.TheVariants as s
 use Rattle.re_syntax.specs.declared.fault.FaultKind.{FaultKind}
 use Rattle.re_syntax.specs.declared.fault.FaultKind.TheVariants as f
 use Rattle.re_trees.specs.declared.span.Span.{Span}
+use Rattle.re_syntax.specs.Expression.{Expression}
+use Rattle.re_syntax.specs.Holds.{Matches}
 use Rattle.re_syntax.specs.Lines.{lines_of}
 use Rattle.re_syntax.specs.Parts.{ArePartsFrom}
 use Rattle.re_syntax.specs.Profile.{most_patterns}
 use Rattle.re_meter.specs.Meters.{Steps, AddsAtMost, fresh}
-use Rattle.re_search.specs.Working.Sought.{FindsSought, Sought}
+use Rattle.re_search.specs.Working.Sought.{FindsSought, IsSought, Sought}
+use Rattle.gaxtrel.specs.Held.{IsFor}
 use Rattle.gaxtrel.specs.declared.held.Held.{Held}
 use Rattle.gaxtrel.specs.declared.numbers.GaxtrelFault.{GaxtrelFault}
 use Rattle.gaxtrel.specs.declared.part.GaxtrelPart.{GaxtrelPart}
+use Rattle.gaxtrel.specs.declared.text_lines.GaxtrelLine.{GaxtrelLine}
 use Rattle.gaxtrel.specs.declared.work.GaxtrelWork.{GaxtrelWork}
 
 -- the version: 1,000,000 times its first number, 1,000 times its second, and its third
@@ -48,16 +52,18 @@ kind_number f.Memory = 0
 abbrev pub too_many_patterns : GaxtrelFault
 too_many_patterns = record { kind = 15; at = 0; pattern = most_patterns }
 
--- ---- parts in an array
+-- ---- items in an array
 
-abbrev pub part_at : ℕ × ℕ → GaxtrelPart
-part_at place = record { start = place.0; end = place.1 }
-
--- the parts in order over the elements of an array, as far as there is room
-abbrev pub put_over : List (ℕ × ℕ) → List GaxtrelPart → List GaxtrelPart
+-- the items in order over the elements of an array, as far as there is room
+abbrev pub put_over : {A : Type 0} → List A → List A → List A
 put_over [] old = old
-put_over (place ∷ places) [] = []
-put_over (place ∷ places) (part ∷ old) = part_at place ∷ put_over places old
+put_over (item ∷ items) [] = []
+put_over (item ∷ items) (x ∷ old) = item ∷ put_over items old
+
+-- so many items are all of which this holds, and were written over an array in order
+abbrev pub Puts : {A : Type 0} → (List A → Type 0) → List A → List A → ℕ → Type 0
+Puts {A} Are old new count =
+    (all : List A) × Are all × (count ≡ length all) × (new ≡ put_over all old)
 
 -- ---- work
 
@@ -78,6 +84,11 @@ IsMisused answer old new work = (answer ≡ 3) × (new ≡ old) × (steps_of wor
 abbrev pub line_cost : ℕ → Text → ℕ
 line_cost matchers line = matchers * (length line + 1)
 
+-- what is held searches for this still, and the work that is shown is at most that of one search
+abbrev pub HasSearched : Bool → Sought → Text → Option Held → GaxtrelWork → Type 0
+HasSearched apart sought line held work =
+    IsFor apart held sought × AddsAtMost (line_cost (length sought.expressions) line) fresh (steps_of work)
+
 -- a search for the next line of a text: up to the end of that line; without one the whole text
 abbrev pub bytes_to_next : Text → Option Span → ℕ
 bytes_to_next text None = length text + 1
@@ -85,16 +96,36 @@ bytes_to_next text (Some place) = place.end + 1
 
 -- ---- answers
 
+-- the part of a line that a span is
+abbrev pub part_at : Span → GaxtrelPart
+part_at span = record { start = span.start; end = span.end }
+
 -- 1 and the place that was found, or 0
 abbrev pub Tells : ℕ → GaxtrelPart → Option Span → Type 0
 Tells answer part None = answer ≡ 0
-Tells answer part (Some span) = (answer ≡ 1) × (part ≡ part_at (span.start, span.end))
+Tells answer part (Some span) = (answer ≡ 1) × (part ≡ part_at span)
+
+-- all parts that a line has from a place on
+abbrev pub AreParts : Sought → Text → ℕ → List GaxtrelPart → Type 0
+AreParts sought line from parts =
+    ArePartsFrom sought.expressions line sought.whole from
+    (map (λ part. (part.start, part.end)) parts)
 
 -- so many parts that a line has from a place on are all, and were written over an array in order
 abbrev pub PutsParts : Sought → Text → ℕ → List GaxtrelPart → List GaxtrelPart → ℕ → Type 0
-PutsParts sought line from old new count =
-    (all : List (ℕ × ℕ)) × ArePartsFrom sought.expressions line sought.whole from all
-    × (count ≡ length all) × (new ≡ put_over all old)
+PutsParts sought line from = Puts (AreParts sought line from)
+
+-- the numbers, from a first one on, of those expressions that match a line
+abbrev pub AreNumbers : Bool → Text → List Expression → ℕ → List ℕ → Type 0
+AreNumbers whole line [] first numbers = numbers ≡ []
+AreNumbers whole line (e ∷ es) first numbers =
+    (Matches e line whole
+    × ((more : List ℕ) × (numbers ≡ first ∷ more) × AreNumbers whole line es (first + 1) more))
+    ⊎ ((Matches e line whole → ⊥) × AreNumbers whole line es (first + 1) numbers)
+
+-- so many expressions match a line, and their numbers, from 0, were written over an array in order
+abbrev pub PutsNumbers : Sought → Text → List ℕ → List ℕ → ℕ → Type 0
+PutsNumbers sought line = Puts (AreNumbers sought.whole line sought.expressions 0)
 
 -- a place further on
 abbrev pub moved : ℕ → Option Span → Option Span
@@ -109,3 +140,33 @@ pub record FindsLine (sought : Sought) (text : Text) (from : ℕ) (place : Optio
   pub finds : FindsSought sought (lines_of (drop from text)) found
   pub is_place : place ≡ moved from found
   pub few : AddsAtMost (length sought.expressions * bytes_to_next (drop from text) found) old new
+
+-- a line; its number is at most 2^64 - 1
+abbrev pub line_at : ℕ → ℕ → ℕ → GaxtrelLine
+line_at start end number = record { start = start; end = end; number = min number (2 ^ 64 - 1) }
+
+-- the matched lines of a text that begins at a place, its first line with a number
+abbrev pub AreLines : Sought → List Text → ℕ → ℕ → List GaxtrelLine → Type 0
+AreLines sought [] at number lines = lines ≡ []
+AreLines sought (text ∷ texts) at number lines =
+    (IsSought sought text
+    × ((more : List GaxtrelLine) × (lines ≡ line_at at (at + length text) number ∷ more)
+    × AreLines sought texts (at + length text + 1) (number + 1) more))
+    ⊎ ((IsSought sought text → ⊥) × AreLines sought texts (at + length text + 1) (number + 1) lines)
+
+-- the place after these lines, of which the first is searched for from a place on
+abbrev pub after_lines : ℕ → List GaxtrelLine → ℕ
+after_lines from [] = from
+after_lines from (line ∷ lines) = after_lines (line.end + 1) lines
+
+-- so many matched lines of a text from a place on were written over an array: all, or as many as
+-- there is room for, and then nothing after these was searched
+pub record PutsLines (sought : Sought) (text : Text) (from number : ℕ) (old new : List GaxtrelLine)
+    (count : ℕ) (begun ended : Steps) : Type 0 where
+  pub all : List GaxtrelLine
+  pub are : AreLines sought (lines_of (drop from text)) from number all
+  pub counted : count ≡ min (length old) (length all)
+  pub put : new ≡ put_over all old
+  pub few : AddsAtMost (length sought.expressions * (length (drop from text) + 1)) begun ended
+  pub fewer : count ≡ length old →
+      AddsAtMost (length sought.expressions * (after_lines from new - from)) begun ended

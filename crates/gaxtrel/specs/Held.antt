@@ -34,8 +34,9 @@ session_in None = None
 session_in (Some (Patterns kept)) = None
 session_in (Some (Session live)) = Some live
 
--- patterns are held, and they search for this
-pub record IsFor (held : Option Held) (sought : Sought) : Type 0 where
+-- patterns are held, apart or not, and they search for this
+pub record IsFor (apart : Bool) (held : Option Held) (sought : Sought) : Type 0 where
   pub kept : Kept
   pub is_there : patterns_in held ≡ Some kept
-  pub serves : Serves (sought_in kept) sought
+  pub is_apart : kept.apart ≡ apart
+  pub serves : Serves apart (sought_in kept) sought

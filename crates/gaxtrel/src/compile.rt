@@ -1,5 +1,6 @@
 //! The calls that make a matcher, and the one that frees it.
-ghost use Rattle.std.specs.Prelude.{◌≡◌, ◌≤◌, ◌<◌, ◌↔◌, ◌⊎◌, [], ◌∷◌, List, All, None, Some, length};
+ghost use Rattle.std.specs.Prelude.{◌≡◌, ◌≤◌, ◌<◌, ◌↔◌, ◌⊎◌, [], ◌∷◌, List, All, true, false};
+ghost use Rattle.std.specs.Prelude.{None, Some, length};
 ghost use Rattle.std.specs.List.{AllZip};
 ghost use Rattle.re_syntax.specs.declared.syntax.Syntax.{Syntax};
 ghost use Rattle.re_syntax.specs.declared.fault.PatternFault.{PatternFault};
@@ -39,7 +40,8 @@ pub extern "C" fn gaxtrel_compile(
     ensures four { result ≤ 3 }
     ensures made { result ≡ 0 → (s : Syntax) → syntax ≡ syntax_number s →
         (e : Expression) × IsMeant s fold pattern.now e × IsSmallFor s fold e
-        × IsFor matcher.new.handle.held (record { expressions = e ∷ []; whole = whole }) }
+        × IsFor true matcher.new.handle.held
+        (record { expressions = e ∷ []; whole = whole }) }
     ensures refused { result ≡ 1 → (s : Syntax) → syntax ≡ syntax_number s →
         (f : PatternFault) × IsRefusedFor s fold pattern.now f
         × (fault.new.kind ≡ kind_number f.kind) × (fault.new.at ≡ f.at)
@@ -84,7 +86,7 @@ pub extern "C" fn gaxtrel_compile_lines(
     ensures made { result ≡ 0 → (s : Syntax) → syntax ≡ syntax_number s →
         (es : List Expression) × AllZip (λ text e. IsMeant s fold text e) (lines_of patterns.now) es
         × All (IsReadable s fold) (lines_of patterns.now)
-        × IsFor matcher.new.handle.held (record { expressions = es; whole = whole }) }
+        × IsFor false matcher.new.handle.held (record { expressions = es; whole = whole }) }
     ensures many { most_patterns < length (lines_of patterns.now) →
         (s : Syntax) → syntax ≡ syntax_number s →
         (result ≡ 1) × (fault.new ≡ too_many_patterns) }
@@ -107,6 +109,55 @@ pub extern "C" fn gaxtrel_compile_lines(
         return 1;
     }
     match Patterns::of_lines(alloc, patterns, syntax, fold, whole) {
+        Ok(made) => hold(alloc, made, matcher),
+        Err(refused) => {
+            if matches!(refused.1.kind, FaultKind::Memory) {
+                return 2;
+            }
+            *fault = fault_of(refused.0, refused.1);
+            1
+        }
+    }
+}
+
+/// The same, but the matcher keeps each pattern apart, and can say which ones match a line.
+#[unsafe(no_mangle)]
+pub extern "C" fn gaxtrel_compile_each(
+    alloc: Global,
+    matcher: &mut GaxtrelHolder,
+    patterns: &[u8],
+    syntax: u32,
+    fold: bool,
+    whole: bool,
+    fault: &mut GaxtrelFault,
+) -> u32
+    ensures four { result ≤ 3 }
+    ensures made { result ≡ 0 → (s : Syntax) → syntax ≡ syntax_number s →
+        (es : List Expression) × AllZip (λ text e. IsMeant s fold text e) (lines_of patterns.now) es
+        × All (IsReadable s fold) (lines_of patterns.now)
+        × IsFor true matcher.new.handle.held (record { expressions = es; whole = whole }) }
+    ensures many { most_patterns < length (lines_of patterns.now) →
+        (s : Syntax) → syntax ≡ syntax_number s →
+        (result ≡ 1) × (fault.new ≡ too_many_patterns) }
+    ensures refused { result ≡ 1 → length (lines_of patterns.now) ≤ most_patterns →
+        (s : Syntax) → syntax ≡ syntax_number s →
+        (f : PatternFault)
+        × IsFirstRefused s fold (lines_of patterns.now) fault.new.pattern f
+        × (fault.new.kind ≡ kind_number f.kind) × (fault.new.at ≡ f.at) }
+    ensures unknown { (result ≡ 3) ↔ ((s : Syntax) → syntax ≡ syntax_number s → ⊥) }
+    ensures none { (result ≡ 0 → ⊥) → matcher.new.handle.held ≡ None }
+    ensures work { steps_of matcher.new.work ≡ fresh }
+    ensures no_fault { (result ≡ 1 → ⊥) → fault.new ≡ fault.old }
+{
+    *matcher = GaxtrelHolder::empty(alloc);
+    let Some(syntax) = syntax_of(syntax) else {
+        return 3;
+    };
+    if has_more_than(MOST_PATTERNS, patterns) {
+        *fault = TOO_MANY_PATTERNS;
+        return 1;
+    }
+    match Patterns::of_each(alloc, patterns, syntax, fold, whole) {
         Ok(made) => hold(alloc, made, matcher),
         Err(refused) => {
             if matches!(refused.1.kind, FaultKind::Memory) {

@@ -2,7 +2,9 @@
 //! `gaxtrel.h`.
 #![tactic(auto)]
 
+mod array;
 mod compile;
+mod each;
 mod handle;
 mod held;
 mod holder;
@@ -14,12 +16,15 @@ mod part;
 mod patterns;
 mod search;
 mod session;
+mod text_lines;
 mod text_reader;
 mod text_search;
 mod version;
+mod which;
 mod work;
 
 pub use holder::GaxtrelHolder;
 pub use numbers::GaxtrelFault;
 pub use part::GaxtrelPart;
+pub use text_lines::GaxtrelLine;
 pub use work::GaxtrelWork;

@@ -5,7 +5,8 @@ ghost use Rattle.gaxtrel.specs.Calls.{PutsParts, line_cost};
 ghost use Rattle.re_search.specs.Working.Matchers.{AreAlike, AreSame, expressions_of};
 ghost use Rattle.re_search.specs.Working.Sought.{sought_of};
 
-use crate::part::{GaxtrelPart, put_part};
+use crate::array::put;
+use crate::part::{GaxtrelPart, part_of};
 use re_search::{LineParts, Matcher, Meter, next_part};
 
 /// How many parts the line has from a place on. The first ones are written over the array.
@@ -31,7 +32,7 @@ pub(crate) fn put_parts(
     let mut at = from;
     let mut count: usize = 0;
     while let Some(part) = next_part(matchers, whole, line, at, learned, meter) {
-        put_part(parts, count, part);
+        put(parts, count, part_of(part));
         count += 1;
         at = part.end;
     }

@@ -1,5 +1,5 @@
 //! A part of a line, or a line of a text.
-ghost use Rattle.std.specs.Prelude.{◌≡◌, ◌<◌, ◌≤◌, length, set};
+ghost use Rattle.std.specs.Prelude.{◌≡◌};
 ghost use Rattle.gaxtrel.specs.Calls.{Tells, part_at};
 
 use re_search::Span;
@@ -14,9 +14,9 @@ pub struct GaxtrelPart {
     pub end: usize,
 }
 
-// The part that a span is.
-fn part_of(span: Span) -> GaxtrelPart
-    ensures { result ≡ record { start = span.start; end = span.end } }
+/// The part that a span is.
+pub(crate) fn part_of(span: Span) -> GaxtrelPart
+    ensures { result ≡ part_at span }
 {
     GaxtrelPart {
         start: span.start,
@@ -35,16 +35,5 @@ pub(crate) fn put_found(found: Option<Span>, part: &mut GaxtrelPart) -> u32
             1
         }
         None => 0,
-    }
-}
-
-/// Writes the part as the one with this number, if there is room.
-pub(crate) fn put_part(parts: &mut [GaxtrelPart], number: usize, span: Span)
-    ensures put { number < length parts.old →
-        parts.new ≡ set parts.old number (part_at (span.start, span.end)) }
-    ensures full { length parts.old ≤ number → parts.new ≡ parts.old }
-{
-    if number < parts.len() {
-        parts[number] = part_of(span);
     }
 }

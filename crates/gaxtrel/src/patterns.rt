@@ -1,6 +1,6 @@
 //! The matchers of patterns, which are asked together.
-ghost use Rattle.std.specs.Prelude.{◌≡◌, ◌↔◌, ◌⊎◌, [], ◌∷◌, List, IsTrue, IfOk, IfErr};
-ghost use Rattle.std.specs.Prelude.{All, length};
+ghost use Rattle.std.specs.Prelude.{◌≡◌, ◌↔◌, ◌⊎◌, [], ◌∷◌, List, IsTrue, true, false};
+ghost use Rattle.std.specs.Prelude.{All, IfErr, IfOk, MatchOption, length};
 ghost use Rattle.std.specs.List.{AllZip};
 ghost use Rattle.re_syntax.specs.Expression.{Expression};
 ghost use Rattle.re_syntax.specs.Lines.{lines_of};
@@ -10,27 +10,29 @@ ghost use Rattle.re_auto.specs.Searches.{FindsPart};
 ghost use Rattle.re_search.specs.Reading.{IsOutOfMemory, IsReadable, IsRefusedFor, IsSmallFor};
 ghost use Rattle.re_search.specs.Working.Sought.{CountsSought, IsSought};
 ghost use Rattle.grep_core.specs.Matchers.{IsFirstRefused};
-ghost use Rattle.gaxtrel.specs.Kept.{Serves, expressions_in, sought_in};
-ghost use Rattle.gaxtrel.specs.Calls.{FindsLine, PutsParts, line_cost};
+ghost use Rattle.gaxtrel.specs.Kept.{Serves, Stays, expressions_in, sought_in};
+ghost use Rattle.gaxtrel.specs.Calls.{FindsLine, PutsLines, PutsNumbers, PutsParts, line_cost};
 
+use crate::each::{NO_MEMORY, STATES, add, matchers_of};
 use crate::line_parts::put_parts;
 use crate::part::GaxtrelPart;
+use crate::text_lines::{GaxtrelLine, put_lines};
 use crate::text_search::{count_in_text, next_in_text};
+use crate::which::put_numbers;
 use grep_core::Options;
 use grep_utility::searchers_of;
 use re_search::{LineParts, Matcher, Meter, Span, Syntax, is_matched, parts};
-use re_syntax::{FaultKind, PatternFault};
+use re_syntax::PatternFault;
 use std::alloc::{AllocError, Global};
 use std::marker::Model;
 
-/// How many entries the cache of one pattern may have.
-const STATES: usize = 4096;
-
-/// The matchers of patterns, and whether the whole line has to be matched.
+/// The matchers of patterns, whether the whole line has to be matched, and whether each pattern has
+/// its own.
 #[derive(Drop)]
 pub struct Patterns {
     matchers: Vec<Matcher>,
     whole: bool,
+    apart: bool,
 }
 
 impl Model for Patterns {
@@ -44,7 +46,7 @@ impl Model for Patterns {
 
     ghost coded = { Prim.hlevel (codes, matcher.the_row.coded) };
 
-    ghost view = { λ p. record { matchers = p.matchers.items; whole = p.whole } };
+    ghost view = { λ p. record { matchers = p.matchers.items; whole = p.whole; apart = p.apart } };
 
     ghost invariant = { λ p. AreAlike p.whole p.matchers.items × HaveRoom p.matchers.items };
 }
@@ -64,7 +66,8 @@ impl Patterns {
     ) -> Result<Patterns, PatternFault>
         ensures made { IfOk result
             (λ p. (e : Expression) × IsMeant syntax fold text.now e × IsSmallFor syntax fold e
-            × Serves (sought_in p) (record { expressions = e ∷ []; whole = whole })) }
+            × (p.apart ≡ true)
+            × Serves true (sought_in p) (record { expressions = e ∷ []; whole = whole })) }
         ensures refused { IfErr result
             (λ fault. IsOutOfMemory fault ⊎ IsRefusedFor syntax fold text.now fault) }
         ensures unreadable { IfErr result
@@ -75,12 +78,13 @@ impl Patterns {
             Err(fault) => return Err(fault),
         };
         let Ok(matchers) = alone(alloc, matcher) else {
-            return Err(PatternFault {
-                kind: FaultKind::Memory,
-                at: 0,
-            });
+            return Err(NO_MEMORY);
         };
-        Ok(Patterns { matchers, whole })
+        Ok(Patterns {
+            matchers,
+            whole,
+            apart: true,
+        })
     }
 
     /// The patterns that are the lines of a text.
@@ -100,7 +104,8 @@ impl Patterns {
             (λ p. (es : List Expression)
             × AllZip (λ text e. IsMeant syntax fold text e) (lines_of texts.now) es
             × All (IsReadable syntax fold) (lines_of texts.now)
-            × Serves (sought_in p) (record { expressions = es; whole = whole })) }
+            × (p.apart ≡ false)
+            × Serves false (sought_in p) (record { expressions = es; whole = whole })) }
         ensures refused { IfErr result
             (λ refused. IsOutOfMemory refused.1
             ⊎ IsFirstRefused syntax fold (lines_of texts.now) refused.0 refused.1) }
@@ -110,13 +115,51 @@ impl Patterns {
             Ok(matchers) => matchers,
             Err(refused) => return Err(refused),
         };
-        Ok(Patterns { matchers, whole })
+        Ok(Patterns {
+            matchers,
+            whole,
+            apart: false,
+        })
+    }
+
+    /// The same, but each pattern is kept apart.
+    ///
+    /// # Errors
+    ///
+    /// Those of [`Patterns::of_lines`].
+    pub(crate) fn of_each(
+        alloc: Global,
+        texts: &[u8],
+        syntax: Syntax,
+        fold: bool,
+        whole: bool,
+    ) -> Result<Patterns, (usize, PatternFault)>
+        ensures made { IfOk result
+            (λ p. (es : List Expression)
+            × AllZip (λ text e. IsMeant syntax fold text e) (lines_of texts.now) es
+            × All (IsReadable syntax fold) (lines_of texts.now)
+            × (p.apart ≡ true)
+            × Serves true (sought_in p) (record { expressions = es; whole = whole })) }
+        ensures refused { IfErr result
+            (λ refused. IsOutOfMemory refused.1
+            ⊎ IsFirstRefused syntax fold (lines_of texts.now) refused.0 refused.1) }
+    {
+        let options = reading(fold, whole);
+        let matchers = match matchers_of(alloc, texts, syntax, &options) {
+            Ok(matchers) => matchers,
+            Err(refused) => return Err(refused),
+        };
+        Ok(Patterns {
+            matchers,
+            whole,
+            apart: true,
+        })
     }
 
     /// Whether some pattern matches the line.
     pub(crate) fn is_match(&mut self, line: &[u8], meter: &mut Meter) -> bool
         ensures reported { IsTrue result ↔ IsSought (sought_in self.old) line.now }
-        ensures same { sought_in self.new ≡ sought_in self.old }
+        ensures same { Stays self.old self.new }
         ensures steps { AddsAtMost (line_cost (length (expressions_in self.old)) line.now) meter.old
             meter.new }
     {
@@ -128,7 +171,7 @@ impl Patterns {
     /// there the longest (XBD 9.1).
     pub(crate) fn find(&mut self, line: &[u8], from: usize, meter: &mut Meter) -> Option<Span>
         ensures reported { FindsPart (expressions_in self.old) line.now self.old.whole from result }
-        ensures same { sought_in self.new ≡ sought_in self.old }
+        ensures same { Stays self.old self.new }
         ensures steps { AddsAtMost (line_cost (length (expressions_in self.old)) line.now) meter.old
             meter.new }
     {
@@ -157,7 +200,7 @@ impl Patterns {
             (PutsParts (sought_in self.old) line.now from parts.old parts.new) }
         ensures refused { IfErr result
             (λ _. (parts.new ≡ parts.old) × (meter.new ≡ meter.old)) }
-        ensures same { sought_in self.new ≡ sought_in self.old }
+        ensures same { Stays self.old self.new }
         ensures steps { AddsAtMost (line_cost (length (expressions_in self.old)) line.now) meter.old
             meter.new }
     {
@@ -170,11 +213,34 @@ impl Patterns {
         Ok(put_parts(&mut self.matchers, whole, line, from, learned, parts, meter))
     }
 
+    /// How many patterns match the line, if they are kept apart. The numbers of the first ones are
+    /// written over the array, as many as it has room for.
+    pub(crate) fn which(
+        &mut self,
+        line: &[u8],
+        numbers: &mut [usize],
+        meter: &mut Meter,
+    ) -> Option<usize>
+        ensures put { MatchOption result
+            ((self.old.apart ≡ false) × (numbers.new ≡ numbers.old) × (meter.new ≡ meter.old))
+            (λ count. (self.old.apart ≡ true)
+            × PutsNumbers (sought_in self.old) line.now numbers.old numbers.new count) }
+        ensures same { Stays self.old self.new }
+        ensures steps { AddsAtMost (line_cost (length (expressions_in self.old)) line.now) meter.old
+            meter.new }
+    {
+        if !self.apart {
+            return None;
+        }
+        let whole = self.whole;
+        Some(put_numbers(&mut self.matchers, whole, line, numbers, meter))
+    }
+
     /// The first line from a place on that some pattern matches, by its place in the text without
     /// its newline.
     pub(crate) fn next_line(&mut self, text: &[u8], from: usize, meter: &mut Meter) -> Option<Span>
         ensures reported { FindsLine (sought_in self.old) text.now from result meter.old meter.new }
-        ensures same { sought_in self.new ≡ sought_in self.old }
+        ensures same { Stays self.old self.new }
     {
         if from >= text.len() {
             return None;
@@ -190,10 +256,28 @@ impl Patterns {
         })
     }
 
+    /// How many lines of a text from a place on were written over the array: the first ones that
+    /// some pattern matches, as many as it has room for. The line at that place has a number.
+    pub(crate) fn lines(
+        &mut self,
+        text: &[u8],
+        from: usize,
+        number: u64,
+        lines: &mut [GaxtrelLine],
+        meter: &mut Meter,
+    ) -> usize
+        ensures put { PutsLines (sought_in self.old) text.now from number lines.old lines.new result
+            meter.old meter.new }
+        ensures same { Stays self.old self.new }
+    {
+        let whole = self.whole;
+        put_lines(&mut self.matchers, whole, text, from, number, lines, meter)
+    }
+
     /// How many lines of a text some pattern matches.
     pub(crate) fn count_lines(&mut self, text: &[u8], meter: &mut Meter) -> u64
         ensures reported { CountsSought (sought_in self.old) (lines_of text.now) result }
-        ensures same { sought_in self.new ≡ sought_in self.old }
+        ensures same { Stays self.old self.new }
         ensures steps { AddsAtMost (line_cost (length (expressions_in self.old)) text.now) meter.old
             meter.new }
     {
@@ -207,7 +291,7 @@ fn alone(alloc: Global, matcher: Matcher) -> Result<Vec<Matcher>, AllocError>
     ensures { IfOk result (λ matchers. matchers.items ≡ matcher ∷ []) }
 {
     let mut matchers = Vec::new(alloc);
-    matchers.push(matcher)?;
+    add(&mut matchers, matcher)?;
     Ok(matchers)
 }
 

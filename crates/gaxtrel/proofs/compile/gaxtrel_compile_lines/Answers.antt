@@ -14,5 +14,5 @@ returns-in-Ok-clause-made c = λ zero s is.
       made.0,
       subst (λ (t : Syntax). AllZip (λ text e. IsMeant t c.args.fold text e) (lines_of c.args.patterns.now) made.0) same made.1,
       subst (λ (t : Syntax). All (IsReadable t c.args.fold) (lines_of c.args.patterns.now)) same made.2,
-      record { kept = c.in-Ok.made; is_there = c.hold.ensures.held zero; serves = made.3 },
+      record { kept = c.in-Ok.made; is_there = c.hold.ensures.held zero; is_apart = made.3; serves = made.4 },
     )

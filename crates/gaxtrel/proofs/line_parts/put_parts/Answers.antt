@@ -2,12 +2,14 @@ use Rattle.std.proofs.Common.{arith}
 use Rattle.re_meter.proofs.lemmas.Adding.{adds_none}
 use Rattle.re_search.proofs.lemmas.KeptMatchers.{as_many, none_asked, same_over, still_alike}
 use Rattle.re_search.proofs.lemmas.LinePartsLaws.{all_parts}
-use Rattle.gaxtrel.proofs.PartLemmas.{none_yet, one_more, none_more}
+use Rattle.gaxtrel.proofs.ArrayLemmas.{all_put, none_put, one_put}
 use Rattle.gaxtrel.proofs.line_parts.put_parts.Goals as goal
 
 pub loop-part-init : goal.loop-part-init
 loop-part-init c = record {
-  found = none_yet _ _ _ _ c.requires.within;
+  found = none_put _ _;
+  few = omega arith;
+  on_line = c.requires.within;
   room = rw c.begin.ensures.room c.requires.room;
   right = c.begin.ensures.right _ _ _;
   same = none_asked;
@@ -15,7 +17,7 @@ loop-part-init c = record {
 }
 
 pub next_part-requires-clause-within : goal.next_part-requires-clause-within
-next_part-requires-clause-within c = c.loop-part.invariant.found.on_line
+next_part-requires-clause-within c = c.loop-part.invariant.on_line
 
 pub next_part-requires-clause-alike : goal.next_part-requires-clause-alike
 next_part-requires-clause-alike c = still_alike c.loop-part.invariant.same c.requires.alike
@@ -31,8 +33,11 @@ loop-part-smaller c =
 pub loop-part-preserved : goal.loop-part-preserved
 loop-part-preserved c =
     let i = c.loop-part.invariant in
+    let part = rw i.same.same_expressions at c.in-Some.ensures.reported in
     record {
-      found = one_more _ _ _ _ _ _ _ _ c.in-Some.part i.found (rw i.same.same_expressions at c.in-Some.ensures.reported) c.put_part.ensures.put c.put_part.ensures.full;
+      found = one_put _ _ _ _ _ _ _ _ i.found (λ more are. (part, are)) (rw c.part_of.ensures at c.put.ensures);
+      few = omega (arith, i.few, part.found.begins, part.found.not_empty);
+      on_line = part.found.on_line;
       room = rw c.next_part.ensures.room i.room;
       right = rw i.same.same_expressions at c.in-Some.ensures.right;
       same = same_over c.next_part.ensures.same_matchers i.same;
@@ -42,7 +47,7 @@ loop-part-preserved c =
 pub returns-clause-put : goal.returns-clause-put
 returns-clause-put c =
     let i = c.loop-part.invariant in
-    none_more _ _ _ _ _ _ _ i.found (rw i.same.same_expressions at c.in_default.ensures.reported)
+    all_put _ _ _ _ _ i.found (rw i.same.same_expressions at c.in_default.ensures.reported)
 
 pub returns-clause-steps : goal.returns-clause-steps
 returns-clause-steps c =

@@ -1,15 +1,18 @@
-use Rattle.std.proofs.Common.{◌*◌, ◌-◌, ◌≤◌, length}
+use Rattle.std.proofs.Common.{◌+◌, ◌*◌, ◌-◌, ◌≤◌, length}
 use Rattle.re_search.specs.Working.Sought.{sought_of}
 use Rattle.re_meter.specs.Meters.{AddsAtMost}
 use Rattle.re_search.specs.Working.Matchers.{AreSame, expressions_of}
 use Rattle.re_search.specs.Working.LineParts.{ArePartsOf, spent}
-use Rattle.gaxtrel.proofs.PartLemmas.{PartsSoFar}
+use Rattle.gaxtrel.specs.Calls.{AreParts}
+use Rattle.gaxtrel.proofs.ArrayLemmas.{PutSoFar}
 use Rattle.gaxtrel.proofs.line_parts.put_parts.Given as goal
 
 -- the parts up to here were found and written
 abbrev pub invariant-loop-part : goal.invariant-loop-part
 invariant-loop-part l = record {
-  found : PartsSoFar (sought_of l.whole l.fn.matchers) l.line l.from l.at l.count l.fn.parts l.parts;
+  found : PutSoFar (AreParts (sought_of l.whole l.fn.matchers) l.line l.from) (AreParts (sought_of l.whole l.fn.matchers) l.line l.at) l.count l.fn.parts l.parts;
+  few : l.from + l.count ≤ l.at;
+  on_line : l.at ≤ length l.line;
   room : length l.line ≤ l.learned.room;
   right : ArePartsOf (sought_of l.whole l.fn.matchers) l.line l.at l.learned;
   same : AreSame l.fn.matchers l.matchers;

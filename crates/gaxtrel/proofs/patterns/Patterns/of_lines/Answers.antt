@@ -1,4 +1,5 @@
 use Rattle.std.proofs.Common.{All, refl, subst}
+use Rattle.std.proofs.lemmas.Bool.{false≢true}
 use Rattle.std.specs.List.{AllZip}
 use Rattle.re_syntax.specs.Lines.{lines_of}
 use Rattle.re_syntax.specs.Spelled.{IsMeant}
@@ -15,5 +16,6 @@ returns-clause-made c =
       serve.es,
       subst (λ f. AllZip (λ text e. IsMeant c.args.syntax f text e) (lines_of c.args.texts.now) serve.es) c.reading-options.ensures.fold serve.meant,
       subst (λ f. All (IsReadable c.args.syntax f) (lines_of c.args.texts.now)) c.reading-options.ensures.fold serve.readable,
-      record { same = serve.same; fewer = serve.fewer; whole = refl },
+      refl,
+      record { same = serve.same; fewer = serve.fewer; whole = refl; each = λ no. absurd (false≢true no) },
     )

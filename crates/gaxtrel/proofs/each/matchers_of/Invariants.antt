@@ -1,0 +1,12 @@
+use Rattle.std.proofs.Common.{◌≡◌, List, ◌++◌}
+use Rattle.re_syntax.specs.Bytes.{Text}
+use Rattle.re_syntax.specs.Lines.{lines_of}
+use Rattle.grep_core.specs.Working.MatcherLists.{AreMatchers}
+use Rattle.grep_utility.specs.Working.ServingMatchers.{HaveRoom}
+use Rattle.gaxtrel.proofs.each.matchers_of.Given as goal
+
+-- the first texts were read, and the others are left
+abbrev pub invariant-loop-text : goal.invariant-loop-text
+invariant-loop-text l =
+    (goal.iterator-loop-text).can_next l.text-iterator × (goal.iterator-loop-text).is_finite l.text-iterator
+    × (done : List Text) × (done ++ l.text-iterator ≡ lines_of l.texts) × AreMatchers l.syntax l.options done l.matchers.items × HaveRoom l.matchers.items
