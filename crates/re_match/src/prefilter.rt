@@ -23,7 +23,7 @@ use crate::sweeps::{Stop, Sweep};
 use crate::window::{Edges, rest_of};
 use re_auto::Meter;
 use re_ends::Window;
-use re_needle::{LookCost, Needle, has_begin};
+use re_needle::{Needle, has_begin};
 use re_runs::{
     RunFinder, Swept, bytes_over, first_line_beginning_with, first_line_with_run, has_no_newline,
 };
@@ -52,12 +52,11 @@ impl Prefilter {
     {
         let needle = Needle::of(alloc, tree)?;
         let strings = needed_strings(alloc, tree)?;
-        let backoff = ScanBackoff::new(look_cost(&needle, &strings));
         Ok(Prefilter {
             needle,
             strings,
             has_begin: has_begin(tree),
-            backoff,
+            backoff: ScanBackoff::new(),
         })
     }
 
@@ -234,7 +233,7 @@ impl Prefilter {
             return Sweep::none();
         }
         let sweep = self.first_line(block, whole, meter);
-        self.backoff.note(sweep.first, self.walks(whole));
+        self.backoff.note(sweep.first);
         meter.add_built(sweep.start as u64);
         sweep
     }
@@ -282,17 +281,6 @@ fn has_run(finder: &RunFinder, block: &[u8], swept: Swept) -> bool
         return false;
     };
     has_no_newline(&block[at..end])
-}
-
-// What it costs to look for the strings, or else for the needle.
-fn look_cost(needle: &Option<Needle>, strings: &Option<StringSet>) -> LookCost {
-    if strings.is_some() {
-        return LookCost::High;
-    }
-    match needle {
-        Some(needle) => needle.look_cost(),
-        None => LookCost::Low,
-    }
 }
 
 // Strings, one of which each match of a choice of many contains. `None` if a branch isn't known to
