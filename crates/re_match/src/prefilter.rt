@@ -24,9 +24,7 @@ use crate::window::{Edges, rest_of};
 use re_auto::Meter;
 use re_ends::Window;
 use re_needle::{Needle, has_begin};
-use re_runs::{
-    RunFinder, Swept, bytes_over, first_line_beginning_with, first_line_with_run, has_no_newline,
-};
+use re_runs::{RunFinder, Swept, bytes_over, first_line_with_run, has_no_newline};
 use re_trees::{Span, Tree};
 use std::alloc::{AllocError, Global};
 
@@ -162,12 +160,11 @@ impl Prefilter {
         let Some(needle) = &self.needle else {
             return Sweep::none();
         };
-        if whole && needle.is_first {
-            let swept = first_line_beginning_with(&needle.finder, block, meter);
-            return Sweep::to(swept.start, bytes_over(block, swept.place), Stop::Seen);
-        }
         let swept = first_line_with_run(&needle.finder, block, meter);
         let reached = bytes_over(block, swept.place);
+        if whole && needle.is_first && is_inside(swept) {
+            return Sweep::to(swept.start, reached, Stop::Decided(false));
+        }
         if needle.is_all && !whole && has_run(&needle.finder, block, swept) {
             return Sweep::to(swept.start, reached, Stop::Decided(true));
         }
@@ -265,6 +262,16 @@ fn window_at(
     };
     let end = edges.end(line, near, meter);
     Window { start, end }
+}
+
+// Whether a look found a run that its line doesn't begin with.
+fn is_inside(swept: Swept) -> bool
+    ensures { IsTrue result → (at : ℕ) × (swept.place ≡ Some at) × (swept.start < at) }
+{
+    match swept.place {
+        Some(at) => swept.start < at,
+        None => false,
+    }
 }
 
 // Whether the run that a look found is in one line. A run of sets may go over a newline.
