@@ -1,5 +1,5 @@
 -- A pattern is removed, and the numbers of those that match a line stay right.
-use Rattle.grep_session.proofs.Prelude.{inl, get_or, get_or_default, false≢true, Option, Some, IfSome, ◌≡◌, ℕ, zero, suc, ◌+◌, ◌-◌, ◌<◌, MatchBool, All, false, List, [], ◌∷◌, ◌++◌, length, map, take, drop, refl, sym, ap, subst, ◌∙◌, arith, set, option_map, AllWithin, AllZip, remove, whole, AreParts, Options, KeptLine, all_of, line_text, line_without, Text, Expression, without, IsKept, span_places, file_with, All-map, All-weaker, get_or-set_other, map-append}
+use Rattle.grep_session.proofs.Prelude.{inl, get_or, get_or_default, false≢true, Option, Some, IfSome, ◌≡◌, ℕ, zero, suc, ◌+◌, ◌-◌, ◌<◌, MatchBool, All, false, List, [], ◌∷◌, ◌++◌, length, map, take, drop, refl, sym, ap, subst, ◌∙◌, arith, set, option_map, AllWithin, AllZip, remove, whole, AreParts, Options, KeptLine, all_of, line_text, line_without, Text, Expression, without, IsKept, span_places, file_with, All-append, All-take, All-drop, All-map, All-weaker, get_or-set_other, map-append}
 use Rattle.re_syntax.specs.Expression.{empty}
 use Rattle.grep_session.proofs.lemmas.ChangeLemmas.{numbers_right}
 use Rattle.grep_session.proofs.lemmas.NumberLemmas.{adds_none_matching}
@@ -47,6 +47,9 @@ pub after_set : {X : Type 0} (P : X → Type 0) (xs : List X) (i n : ℕ) (x : X
 after_set P xs i n x h = λ k d low high. subst P (sym (get_or-set_other xs i k x d (λ e. let apart : ⊥ = omega (arith, e, low) in apart))) (h k d (omega (arith, low)) high)
 
 -- ---- patterns
+
+pub All-remove : {X : Type 0} (P : X → Type 0) (xs : List X) (k : ℕ) → All P xs → All P (remove xs k)
+All-remove P xs k h = All-append P (take k xs) (drop (suc k) xs) (All-take P k xs h) (All-drop P (suc k) xs h)
 
 pub AllZip-remove : {X Y : Type 0} (P : X → Y → Type 0) (xs : List X) (ys : List Y) (k : ℕ) → AllZip P xs ys → AllZip P (remove xs k) (remove ys k)
 AllZip-remove P [] [] zero h = tt
