@@ -32,26 +32,25 @@ pub use Rattle.grep_session.specs.Marks.{AreFit, IsFit, MarksAfter, MarksGiven, 
 pub use Rattle.line_marks.specs.Stretches.{Marked, Splices, lost, new_mark, whole_mark}
 pub use Rattle.grep_session.specs.Touched.{Costs, CostsAccepted, CostsAs, Narrows, NeedsNoMemory, TakesSteps, Touched, Touches, all_lines, pairs_cost, parting, parts_alone, searched_by, touched_by_flag}
 pub use Rattle.grep_session.specs.Working.Again.{AreReadable, ReadsAgain, read_as}
-pub use Rattle.grep_session.specs.Working.Changed.{HasChanged, HasNewParts, IsNarrower, IsParted, IsSought, IsWithin, SearchesEach, WasFileKept, WasKept, is_narrower, searched_for}
-pub use Rattle.grep_session.specs.Working.Columns.{AddsColumn, AddsColumns, AddsPairs, AddsSought, AreAllParts, AreLeft, AreMatches, ArePartsAgain, Grows, IsAmong, IsAmongOld, IsNextLine, KeepsAll, StaysSame, WereMatched, first_sought, has_new_parts, has_pair, is_parted, left_numbers, marked_cost, next_line_cost, past_sought, sought}
+pub use Rattle.grep_session.specs.Working.Changed.{HasChanged, HasNewParts, IsParted, IsSought, SearchesEach, anew, exchanged}
+pub use Rattle.grep_session.specs.Working.Columns.{AddsColumn, AddsColumns, AreAllParts, AreLeft, AreMatches, ArePartsAgain, IsNextLine, StaysSame, came, had_gone, has_new_parts, is_parted, is_sought, marked_cost, next_line_cost}
 pub use Rattle.grep_session.specs.Working.Counts.{SelectedFrom}
 pub use Rattle.grep_session.specs.Working.Effects.{LosesAll}
 pub use Rattle.grep_session.specs.Working.Found.{IsColumn, chunks_of, chunks_of_files, lines_of_files}
-pub use Rattle.grep_session.specs.Working.Kept.{AddsMatching, AreMatching, ArePartsKept, IsFileKept, IsKept, file_with, has_number, kept_file, kept_lines, span_places}
+pub use Rattle.grep_session.specs.Working.Kept.{AddsMatching, AreMatching, ArePartsKept, IsFileKept, IsKept, IsNew, file_with, has_number, kept_file, kept_lines, span_places}
 pub use Rattle.grep_session.specs.Working.ListedParts.{listed_spans}
 pub use Rattle.grep_session.specs.Working.PatternRefusals.{RefusesFirst, reported_at, reported_by}
 pub use Rattle.grep_session.specs.Working.Report.{FileFits, LinesFit, OnLine, PartsFit, Reports, ReportsMessages, any_missing, any_selected, around_rows, end_of, end_with, file_rows, has_selected, has_selected_in, is_faulty, is_selected, matches_none, part_rows, report_rows, reported_from, reported_like, row, rows_after_laws, rows_as, rows_from, rows_with, selected_count, selected_rows, shown_rows, some_selected, status_by_files, status_given, text_rows}
 pub use Rattle.grep_session.specs.Working.Rooms.{KeepAtMost}
 pub use Rattle.grep_session.specs.Working.Sessions.{IsSession, LosesMarks, SplicesMark, inputs_of, watched_of}
 pub use Rattle.grep_session.specs.declared.change.Change.{Change}
-pub use Rattle.grep_session.specs.declared.change.Change.TheVariants.{Added, Dropped, PartsOnly, Rebuild, Replaced}
 pub use Rattle.grep_session.specs.declared.fault.EditFault.{EditFault}
 pub use Rattle.grep_session.specs.declared.fault.EditFault.TheVariants.{FileIsMissing, LineHasNewline, Memory, NoSuchFile, NoSuchPattern, OutOfRange, Pattern, TooManyPatterns}
 pub use Rattle.grep_session.specs.declared.hit.Hit.{Hit}
 pub use Rattle.grep_session.specs.declared.kept.KeptFile.{KeptFile}
 pub use Rattle.grep_session.specs.declared.session.Session.TheInside.{Inside}
 pub use Rattle.line_chunks.specs.Working.Chunks.{FitColumns, FitsColumn, KeptLine, all_of, is_matched, line_text, line_without, matched_count, no_line, seen, with_column, with_columns}
-pub use Rattle.line_chunks.specs.Working.Finds.{AreBelow, FoundIn, finds_at, is_paired, lowered, numbers_at, without}
+pub use Rattle.line_chunks.specs.Working.Finds.{AreBelow, Finds, FoundIn, finds_at, has_own, is_other, is_paired, left_numbers, lowered, numbers_at, without}
 pub use Rattle.memchr.specs.Find.{FindsNeedle}
 pub use Rattle.re_search.specs.Reading.{IsOutOfMemory, IsReadable}
 pub use Rattle.re_search.specs.Searches.{AddsAtMost}
@@ -73,8 +72,8 @@ pub use Rattle.re_syntax.specs.declared.fault.PatternFault.{PatternFault}
 pub use Rattle.re_trees.specs.declared.span.Span.{Span}
 pub use Rattle.re_syntax.specs.declared.syntax.Syntax.{Syntax}
 pub use Rattle.re_syntax.specs.declared.syntax.Syntax.TheVariants.{Fixed}
-pub use Rattle.std.proofs.Common.{All, Any, Bool, Decides, Err, IfOk, IfSome, IsErr, IsTrue, List, MatchBool, MatchOption, None, Ok, Option, Result, Some, [], add-one, ap, append-nil, append_assoc, arith, cond, drop, drop-cons, drop-set-lt, false, filter, get_or, get_or-drop, get_or-set_other, get_or-take, if◌then◌else◌, inl, inr, insert, is_some, length, length-append, length-drop, length-take, length-take-le, lt-ltb, ltb-true, map, nat_eq, nat_le, nat_lt, not, option_map, refl, remove, set, slice_range, slice_set, subst, suc, sym, take, take-append-drop, take-suc, take-take, take_all, true, unwrap_or, zero, ℕ, ◌&&◌, ◌*◌, ◌++◌, ◌+◌, ◌-◌, ◌<◌, ◌==◌, ◌^◌, ◌||◌, ◌↔◌, ◌∙◌, ◌∷◌, ◌≡◌, ◌≢◌, ◌≤◌, ◌⊎◌}
-pub use Rattle.std.proofs.Math.Seq.{drop-append_seam, drop-length, get_or-append_seam, map-set_same, take-append_seam}
+pub use Rattle.std.proofs.Common.{All, Any, Bool, Decides, Err, IfOk, IfSome, IsErr, IsTrue, List, MatchBool, MatchOption, None, Ok, Option, Result, Some, [], add-one, ap, append-nil, append_assoc, arith, drop, drop-cons, drop-set-lt, false, filter, get_or, get_or-drop, get_or-set_other, get_or-take, if◌then◌else◌, inl, inr, insert, is_some, length, length-append, length-drop, length-take, length-take-le, lt-ltb, ltb-true, map, nat_eq, nat_le, nat_lt, not, option_map, refl, remove, set, slice_range, slice_set, subst, suc, sym, take, take-append-drop, take-suc, take-take, take_all, true, unwrap_or, zero, ℕ, ◌&&◌, ◌*◌, ◌++◌, ◌+◌, ◌-◌, ◌<◌, ◌==◌, ◌^◌, ◌||◌, ◌↔◌, ◌∙◌, ◌∷◌, ◌≡◌, ◌≢◌, ◌≤◌, ◌⊎◌}
+pub use Rattle.std.proofs.Math.Seq.{drop-append_seam, get_or-append_seam, map-set_same, take-append_seam}
 pub use Rattle.std.proofs.lemmas.Bool.{cases_lt, eqb-false, false≢true}
 pub use Rattle.std.proofs.lemmas.Bool.Decides.{nat_tests}
 pub use Rattle.std.proofs.lemmas.List.{drop-take, drop_all, drop_more, get_or_append_left, get_or_at, get_or_default, get_or_past, length-map, map-append, map-set, nil_from_length, set_at, take_more}
@@ -82,5 +81,5 @@ pub use Rattle.std.proofs.lemmas.List.Concat.{flat_map-append}
 pub use Rattle.std.proofs.lemmas.List.Elements.{All-append, All-cons, All-drop, All-from_all_within, All-get_or, All-head, All-map, All-nil, All-push, All-set, All-tail, All-take, All-weaker, AllWithin-from_all, AllWithin-more_set}
 pub use Rattle.std.specs.Bool.{OnTrue}
 pub use Rattle.std.specs.Cmp.{booleans_Decides}
-pub use Rattle.std.specs.List.{AllWithin, AllZip, drop-map, enumerate_from, list_any, splice, take-map}
+pub use Rattle.std.specs.List.{AllWithin, AllZip, drop-map, enumerate_from, list_any, splice}
 pub use Rattle.std.specs.Vec.Iter.{into_iter_items}
