@@ -55,6 +55,39 @@ fn add_both<T: Copy>(items: &mut Vec<T>, first: &[T], rest: &[T]) -> Result<(), 
     Ok(())
 }
 
+/// Adds the place that is `by` after `at`.
+fn add_start(starts: &mut Vec<u32>, at: usize, by: usize) -> Result<(), AllocError>
+    ensures ok { IfOk result (λ _. starts.new.items ≡ starts.old.items ++ (by + at) ∷ []) }
+    ensures err { OnErr result (starts.new.items ≡ starts.old.items) }
+{
+    let Ok(start) = u32::try_from(by.saturating_add(at)) else {
+        return Err(AllocError);
+    };
+    starts.push(start)?;
+    Ok(())
+}
+
+/// Adds these places, of which `start` becomes `at`.
+fn add_starts(
+    starts: &mut Vec<u32>,
+    others: &[u32],
+    start: usize,
+    at: usize,
+) -> Result<(), AllocError>
+    ensures ok { IfOk result (λ _.
+        starts.new.items ≡ starts.old.items ++ map (λ other. other - start + at) others.now) }
+    ensures err { OnErr result (starts.new.items ≡ starts.old.items) }
+{
+    let before = starts.len();
+    for other in others {
+        if add_start(starts, at, (*other as usize).saturating_sub(start)).is_err() {
+            starts.truncate(before);
+            return Err(AllocError);
+        }
+    }
+    Ok(())
+}
+
 /// Makes each place smaller.
 fn lower(starts: &mut [u32], by: usize)
     ensures { starts.new ≡ map (λ start. start - by) starts.old }
@@ -188,12 +221,15 @@ impl<T: Copy> Pieces<T> {
         ensures ok { IfOk result (λ _. self.new ≡ self.old ++ slice_range other.now from to) }
         ensures err { OnErr result (self.new ≡ self.old) }
     {
-        let before = self.len();
-        for k in from..to {
-            if self.push(other.at(k), &[]).is_err() {
-                self.remove(before, self.len());
-                return Err(AllocError);
-            }
+        let start = other.start(from);
+        let end = other.start(to);
+        let before = self.items.len();
+        self.items
+            .extend_from_slice(part(&other.items, start, end))?;
+        let starts = part(&other.starts, from, to);
+        if add_starts(&mut self.starts, starts, start, before).is_err() {
+            self.items.truncate(before);
+            return Err(AllocError);
         }
         Ok(())
     }

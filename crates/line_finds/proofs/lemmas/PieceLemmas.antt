@@ -1,5 +1,5 @@
 -- Lists as one list, and the places where they begin.
-use Rattle.line_finds.proofs.Prelude.{map, add-zero, ◌≡◌, ℕ, ◌+◌, ◌-◌, ◌<◌, ◌≤◌, List, [], ◌∷◌, ◌++◌, length, take, drop, refl, ap, sym, subst, ◌∙◌, arith, length-append, append-nil, get_or, suc, zero, inl, inr, cases_eq, cond-true, cond-false, eq-eqb, ne_eqb, IfOk, is_ok, is_err, false, slice_range, Result, Ok, Err, take-take, take_more, drop_more, take_at, drop_at, take-append-drop, take_all, length-drop, length-replicate, get_or-drop, append_assoc, replicate, nat_eq, if◌then◌else◌, all_items, starts_from, cut, AreLists, with_list, flat_map-append}
+use Rattle.line_finds.proofs.Prelude.{map, add-zero, ◌≡◌, ℕ, ◌+◌, ◌-◌, ◌<◌, ◌≤◌, List, [], ◌∷◌, ◌++◌, length, take, drop, refl, ap, sym, subst, ◌∙◌, arith, length-append, append-nil, get_or, suc, zero, inl, inr, cases_eq, cond-true, cond-false, eq-eqb, ne_eqb, IfOk, is_ok, is_err, false, Result, Ok, Err, take-take, take-add, take_more, drop_more, take_at, drop_at, take-append-drop, take_all, length-replicate, map-append, append_assoc, replicate, nat_eq, if◌then◌else◌, all_items, starts_from, cut, AreLists, with_list, flat_map-append}
 
 -- ---- lists one after the other
 
@@ -96,13 +96,17 @@ drop-starts from (x ∷ xs) (suc k) =
     simp length-append (omega arith) in
     drop-starts (from + length x) xs k ∙ ap (λ at. starts_from at (drop k xs)) same
 
-lower-starts : {X : Type 0} (from by high : ℕ) (lists : List (List X)) → high ≡ from + by
-    → map (λ start. start - by) (starts_from high lists) ≡ starts_from from lists
-lower-starts from by high [] is = refl
-lower-starts from by high (x ∷ xs) is =
-    let here : high - by ≡ from = omega arith in
-    let there : high + length x ≡ from + length x + by = omega arith in
-    (λ j. here j ∷ lower-starts (from + length x) by (high + length x) xs there j)
+moved-starts : {X : Type 0} (f : ℕ → ℕ) (from to : ℕ) (lists : List (List X))
+    → ((m : ℕ) → f (from + m) ≡ to + m) → map f (starts_from from lists) ≡ starts_from to lists
+moved-starts f from to [] same = refl
+moved-starts f from to (x ∷ xs) same =
+    let here : f from ≡ to = ap f (sym (add-zero from)) ∙ same 0 ∙ add-zero to in
+    let later : (m : ℕ) → f (from + length x + m) ≡ to + length x + m =
+    λ m.
+    (let a : from + length x + m ≡ from + (length x + m) = omega arith in
+    let b : to + (length x + m) ≡ to + length x + m = omega arith in
+    ap f a ∙ same (length x + m) ∙ b) in
+    (λ j. here j ∷ moved-starts f (from + length x) (to + length x) xs later j)
 
 -- ---- a list after empty ones
 
@@ -240,7 +244,8 @@ module _ {X : Type 0} {lists : List (List X)} {items : List X} {starts : List �
             n ∙ (λ j. take from (are.starts_are j) ++ map (λ p. p - (end - start)) (drop to (are.starts_are j))) ∙
             (λ j. take-starts 0 lists from j ++ map (λ p. p - (end - start)) (drop-starts 0 lists to j)) ∙
             ap (λ more. starts_from 0 (take from lists) ++ more)
-            (lower-starts (0 + length (all_items (take from lists))) (end - start) _ (drop to lists) gap) ∙
+            (moved-starts (λ p. p - (end - start)) (0 + length (all_items (take to lists)))
+            (0 + length (all_items (take from lists))) (drop to lists) (λ m. omega (arith, gap))) ∙
             sym (starts-append 0 (take from lists) (drop to lists));
       }
 
@@ -252,30 +257,63 @@ pushed lists list k is =
     let none : k - length lists ≡ 0 = omega arith in
     ap (λ n. lists ++ (replicate n [] ++ list ∷ [])) none
 
--- an element more of those from `from` on
-range_next : {X : Type 0} (xs : List X) (d : X) (from i : ℕ) → from ≤ i → i < length xs
-    → slice_range xs from (i + 1) ≡ slice_range xs from i ++ get_or xs i d ∷ []
-range_next xs d from i le h =
-    let same : i + 1 - from ≡ i - from + 1 = omega arith in
-    let there : from + (i - from) ≡ i = omega arith in
-    let inside : i - from < length (drop from xs) = simp length-drop (omega arith) in
-    ap (λ n. take n (drop from xs)) same ∙
-    take_more (drop from xs) (i - from) d inside ∙
-    ap (λ x. take (i - from) (drop from xs) ++ x ∷ [])
-    (get_or-drop from xs (i - from) d ∙ ap (λ at. get_or xs at d) there)
-
 -- what holds of a result that is no error
 pub ok_gives : {A E X : Type 0} {x : X} (result : Result A E) (new old : X) → is_err result ≡ false
     → x ≡ (if is_ok result then new else old) → x ≡ new
 ok_gives (Ok a) new old ok is = is
 ok_gives (Err e) new old ok is = absurd (cc)
 
-module _ {X A E : Type 0} (start before now xs : List (List X)) (from i : ℕ) (list : List X) where
-  pub part_next : (result : Result A E) → is_err result ≡ false → from ≤ i → i < length xs
-      → list ≡ get_or xs i [] → before ≡ start ++ slice_range xs from i
-      → IfOk result (λ _. now ≡ before ++ (list ++ []) ∷ []) → now ≡ start ++ slice_range xs from (i + 1)
-  part_next (Ok a) ok le h read is more =
-      more ∙ (λ j. is j ++ (append-nil list ∙ read) j ∷ []) ∙
-      append_assoc start (slice_range xs from i) (get_or xs i [] ∷ []) ∙
-      ap (λ some. start ++ some) (sym (range_next xs [] from i le h))
-  part_next (Err a) ok le h read is more = absurd (cc)
+pub holds : {A E X : Type 0} {x y : X} (result : Result A E) → is_err result ≡ false
+    → IfOk result (λ _. x ≡ y) → x ≡ y
+holds (Ok a) ok is = is
+holds (Err e) ok is = absurd (cc)
+
+module _ {X : Type 0} {lists others : List (List X)} {items other_items : List X} {starts other_starts : List ℕ} where
+  pub are_joined : {new_items : List X} {new_starts : List ℕ} → AreLists lists items starts
+      → AreLists others other_items other_starts → (from to start end at : ℕ) → from ≤ to
+      → start ≡ length (all_items (take from others)) → end ≡ length (all_items (take to others))
+      → at ≡ length items → new_items ≡ items ++ take (end - start) (drop start other_items)
+      → new_starts ≡ starts ++ map (λ s. s - start + at) (take (to - from) (drop from other_starts))
+      → AreLists (lists ++ take (to - from) (drop from others)) new_items new_starts
+  are_joined are more from to start end at h s e place i n =
+      let part = take (to - from) (drop from others) in
+      let both : take to others ≡ take from others ++ part =
+      (let same : to ≡ from + (to - from) = omega arith in
+      ap (λ k. take k others) same ∙ take-add from (to - from) others) in
+      let long : end - start ≡ length (all_items part) =
+      omega (
+        arith,
+        s,
+        e,
+        ap (λ some. length (all_items some)) both,
+        ap length (items-append (take from others) part),
+        length-append (all_items (take from others)) (all_items part),
+      ) in
+      let first : 0 + length (all_items (take from others)) ≡ start = omega (arith, s) in
+      let here : at ≡ 0 + length (all_items lists) = omega (arith, place, ap length are.items_are) in
+      record {
+        items_are =
+            i ∙ (λ j. are.items_are j ++ take (long j) (drop (s j) (more.items_are j))) ∙
+            ap (λ some. all_items lists ++ take (length (all_items part)) some) (drop-items others from) ∙
+            ap (λ some. all_items lists ++ some) (take-items (drop from others) (to - from)) ∙
+            sym (items-append lists part);
+        starts_are =
+            n ∙
+            (λ j. are.starts_are j ++ map (λ p. p - start + at) (take (to - from) (drop from (more.starts_are j)))) ∙
+            ap (λ some. starts_from 0 lists ++ map (λ p. p - start + at) some)
+            (ap (take (to - from)) (drop-starts 0 others from) ∙
+            take-starts (0 + length (all_items (take from others))) (drop from others) (to - from)) ∙
+            ap (λ some. starts_from 0 lists ++ some)
+            (moved-starts (λ p. p - start + at) (0 + length (all_items (take from others)))
+            (0 + length (all_items lists)) part (λ m. omega (arith, first, here))) ∙
+            sym (starts-append 0 lists part);
+      }
+
+-- a place more
+pub mapped_one_more : (f : ℕ → ℕ) (old new more xs : List ℕ) (k d : ℕ) → k < length xs
+    → old ≡ more ++ map f (take k xs) → new ≡ old ++ f (get_or xs k d) ∷ []
+    → new ≡ more ++ map f (take (k + 1) xs)
+mapped_one_more f old new more xs k d h is n =
+    n ∙ ap (λ some. some ++ f (get_or xs k d) ∷ []) is ∙
+    append_assoc more (map f (take k xs)) (f (get_or xs k d) ∷ []) ∙
+    ap (λ some. more ++ some) (sym (ap (map f) (take_more xs k d h) ∙ map-append f (take k xs) _))
