@@ -4,7 +4,7 @@ ghost use Rattle.line_finds.specs.Working.Finds.{no_finds, finds_at, is_paired, 
 ghost use Rattle.line_finds.specs.Working.Marked.{AreMarks, set_before, AreAdded};
 
 use crate::matches::Matches;
-use crate::spans::SpanLists;
+use crate::pieces::SpanLists;
 use re_trees::Span;
 use std::alloc::{AllocError, Global};
 use std::marker::Model;
