@@ -1,7 +1,6 @@
-use Rattle.std.proofs.Common.{subst, take}
+use Rattle.std.proofs.Common.{subst}
 use Rattle.gaxtrel.specs.Kept.{Terms}
 use Rattle.gaxtrel.specs.Calls.{Reaches}
-use Rattle.re_syntax.specs.Lines.{lines_of}
 use Rattle.gaxtrel.proofs.ServedLemmas.{cost_served, count_served, served}
 use Rattle.gaxtrel.proofs.search.gaxtrel_count_lines.Goals as goal
 

@@ -1,4 +1,4 @@
-use Rattle.std.proofs.Common.{None, Some, refl, subst, take}
+use Rattle.std.proofs.Common.{None, Some, refl, subst}
 use Rattle.gaxtrel.specs.Kept.{Terms}
 use Rattle.gaxtrel.specs.Calls.{Reaches}
 use Rattle.gaxtrel.proofs.ServedLemmas.{next_served, served}

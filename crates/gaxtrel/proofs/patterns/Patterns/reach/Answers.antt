@@ -4,7 +4,7 @@ use Rattle.re_syntax.specs.Lines.{HasNoNewline}
 use Rattle.re_runs.specs.Working.Blocks.{PassesAll}
 use Rattle.gaxtrel.specs.Kept.{Allows, terms_of}
 use Rattle.gaxtrel.proofs.KeptLemmas.{less_of}
-use Rattle.gaxtrel.proofs.TextLemmas.{cut_within, whole_lines}
+use Rattle.gaxtrel.proofs.TextLemmas.{whole_lines}
 use Rattle.gaxtrel.proofs.patterns.Patterns.reach.Goals as goal
 
 pub returns-then-from-text-clause-reached : goal.returns-then-from-text-clause-reached
