@@ -71,6 +71,20 @@ typedef struct gaxtrel_line {
     uint64_t number;
 } gaxtrel_line;
 
+/* What is asked of a matcher: begin with GAXTREL_OPTIONS, and set what differs. */
+typedef struct gaxtrel_options {
+    size_t size;     /* that of this struct, which may grow */
+    uint32_t syntax; /* GAXTREL_EXTENDED */
+    bool fold;       /* both cases of letters are alike */
+    bool whole;      /* the whole line has to be matched */
+    bool lines;      /* each line is a pattern, as for gaxtrel_compile_lines */
+    bool apart;      /* these are kept apart, as by gaxtrel_compile_each */
+    size_t patterns; /* how many there may be, up to 65,535 */
+    uint64_t limit;  /* as of gaxtrel_limit */
+} gaxtrel_options;
+
+#define GAXTREL_OPTIONS {sizeof(gaxtrel_options), GAXTREL_EXTENDED, false, false, false, false, 65535, 0}
+
 /* What the library was compiled for: no other machine, and no option that packs structs. */
 #if defined __cplusplus && __cplusplus >= 201103L
 #define GAXTREL_HOLDS static_assert
@@ -79,7 +93,7 @@ typedef struct gaxtrel_line {
 #endif
 #ifdef GAXTREL_HOLDS
 GAXTREL_HOLDS(sizeof(gaxtrel_matcher) == 40 && sizeof(gaxtrel_session) == 40 && sizeof(gaxtrel_fault) == 24 &&
-                  sizeof(gaxtrel_part) == 16 && sizeof(gaxtrel_line) == 24,
+                  sizeof(gaxtrel_part) == 16 && sizeof(gaxtrel_line) == 24 && sizeof(gaxtrel_options) == 32,
               "libgaxtrel has structs of other sizes");
 #undef GAXTREL_HOLDS
 #endif
@@ -90,7 +104,7 @@ enum { GAXTREL_OK = 0, GAXTREL_REFUSED = 1, GAXTREL_NO_MEMORY = 2, GAXTREL_NO_SY
 
 enum { GAXTREL_NO_STATES = 3, GAXTREL_NO_SESSION = 3 };
 
-enum { GAXTREL_NO = 0, GAXTREL_YES = 1, GAXTREL_MISUSED = 3, GAXTREL_JOINED = 4 };
+enum { GAXTREL_NO = 0, GAXTREL_YES = 1, GAXTREL_MISUSED = 3, GAXTREL_JOINED = 4, GAXTREL_STOPPED = 5 };
 
 enum {
     GAXTREL_UNCLOSED_BRACKET = 1,
@@ -142,6 +156,21 @@ uint32_t gaxtrel_compile_lines(gaxtrel_matcher *matcher, const uint8_t *patterns
    Where there are many, other searches take longer. */
 uint32_t gaxtrel_compile_each(gaxtrel_matcher *matcher, const uint8_t *patterns, size_t length,
                               uint32_t syntax, bool fold, bool whole, gaxtrel_fault *fault);
+
+/* The same by options. More patterns than these allow are refused as GAXTREL_TOO_MANY_PATTERNS at the
+   first that is too many. GAXTREL_MISUSED: the size, the syntax or the number of patterns is none that
+   is known; `matcher` then holds none. */
+uint32_t gaxtrel_compile_with(gaxtrel_matcher *matcher, const uint8_t *patterns, size_t length,
+                              const gaxtrel_options *options, gaxtrel_fault *fault);
+
+/* Sets how much work each call on `matcher` may take; 0, as at first, is no limit. Of the patterns `q`
+   automata are made: one of each, and of joined ones from 0 to p. So n bytes take at most q * (n + 1)
+   steps, and as many bytes are passed. If that is above the limit, a call on a line of n bytes answers
+   GAXTREL_STOPPED (an empty line never): nothing is searched or written. A call on a text searches the
+   whole lines in as many bytes from `from` on as it allows, and answers GAXTREL_STOPPED if it has to go
+   on: what it counted and wrote is right so far. So a call stops at the same place each time. But a
+   step costs more the more positions its pattern has, up to 64 words for each of 4,096 (SECURITY.md). GAXTREL_OK; GAXTREL_MISUSED: `matcher` holds none. */
+uint32_t gaxtrel_limit(gaxtrel_matcher *matcher, uint64_t limit);
 
 /* Frees what `matcher` holds. It then holds none, and may be used again. */
 void gaxtrel_free(gaxtrel_matcher *matcher);
@@ -244,6 +273,7 @@ GAXTREL_PLACE(gaxtrel_private_lines, gaxtrel_line)
 #define gaxtrel_compile(...) GAXTREL_TEXT(gaxtrel_compile, __VA_ARGS__)
 #define gaxtrel_compile_lines(...) GAXTREL_TEXT(gaxtrel_compile_lines, __VA_ARGS__)
 #define gaxtrel_compile_each(...) GAXTREL_TEXT(gaxtrel_compile_each, __VA_ARGS__)
+#define gaxtrel_compile_with(...) GAXTREL_TEXT(gaxtrel_compile_with, __VA_ARGS__)
 #define gaxtrel_is_match(...) GAXTREL_TEXT(gaxtrel_is_match, __VA_ARGS__)
 #define gaxtrel_which(...) GAXTREL_NUMBERS(gaxtrel_which, __VA_ARGS__)
 #define gaxtrel_find(...) GAXTREL_TEXT(gaxtrel_find, __VA_ARGS__)

@@ -201,7 +201,9 @@ static uint64_t ask_text(gaxtrel_matcher *m) {
 static bool compile(gaxtrel_matcher *m, bool list) {
     gaxtrel_fault fault = {77, 78, 79};
     const uint8_t *at = copied(ends[0], pattern, size);
-    uint32_t answer = CALL(!list  ? gaxtrel_compile(m, at, size, syntax, fold, whole, &fault)
+    gaxtrel_options o = {sizeof o, syntax, fold, whole, list, apart, 65535, 0};
+    uint32_t answer = CALL(below(2) ? gaxtrel_compile_with(m, at, size, &o, &fault)
+                           : !list ? gaxtrel_compile(m, at, size, syntax, fold, whole, &fault)
                            : apart ? gaxtrel_compile_each(m, at, size, syntax, fold, whole, &fault)
                                   : gaxtrel_compile_lines(m, at, size, syntax, fold, whole, &fault));
     LAW(syntax > GAXTREL_FIXED ? answer == GAXTREL_NO_SYNTAX : answer <= GAXTREL_REFUSED);
@@ -221,11 +223,34 @@ static void ask_fresh(size_t line, uint64_t lines) {
     gaxtrel_free(&fresh);
 }
 
+/* Under a limit each call answers the same, or is stopped: what was found is right so far, and no work beyond the limit
+   is done. Where the number of automata is known, so is the place. */
+static void ask_limited(gaxtrel_matcher *m, uint64_t lines) {
+    uint64_t limit = 1 + below((patterns + 1) * (length + 2)), counted = 77, first = 77, most = limit / (patterns + !patterns);
+    bool exact = apart || patterns == 1;
+    gaxtrel_part line = {77, 78}, same = line;
+    uint32_t matched = CALL(gaxtrel_is_match(m, TEXT)), next = CALL(gaxtrel_next_line(m, TEXT, from, &same));
+    LAW(!CALL(gaxtrel_limit(m, limit)) && within(m, 0));
+    uint32_t answer = CALL(gaxtrel_is_match(m, TEXT));
+    bool fits = !length || length < most, stops = answer == GAXTREL_STOPPED;
+    LAW(stops ? !fits && within(m, 0) : answer == matched && m->work.passed <= limit + patterns);
+    LAW(!exact || !patterns || stops == !fits);
+    answer = CALL(gaxtrel_next_line(m, TEXT, from, &line));
+    LAW(answer == GAXTREL_STOPPED ? NO_PART(line) : answer == next && !memcmp(&line, &same, sizeof line));
+    answer = CALL(gaxtrel_count_lines(m, TEXT, &counted));
+    LAW((answer == GAXTREL_STOPPED) == stops && (stops ? counted <= lines : counted == lines && answer == (lines > 0)));
+    LAW(m->work.built + m->work.reused <= (limit < patterns ? patterns : limit) && !CALL(gaxtrel_limit(m, 0)));
+    if (!stops || !exact) return;
+    for (most -= most > 0; most && text[most - 1] != '\n';) most--;
+    LAW(CALL(gaxtrel_count_lines(m, text, most, &first)) <= GAXTREL_YES && first == counted);
+}
+
 static void misuse(gaxtrel_matcher *m, gaxtrel_session *s) {
     gaxtrel_part part = {77, 78};
     gaxtrel_line line = {77, 78, 79};
     size_t count = 77, number = 77;
     uint64_t lines = 77;
+    LAW(CALL(gaxtrel_limit(m, 1)) == GAXTREL_MISUSED);
     LAW(CALL(gaxtrel_which(m, TEXT, &number, 1, &count)) == GAXTREL_MISUSED && number == 77);
     LAW(CALL(gaxtrel_lines(m, TEXT, from, 1, &line, 1, &count)) == GAXTREL_MISUSED && NO_LINE(line));
     LAW(CALL(gaxtrel_is_match(m, TEXT)) == GAXTREL_MISUSED && CALL(gaxtrel_find(m, TEXT, 0, &part)) == GAXTREL_MISUSED);
@@ -311,6 +336,7 @@ int main(int count, char **words) {
             size_t line = ask_line(m);
             uint64_t lines = ask_text(m);
             if (!below(4)) ask_fresh(line, lines);
+            if (!below(3)) ask_limited(m, lines);
         }
         if (!held || !below(20)) gaxtrel_free(m), misuse(m, &(gaxtrel_session)GAXTREL_NONE), held = false;
         if (!below(8)) ask_session();

@@ -6,6 +6,7 @@
 #define NO_NULL(call) extern __typeof__(call) call __attribute__((nonnull))
 NO_NULL(gaxtrel_compile);
 NO_NULL(gaxtrel_compile_lines);
+NO_NULL(gaxtrel_compile_with);
 NO_NULL(gaxtrel_is_match);
 NO_NULL(gaxtrel_find);
 NO_NULL(gaxtrel_compile_each);
@@ -34,7 +35,9 @@ static int wrong(void) {
     gaxtrel_matcher m = GAXTREL_NONE;
     gaxtrel_session s = GAXTREL_NONE;
     gaxtrel_fault fault;
+    gaxtrel_options options = GAXTREL_OPTIONS;
     size_t count = 7;
+    if (gaxtrel_compile_with(&m, NULL, 0, &options, &fault) != GAXTREL_OK) return 16;
     if (gaxtrel_compile_lines(&m, NULL, 0, GAXTREL_BASIC, false, false, &fault) != GAXTREL_OK) return 10;
     if (gaxtrel_compile_each(&m, NULL, 0, GAXTREL_BASIC, false, false, &fault) != GAXTREL_OK) return 11;
     if (wrong_match(&m, GAXTREL_NO)) return 20 + wrong_match(&m, GAXTREL_NO);

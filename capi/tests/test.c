@@ -233,6 +233,77 @@ static int numbered_lines(void) {
     return 0;
 }
 
+/* Calls that may take so much work: two patterns, or one. */
+static int limits(void) {
+    gaxtrel_matcher m = GAXTREL_NONE;
+    gaxtrel_fault fault;
+    gaxtrel_part part = {9, 9};
+    gaxtrel_line found[2] = {{90, 91, 92}, {90, 91, 92}};
+    size_t count = 77, number = 9;
+    uint64_t lines = 7;
+    static const uint8_t text[] = "xa\nab\n\nxyz\nzx\nbz";
+    CHECK(160, gaxtrel_limit(&m, 9) == GAXTREL_MISUSED);
+    CHECK(161, gaxtrel_compile_each(&m, P("^a\nz$"), GAXTREL_BASIC, false, false, &fault) == GAXTREL_OK);
+    CHECK(162, gaxtrel_is_match(&m, P("abc")) == GAXTREL_YES && gaxtrel_limit(&m, 8) == GAXTREL_OK && !took(&m));
+    /* a line of three bytes, and one of four */
+    CHECK(163, gaxtrel_is_match(&m, P("abc")) == GAXTREL_YES && gaxtrel_is_match(&m, P("xyx")) == GAXTREL_NO);
+    CHECK(164, steps(&m) <= 8 && m.work.passed <= 8);
+    CHECK(165, gaxtrel_is_match(&m, P("abcd")) == GAXTREL_STOPPED && !took(&m));
+    CHECK(166, gaxtrel_find(&m, P("abcd"), 0, &part) == GAXTREL_STOPPED && part.start == 9);
+    CHECK(167, gaxtrel_parts(&m, P("abcd"), 0, &part, 1, &count) == GAXTREL_STOPPED && count == 77 && part.start == 9);
+    CHECK(168, gaxtrel_which(&m, P("abcd"), &number, 1, &count) == GAXTREL_STOPPED && count == 77 && number == 9);
+    CHECK(169, gaxtrel_parts(&m, P("azz"), 0, &part, 1, &count) == GAXTREL_YES && count == 2 && part.end == 1);
+    CHECK(170, gaxtrel_limit(&m, 1) == GAXTREL_OK && gaxtrel_is_match(&m, P("")) == GAXTREL_NO);
+    CHECK(171, gaxtrel_is_match(&m, P("a")) == GAXTREL_STOPPED);
+    /* all bytes of a text, and one less; a line's newline, and one less; no byte */
+    CHECK(172, !gaxtrel_limit(&m, 34) && gaxtrel_count_lines(&m, text, 16, &lines) == GAXTREL_YES && lines == 3);
+    CHECK(173, !gaxtrel_limit(&m, 33) && gaxtrel_count_lines(&m, text, 16, &lines) == GAXTREL_STOPPED && lines == 2);
+    CHECK(174, !gaxtrel_limit(&m, 14) && gaxtrel_count_lines(&m, text, 16, &lines) == GAXTREL_STOPPED && lines == 1);
+    CHECK(175, steps(&m) <= 14 && m.work.passed <= 14);
+    CHECK(176, !gaxtrel_limit(&m, 13) && gaxtrel_count_lines(&m, text, 16, &lines) == GAXTREL_STOPPED && lines == 0);
+    CHECK(177, !gaxtrel_limit(&m, 1) && gaxtrel_count_lines(&m, text, 16, &lines) == GAXTREL_STOPPED && !took(&m));
+    CHECK(178, !gaxtrel_limit(&m, 12) && gaxtrel_next_line(&m, text, 16, 6, &part) == GAXTREL_YES && part.end == 10);
+    CHECK(179, !gaxtrel_limit(&m, 11) && gaxtrel_next_line(&m, text, 16, 6, &part) == GAXTREL_STOPPED);
+    CHECK(180, part.end == 10 && gaxtrel_next_line(&m, text, 16, 16, &part) == GAXTREL_NO);
+    CHECK(181, !gaxtrel_limit(&m, 14) && gaxtrel_lines(&m, text, 16, 0, 1, found, 2, &count) == GAXTREL_STOPPED);
+    CHECK(182, count == 1 && found[0].start == 3 && found[0].number == 2 && found[1].start == 90);
+    CHECK(183, gaxtrel_lines(&m, text, 16, 0, 1, found, 1, &count) == GAXTREL_YES && count == 1);
+    CHECK(184, !gaxtrel_limit(&m, 0) && gaxtrel_count_lines(&m, text, 16, &lines) == GAXTREL_YES && lines == 3);
+    gaxtrel_free(&m);
+    return 0;
+}
+
+/* Matchers by options. */
+static int options(void) {
+    gaxtrel_matcher m = GAXTREL_NONE;
+    gaxtrel_fault fault = {0, 7, 7};
+    gaxtrel_options o = GAXTREL_OPTIONS;
+    size_t numbers[2], count;
+    CHECK(190, gaxtrel_compile_with(&m, P("a+"), &o, &fault) == GAXTREL_OK && gaxtrel_is_match(&m, P("xa")) == 1);
+    o.size--;
+    CHECK(191, gaxtrel_compile_with(&m, P("a+"), &o, &fault) == GAXTREL_MISUSED);
+    CHECK(192, gaxtrel_is_match(&m, P("xa")) == GAXTREL_MISUSED && fault.pattern == 7);
+    o.size++, o.patterns = 65536;
+    CHECK(193, gaxtrel_compile_with(&m, P("a+"), &o, &fault) == GAXTREL_MISUSED);
+    o.patterns = 2, o.syntax = 3;
+    CHECK(194, gaxtrel_compile_with(&m, P("a+"), &o, &fault) == GAXTREL_MISUSED);
+    o.syntax = GAXTREL_BASIC, o.lines = o.apart = o.fold = o.whole = true, o.limit = 8;
+    CHECK(195, gaxtrel_compile_with(&m, P("a.c\nab\n"), &o, &fault) == GAXTREL_OK);
+    CHECK(196, gaxtrel_which(&m, P("ABC"), numbers, 2, &count) == GAXTREL_YES && count == 1 && numbers[0] == 0);
+    CHECK(197, gaxtrel_is_match(&m, P("abca")) == GAXTREL_STOPPED && gaxtrel_is_match(&m, P("b")) == GAXTREL_NO);
+    CHECK(198, gaxtrel_compile_with(&m, P("a\n\\(\nb"), &o, &fault) == GAXTREL_REFUSED);
+    CHECK(199, fault.kind == GAXTREL_TOO_MANY_PATTERNS && fault.at == 0 && fault.pattern == 2);
+    CHECK(200, gaxtrel_compile_with(&m, P("a\n\\("), &o, &fault) == GAXTREL_REFUSED && fault.pattern == 1);
+    CHECK(201, fault.kind == GAXTREL_UNCLOSED_GROUP && gaxtrel_is_match(&m, P("a")) == GAXTREL_MISUSED);
+    o.apart = false;
+    CHECK(202, gaxtrel_compile_with(&m, P("a.c\nab"), &o, &fault) == GAXTREL_OK);
+    CHECK(203, gaxtrel_which(&m, P("abc"), numbers, 2, &count) == GAXTREL_JOINED);
+    o.lines = false, o.patterns = 0;
+    CHECK(204, gaxtrel_compile_with(&m, P("a"), &o, &fault) == GAXTREL_REFUSED && fault.pattern == 0);
+    CHECK(205, fault.kind == GAXTREL_TOO_MANY_PATTERNS);
+    return 0;
+}
+
 /* Patterns that take others time beyond the line: no more than a step a byte and one more. */
 static int hostile(void) {
     static const char *const patterns[] = {
@@ -269,6 +340,8 @@ int main(void) {
     if (!failed) failed = parts();
     if (!failed) failed = lines();
     if (!failed) failed = numbered_lines();
+    if (!failed) failed = limits();
+    if (!failed) failed = options();
     if (!failed) failed = hostile();
     if (!failed) puts("each call answers as it has to");
     return failed;

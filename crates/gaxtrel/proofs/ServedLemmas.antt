@@ -4,7 +4,7 @@ use Rattle.re_syntax.specs.Bytes.{Text}
 use Rattle.re_syntax.specs.Lines.{lines_of}
 use Rattle.re_syntax.specs.Parts.{ArePartsFrom}
 use Rattle.re_trees.specs.declared.span.Span.{Span}
-use Rattle.re_meter.specs.Meters.{Steps, AddsAtMost}
+use Rattle.re_meter.specs.Meters.{Steps, AddsAtMost, fresh}
 use Rattle.re_auto.specs.Searches.{FindsPart, SomeMatches}
 use Rattle.re_runs.proofs.lemmas.CountedBlocks.{counts_same}
 use Rattle.re_runs.proofs.lemmas.NextLines.{finds_same}
@@ -14,24 +14,48 @@ use Rattle.grep_core.proofs.lemmas.SameChoice.{Any-Matches, ArePartsFrom-same, I
 use Rattle.gaxtrel.specs.declared.held.Held.{Held}
 use Rattle.gaxtrel.specs.declared.held.Held.TheVariants.{Patterns}
 use Rattle.gaxtrel.specs.Held.{IsFor, patterns_in}
-use Rattle.gaxtrel.specs.Kept.{Kept, Serves, Stays, sought_in}
-use Rattle.gaxtrel.specs.Calls.{AreLines, FindsLine, PutsLines, PutsNumbers, PutsParts, line_cost}
+use Rattle.gaxtrel.specs.Kept.{Allows, Kept, Serves, Stays, Terms, sought_in, terms_of}
+use Rattle.gaxtrel.specs.Calls.{AreLines, FindsLine, IsStopped, PutsLines, PutsNumbers, PutsParts, line_cost, steps_of}
 use Rattle.gaxtrel.specs.declared.part.GaxtrelPart.{GaxtrelPart}
 use Rattle.gaxtrel.specs.declared.text_lines.GaxtrelLine.{GaxtrelLine}
+use Rattle.gaxtrel.specs.declared.work.GaxtrelWork.{GaxtrelWork}
 
 -- a search serves for itself
 pub serves_itself : (apart : Bool) (asked sought : Sought) → asked ≡ sought → Serves apart asked sought
 serves_itself apart asked sought is = subst (Serves apart asked) is (record { same = λ line i j. (λ a. a, λ a. a); fewer = omega arith; whole = refl; each = λ _. refl })
 
+still_on : (old new : Kept) → Stays old new → terms_of new ≡ terms_of old
+still_on old new stays = λ i. record { apart = stays.1 i; matchers = length ((stays.0 i).expressions); limit = stays.2 i }
+
 -- what was taken out serves for what is searched for, and so does what is held after a call
-pub served : {apart : Bool} {held : Option Held} {sought : Sought} {boxed now : Held} {kept : Kept} → IsFor apart held sought → held ≡ Some boxed → now ≡ boxed → now ≡ Patterns kept
-    → Serves apart (sought_in kept) sought × ((after : Option Held) (last : Kept) → after ≡ Some (Patterns last) → Stays kept last → IsFor apart after sought) × (kept.apart ≡ apart)
-served {apart} {held} {sought} {boxed} {now} {kept} is taken value kind =
+pub served : {t : Terms} {held : Option Held} {sought : Sought} {boxed now : Held} {kept : Kept} → IsFor t held sought → held ≡ Some boxed → now ≡ boxed → now ≡ Patterns kept
+    → Serves t.apart (sought_in kept) sought × ((after : Option Held) (last : Kept) → after ≡ Some (Patterns last) → Stays kept last → IsFor t after sought) × (terms_of kept ≡ t)
+served {t} {held} {sought} {boxed} {now} {kept} is taken value kind =
     let both : Some is.kept ≡ Some kept = sym is.is_there ∙ ap patterns_in (taken ∙ ap Some (sym value ∙ kind)) in
     let same : is.kept ≡ kept = cc both in
-    let serves = subst (λ (k : Kept). Serves apart (sought_in k) sought) same is.serves in
-    let now_apart = subst (λ (k : Kept). k.apart ≡ apart) same is.is_apart in
-    (serves, (λ after last holds stays. record { kept = last; is_there = ap patterns_in holds; is_apart = stays.1 ∙ now_apart; serves = subst (λ s. Serves apart s sought) (sym stays.0) serves }), now_apart)
+    let serves = subst (λ (k : Kept). Serves t.apart (sought_in k) sought) same is.serves in
+    let on = subst (λ (k : Kept). terms_of k ≡ t) same is.is_on in
+    (serves, (λ after last holds stays. record { kept = last; is_there = ap patterns_in holds; is_on = still_on kept last stays ∙ on; serves = subst (λ s. Serves t.apart s sought) (sym stays.0) serves }), on)
+
+-- a limit is set
+pub limited : {t : Terms} {held : Option Held} {sought : Sought} {boxed now : Held} {kept : Kept} → IsFor t held sought → held ≡ Some boxed → now ≡ boxed → now ≡ Patterns kept
+    → (limit : ℕ) (after : Option Held) (last : Kept) → after ≡ Some (Patterns last) → sought_in last ≡ sought_in kept → last.apart ≡ kept.apart → last.limit ≡ limit
+    → IsFor (record { apart = t.apart; matchers = t.matchers; limit = limit }) after sought
+limited {t} {held} {sought} is taken value kind limit after last holds same apart limits =
+    let (serves, _, on) = served is taken value kind in
+    record {
+      kept = last;
+      is_there = ap patterns_in holds;
+      is_on = λ i. record { apart = (apart ∙ ap (λ (u : Terms). u.apart) on) i; matchers = (ap (λ (s : Sought). length s.expressions) same ∙ ap (λ (u : Terms). u.matchers) on) i; limit = limits i };
+      serves = subst (λ s. Serves t.apart s sought) (sym same) serves;
+    }
+
+-- a call is stopped
+pub stopped : {t : Terms} {held : Option Held} {sought : Sought} {boxed now : Held} {kept : Kept} → IsFor t held sought → held ≡ Some boxed → now ≡ boxed → now ≡ Patterns kept
+    → (bytes answer : ℕ) (after : Option Held) (work : GaxtrelWork) → (Allows (terms_of kept) bytes → ⊥) → answer ≡ 5 → after ≡ Some (Patterns kept) → steps_of work ≡ fresh → IsStopped t bytes answer held after work
+stopped is taken value kind bytes answer after work not told holds none =
+    let (_, _, on) = served is taken value kind in
+    ((λ may. not (subst (λ (u : Terms). Allows u bytes) (sym on) may)), told, holds ∙ ap Some (sym kind ∙ value) ∙ sym taken, none)
 
 module _ {apart : Bool} {asked sought : Sought} (serves : Serves apart asked sought) where
   is_here : (line : Text) → IsSought asked line → IsSought sought line

@@ -5,7 +5,8 @@ use Rattle.std.proofs.Math.Seq.{take-append_seam}
 use Rattle.std.proofs.lemmas.List.{drop_all, length-take-le, take_rest}
 use Rattle.std.proofs.lemmas.List.Elements.{All-append, All-cons, All-nil}
 use Rattle.re_syntax.specs.Bytes.{Text}
-use Rattle.re_syntax.specs.Lines.{HasNoNewline, newline, terminated, lines_of}
+use Rattle.re_syntax.specs.Lines.{HasNoNewline, ended_lines_of, newline, terminated, lines_of}
+use Rattle.re_syntax.proofs.lemmas.EndedLinesLaws.{ended_lines_of-unique}
 use Rattle.re_trees.specs.declared.span.Span.{Span}
 use Rattle.re_syntax.proofs.lemmas.LinesLaws.{lines_of-last, lines_of-terminated}
 use Rattle.re_syntax.proofs.lemmas.SplittingLaws.{lines_of-empty}
@@ -79,6 +80,9 @@ module _ (text : Text) (cut : ℕ) (passed : PassesAll (λ _. ⊤) text cut) whe
 
   pub cut_within : cut ≤ length text
   cut_within = omega (arith, passed.5, ap length passed.4, length-append (terminated passed.0) passed.1)
+
+  pub whole_lines : HasNoNewline (drop cut text) → cut ≡ length (terminated (ended_lines_of text))
+  whole_lines free = passed.5 ∙ ap (λ l. length (terminated l)) (ended_lines_of-unique text passed.0 (passed.2, (passed.1, subst HasNoNewline rest_is free, passed.4)))
 
   -- there is no last line without newline
   all_ended : length text ≤ cut → lines_of text ≡ lines_of (take cut text) ++ []

@@ -1,5 +1,5 @@
 -- What the calls of the library take and answer.
-use Rattle.std.specs.Prelude.{◌≡◌, ℕ, ◌+◌, ◌-◌, ◌*◌, ◌^◌, ◌⊎◌, Bool, List, [], ◌∷◌, Option, Some, None, drop, length, map, min}
+use Rattle.std.specs.Prelude.{◌≡◌, ℕ, ◌+◌, ◌-◌, ◌*◌, ◌^◌, ◌<◌, ◌≤◌, ◌↔◌, ◌⊎◌, Bool, List, [], ◌∷◌, Option, Some, None, drop, length, map, min, take}
 use Rattle.re_syntax.specs.Bytes.{Text}
 use Rattle.re_syntax.specs.declared.syntax.Syntax.{Syntax}
 use Rattle.re_syntax.specs.declared.syntax.Syntax.TheVariants as s
@@ -8,14 +8,13 @@ use Rattle.re_syntax.specs.declared.fault.FaultKind.TheVariants as f
 use Rattle.re_trees.specs.declared.span.Span.{Span}
 use Rattle.re_syntax.specs.Expression.{Expression}
 use Rattle.re_syntax.specs.Holds.{Matches}
-use Rattle.re_syntax.specs.Lines.{lines_of}
+use Rattle.re_syntax.specs.Lines.{ended_lines_of, lines_of, terminated}
 use Rattle.re_syntax.specs.Parts.{ArePartsFrom}
-use Rattle.re_syntax.specs.Profile.{most_patterns}
 use Rattle.re_meter.specs.Meters.{Steps, AddsAtMost, fresh}
 use Rattle.re_search.specs.Working.Sought.{FindsSought, IsSought, Sought}
 use Rattle.gaxtrel.specs.Held.{IsFor}
+use Rattle.gaxtrel.specs.Kept.{Allows, Terms}
 use Rattle.gaxtrel.specs.declared.held.Held.{Held}
-use Rattle.gaxtrel.specs.declared.numbers.GaxtrelFault.{GaxtrelFault}
 use Rattle.gaxtrel.specs.declared.part.GaxtrelPart.{GaxtrelPart}
 use Rattle.gaxtrel.specs.declared.text_lines.GaxtrelLine.{GaxtrelLine}
 use Rattle.gaxtrel.specs.declared.work.GaxtrelWork.{GaxtrelWork}
@@ -47,10 +46,6 @@ kind_number f.BackReference = 12
 kind_number f.TooDeep = 13
 kind_number f.TooLarge = 14
 kind_number f.Memory = 0
-
--- the fault of more patterns than are allowed: the first of them that is too many
-abbrev pub too_many_patterns : GaxtrelFault
-too_many_patterns = record { kind = 15; at = 0; pattern = most_patterns }
 
 -- ---- items in an array
 
@@ -85,9 +80,23 @@ abbrev pub line_cost : ℕ → Text → ℕ
 line_cost matchers line = matchers * (length line + 1)
 
 -- what is held searches for this still, and the work that is shown is at most that of one search
-abbrev pub HasSearched : Bool → Sought → Text → Option Held → GaxtrelWork → Type 0
-HasSearched apart sought line held work =
-    IsFor apart held sought × AddsAtMost (line_cost (length sought.expressions) line) fresh (steps_of work)
+abbrev pub HasSearched : Terms → Sought → Text → Option Held → GaxtrelWork → Type 0
+HasSearched t sought line held work =
+    IsFor t held sought × AddsAtMost (line_cost (length sought.expressions) line) fresh (steps_of work)
+
+-- the answer to a call for a line of so many bytes, if these may not be searched: 5, with what is
+-- held as it was, and no work
+abbrev pub IsStopped : Terms → ℕ → ℕ → Option Held → Option Held → GaxtrelWork → Type 0
+IsStopped t bytes answer old new work =
+    (Allows t bytes → ⊥) × (answer ≡ 5) × (new ≡ old) × (steps_of work ≡ fresh)
+
+-- a call searches a text from a place on up to this end: that of the text; or that of the whole
+-- lines in as many bytes as may be searched
+abbrev pub Reaches : Terms → Text → ℕ → ℕ → Type 0
+Reaches t text from end =
+    (Allows t (length text - from) × (end ≡ length text))
+    ⊎ ((most : ℕ) × Allows t most × (Allows t (most + 1) → ⊥) × (from + most < length text)
+    × (end ≡ from + length (terminated (ended_lines_of (take most (drop from text))))))
 
 -- a search for the next line of a text: up to the end of that line; without one the whole text
 abbrev pub bytes_to_next : Text → Option Span → ℕ
@@ -100,10 +109,24 @@ bytes_to_next text (Some place) = place.end + 1
 abbrev pub part_at : Span → GaxtrelPart
 part_at span = record { start = span.start; end = span.end }
 
+-- 1 if there are some, or 0
+abbrev pub Says : ℕ → ℕ → Type 0
+Says answer count = (answer < 2) × ((answer ≡ 1) ↔ (1 ≤ count))
+
+-- the same of what was searched of so many bytes: 5 if that isn't all
+abbrev pub SaysOf : ℕ → ℕ → ℕ → ℕ → Type 0
+SaysOf answer count end bytes =
+    ((end < bytes) × (answer ≡ 5)) ⊎ ((bytes ≤ end) × Says answer count)
+
 -- 1 and the place that was found, or 0
 abbrev pub Tells : ℕ → GaxtrelPart → Option Span → Type 0
 Tells answer part None = answer ≡ 0
 Tells answer part (Some span) = (answer ≡ 1) × (part ≡ part_at span)
+
+-- the same of a search that went up to an end in so many bytes
+abbrev pub TellsOf : ℕ → GaxtrelPart → Option Span → ℕ → ℕ → Type 0
+TellsOf answer part None end bytes = SaysOf answer 0 end bytes
+TellsOf answer part (Some span) end bytes = Tells answer part (Some span)
 
 -- all parts that a line has from a place on
 abbrev pub AreParts : Sought → Text → ℕ → List GaxtrelPart → Type 0

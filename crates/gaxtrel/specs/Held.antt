@@ -9,7 +9,7 @@ use Rattle.std.specs.contracts.impls.GlobalAllocator.TheImpl.{ghosts}
 use Rattle.re_search.specs.Working.Sought.{Sought}
 use Rattle.gaxtrel.specs.declared.held.Held.{Held}
 use Rattle.gaxtrel.specs.declared.held.Held.TheVariants.{Patterns, Session}
-use Rattle.gaxtrel.specs.Kept.{Kept, Serves, sought_in}
+use Rattle.gaxtrel.specs.Kept.{Kept, Serves, Terms, sought_in, terms_of}
 use Rattle.gaxtrel.specs.Live.{LiveKept}
 
 -- what is boxed at the pointer, a value of this type, with the right to free it, if there is any
@@ -34,9 +34,9 @@ session_in None = None
 session_in (Some (Patterns kept)) = None
 session_in (Some (Session live)) = Some live
 
--- patterns are held, apart or not, and they search for this
-pub record IsFor (apart : Bool) (held : Option Held) (sought : Sought) : Type 0 where
+-- patterns are held on these terms, and they search for this
+pub record IsFor (terms : Terms) (held : Option Held) (sought : Sought) : Type 0 where
   pub kept : Kept
   pub is_there : patterns_in held ≡ Some kept
-  pub is_apart : kept.apart ≡ apart
-  pub serves : Serves apart (sought_in kept) sought
+  pub is_on : terms_of kept ≡ terms
+  pub serves : Serves terms.apart (sought_in kept) sought

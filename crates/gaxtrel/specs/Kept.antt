@@ -1,16 +1,18 @@
 -- What C keeps of patterns.
-use Rattle.std.specs.Prelude.{◌≡◌, ◌≤◌, Bool, true, List, length}
+use Rattle.std.specs.Prelude.{◌≡◌, ℕ, ◌+◌, ◌*◌, ◌≤◌, ◌⊎◌, Bool, true, List, length}
 use Rattle.re_syntax.specs.Expression.{Expression}
 use Rattle.re_search.specs.declared.matcher.Matcher.{Matcher}
 use Rattle.re_search.specs.Working.Matchers.{expressions_of}
 use Rattle.re_search.specs.Working.Sought.{Sought, sought_of}
 use Rattle.grep_core.specs.Working.SameChoice.{IsSameChoice}
 
--- matchers, whether the whole line has to be matched, and whether each pattern has its own
+-- matchers, whether the whole line has to be matched, whether each pattern has its own, and the
+-- limit of a call's work, or 0
 pub record Kept : Type 0 where
   pub matchers : List Matcher
   pub whole : Bool
   pub apart : Bool
+  pub limit : ℕ
 
 -- the expressions that the matchers are for
 abbrev pub expressions_in : Kept → List Expression
@@ -20,9 +22,24 @@ expressions_in kept = expressions_of kept.matchers
 abbrev pub sought_in : Kept → Sought
 sought_in kept = sought_of kept.whole kept.matchers
 
--- they are apart as before, and search for the same
+-- whether patterns are apart, the number of matchers that are made of them, and their limit
+pub record Terms : Type 0 where
+  pub apart : Bool
+  pub matchers : ℕ
+  pub limit : ℕ
+
+abbrev pub terms_of : Kept → Terms
+terms_of kept =
+    record { apart = kept.apart; matchers = length (expressions_in kept); limit = kept.limit }
+
+-- so many bytes may be searched in a call: there are none, or the steps are within the limit
+abbrev pub Allows : Terms → ℕ → Type 0
+Allows t bytes = (t.limit ≡ 0) ⊎ ((bytes ≡ 0) ⊎ (t.matchers * (bytes + 1) ≤ t.limit))
+
+-- they are apart and limited as before, and search for the same
 abbrev pub Stays : Kept → Kept → Type 0
-Stays old new = (sought_in new ≡ sought_in old) × (new.apart ≡ old.apart)
+Stays old new =
+    (sought_in new ≡ sought_in old) × (new.apart ≡ old.apart) × (new.limit ≡ old.limit)
 
 -- a search for the one is a search for the other: the expressions are the same choice, and no more;
 -- where they are apart they are the same

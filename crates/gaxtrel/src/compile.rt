@@ -1,27 +1,19 @@
-//! The calls that make a matcher, and the one that frees it.
-ghost use Rattle.std.specs.Prelude.{◌≡◌, ◌≤◌, ◌<◌, ◌↔◌, ◌⊎◌, [], ◌∷◌, List, All, true, false};
-ghost use Rattle.std.specs.Prelude.{None, Some, length};
-ghost use Rattle.std.specs.List.{AllZip};
-ghost use Rattle.re_syntax.specs.declared.syntax.Syntax.{Syntax};
-ghost use Rattle.re_syntax.specs.declared.fault.PatternFault.{PatternFault};
-ghost use Rattle.re_syntax.specs.Expression.{Expression};
-ghost use Rattle.re_syntax.specs.Lines.{lines_of};
-ghost use Rattle.re_syntax.specs.Profile.{most_patterns};
-ghost use Rattle.re_syntax.specs.Spelled.{IsMeant};
-ghost use Rattle.re_search.specs.Reading.{IsSmallFor, IsReadable, IsRefusedFor};
-ghost use Rattle.grep_core.specs.Matchers.{IsFirstRefused};
-ghost use Rattle.gaxtrel.specs.Held.{IsFor, patterns_in};
+//! The calls that make a matcher, limit it, and free it.
+ghost use Rattle.std.specs.Prelude.{◌≡◌, ◌⊎◌, Some, None, true, false};
 ghost use Rattle.re_meter.specs.Meters.{fresh};
-ghost use Rattle.gaxtrel.specs.Calls.{IsEmpty, syntax_number, kind_number, steps_of};
-ghost use Rattle.gaxtrel.specs.Calls.{too_many_patterns};
+ghost use Rattle.re_search.specs.Working.Sought.{Sought};
+ghost use Rattle.gaxtrel.specs.Kept.{Terms};
+ghost use Rattle.gaxtrel.specs.Held.{IsFor, patterns_in};
+ghost use Rattle.gaxtrel.specs.Calls.{IsEmpty, IsMisused, steps_of};
+ghost use Rattle.gaxtrel.specs.Made.{Makes, options_for};
 
 use crate::held::Held;
 use crate::holder::GaxtrelHolder;
-use crate::numbers::{GaxtrelFault, TOO_MANY_PATTERNS, fault_of, syntax_of};
+use crate::numbers::{GaxtrelFault, MISUSED, fault_of, too_many};
+use crate::options::{GaxtrelOptions, has_too_many, known_syntax, plain_options};
 use crate::patterns::Patterns;
-use grep_utility::has_more_than;
 use re_auto::fresh_meter;
-use re_syntax::{FaultKind, MOST_PATTERNS};
+use re_syntax::FaultKind;
 use std::alloc::Global;
 
 /// Makes a matcher of a pattern. What `matcher` held before is freed. Answers 0; or 1 if the
@@ -37,36 +29,11 @@ pub extern "C" fn gaxtrel_compile(
     whole: bool,
     fault: &mut GaxtrelFault,
 ) -> u32
-    ensures four { result ≤ 3 }
-    ensures made { result ≡ 0 → (s : Syntax) → syntax ≡ syntax_number s →
-        (e : Expression) × IsMeant s fold pattern.now e × IsSmallFor s fold e
-        × IsFor true matcher.new.handle.held
-        (record { expressions = e ∷ []; whole = whole }) }
-    ensures refused { result ≡ 1 → (s : Syntax) → syntax ≡ syntax_number s →
-        (f : PatternFault) × IsRefusedFor s fold pattern.now f
-        × (fault.new.kind ≡ kind_number f.kind) × (fault.new.at ≡ f.at)
-        × (fault.new.pattern ≡ 0) }
-    ensures unreadable { result ≡ 1 → (s : Syntax) → syntax ≡ syntax_number s →
-        IsReadable s fold pattern.now → ⊥ }
-    ensures unknown { (result ≡ 3) ↔ ((s : Syntax) → syntax ≡ syntax_number s → ⊥) }
-    ensures none { (result ≡ 0 → ⊥) → matcher.new.handle.held ≡ None }
-    ensures work { steps_of matcher.new.work ≡ fresh }
-    ensures no_fault { (result ≡ 1 → ⊥) → fault.new ≡ fault.old }
+    ensures { Makes (options_for syntax fold whole false true) pattern.now
+        matcher.new.handle.held fault.old fault.new matcher.new.work result }
 {
-    *matcher = GaxtrelHolder::empty(alloc);
-    let Some(syntax) = syntax_of(syntax) else {
-        return 3;
-    };
-    match Patterns::of_text(alloc, pattern, syntax, fold, whole) {
-        Ok(made) => hold(alloc, made, matcher),
-        Err(refused) => {
-            if matches!(refused.kind, FaultKind::Memory) {
-                return 2;
-            }
-            *fault = fault_of(0, refused);
-            1
-        }
-    }
+    let options = plain_options(syntax, fold, whole, false, true);
+    make(alloc, matcher, pattern, &options, fault)
 }
 
 /// Makes one matcher of several patterns, which are the lines of `patterns`. What `matcher` held
@@ -82,42 +49,11 @@ pub extern "C" fn gaxtrel_compile_lines(
     whole: bool,
     fault: &mut GaxtrelFault,
 ) -> u32
-    ensures four { result ≤ 3 }
-    ensures made { result ≡ 0 → (s : Syntax) → syntax ≡ syntax_number s →
-        (es : List Expression) × AllZip (λ text e. IsMeant s fold text e) (lines_of patterns.now) es
-        × All (IsReadable s fold) (lines_of patterns.now)
-        × IsFor false matcher.new.handle.held (record { expressions = es; whole = whole }) }
-    ensures many { most_patterns < length (lines_of patterns.now) →
-        (s : Syntax) → syntax ≡ syntax_number s →
-        (result ≡ 1) × (fault.new ≡ too_many_patterns) }
-    ensures refused { result ≡ 1 → length (lines_of patterns.now) ≤ most_patterns →
-        (s : Syntax) → syntax ≡ syntax_number s →
-        (f : PatternFault)
-        × IsFirstRefused s fold (lines_of patterns.now) fault.new.pattern f
-        × (fault.new.kind ≡ kind_number f.kind) × (fault.new.at ≡ f.at) }
-    ensures unknown { (result ≡ 3) ↔ ((s : Syntax) → syntax ≡ syntax_number s → ⊥) }
-    ensures none { (result ≡ 0 → ⊥) → matcher.new.handle.held ≡ None }
-    ensures work { steps_of matcher.new.work ≡ fresh }
-    ensures no_fault { (result ≡ 1 → ⊥) → fault.new ≡ fault.old }
+    ensures { Makes (options_for syntax fold whole true false) patterns.now
+        matcher.new.handle.held fault.old fault.new matcher.new.work result }
 {
-    *matcher = GaxtrelHolder::empty(alloc);
-    let Some(syntax) = syntax_of(syntax) else {
-        return 3;
-    };
-    if has_more_than(MOST_PATTERNS, patterns) {
-        *fault = TOO_MANY_PATTERNS;
-        return 1;
-    }
-    match Patterns::of_lines(alloc, patterns, syntax, fold, whole) {
-        Ok(made) => hold(alloc, made, matcher),
-        Err(refused) => {
-            if matches!(refused.1.kind, FaultKind::Memory) {
-                return 2;
-            }
-            *fault = fault_of(refused.0, refused.1);
-            1
-        }
-    }
+    let options = plain_options(syntax, fold, whole, true, false);
+    make(alloc, matcher, patterns, &options, fault)
 }
 
 /// The same, but the matcher keeps each pattern apart, and can say which ones match a line.
@@ -131,33 +67,50 @@ pub extern "C" fn gaxtrel_compile_each(
     whole: bool,
     fault: &mut GaxtrelFault,
 ) -> u32
-    ensures four { result ≤ 3 }
-    ensures made { result ≡ 0 → (s : Syntax) → syntax ≡ syntax_number s →
-        (es : List Expression) × AllZip (λ text e. IsMeant s fold text e) (lines_of patterns.now) es
-        × All (IsReadable s fold) (lines_of patterns.now)
-        × IsFor true matcher.new.handle.held (record { expressions = es; whole = whole }) }
-    ensures many { most_patterns < length (lines_of patterns.now) →
-        (s : Syntax) → syntax ≡ syntax_number s →
-        (result ≡ 1) × (fault.new ≡ too_many_patterns) }
-    ensures refused { result ≡ 1 → length (lines_of patterns.now) ≤ most_patterns →
-        (s : Syntax) → syntax ≡ syntax_number s →
-        (f : PatternFault)
-        × IsFirstRefused s fold (lines_of patterns.now) fault.new.pattern f
-        × (fault.new.kind ≡ kind_number f.kind) × (fault.new.at ≡ f.at) }
-    ensures unknown { (result ≡ 3) ↔ ((s : Syntax) → syntax ≡ syntax_number s → ⊥) }
-    ensures none { (result ≡ 0 → ⊥) → matcher.new.handle.held ≡ None }
-    ensures work { steps_of matcher.new.work ≡ fresh }
-    ensures no_fault { (result ≡ 1 → ⊥) → fault.new ≡ fault.old }
+    ensures { Makes (options_for syntax fold whole true true) patterns.now
+        matcher.new.handle.held fault.old fault.new matcher.new.work result }
+{
+    let options = plain_options(syntax, fold, whole, true, true);
+    make(alloc, matcher, patterns, &options, fault)
+}
+
+/// Makes a matcher as its options say. What `matcher` held before is freed. Answers 0; or 1 if a
+/// pattern is refused or there are too many, 2 if memory is refused, 3 if the options are not
+/// known: then `matcher` holds none.
+#[unsafe(no_mangle)]
+pub extern "C" fn gaxtrel_compile_with(
+    alloc: Global,
+    matcher: &mut GaxtrelHolder,
+    patterns: &[u8],
+    options: &GaxtrelOptions,
+    fault: &mut GaxtrelFault,
+) -> u32
+    ensures { Makes options.now patterns.now matcher.new.handle.held fault.old fault.new
+        matcher.new.work result }
+{
+    make(alloc, matcher, patterns, options, fault)
+}
+
+// The same.
+fn make(
+    alloc: Global,
+    matcher: &mut GaxtrelHolder,
+    text: &[u8],
+    options: &GaxtrelOptions,
+    fault: &mut GaxtrelFault,
+) -> u32
+    ensures { Makes options.now text.now matcher.new.handle.held fault.old fault.new
+        matcher.new.work result }
 {
     *matcher = GaxtrelHolder::empty(alloc);
-    let Some(syntax) = syntax_of(syntax) else {
-        return 3;
+    let Some(syntax) = known_syntax(options) else {
+        return MISUSED;
     };
-    if has_more_than(MOST_PATTERNS, patterns) {
-        *fault = TOO_MANY_PATTERNS;
+    if has_too_many(options, text) {
+        *fault = too_many(options.patterns);
         return 1;
     }
-    match Patterns::of_each(alloc, patterns, syntax, fold, whole) {
+    match Patterns::of(alloc, text, syntax, options) {
         Ok(made) => hold(alloc, made, matcher),
         Err(refused) => {
             if matches!(refused.1.kind, FaultKind::Memory) {
@@ -180,6 +133,28 @@ fn hold(alloc: Global, patterns: Patterns, matcher: &mut GaxtrelHolder) -> u32
     let Ok(boxed) = Box::new(alloc, Held::Patterns(patterns)) else {
         return 2;
     };
+    *matcher = GaxtrelHolder::of(boxed, &fresh_meter());
+    0
+}
+
+/// Sets the limit of the work of each call on `matcher`; 0 is none. Answers 0; or 3 if it holds no
+/// patterns.
+#[unsafe(no_mangle)]
+pub extern "C" fn gaxtrel_limit(alloc: Global, matcher: &mut GaxtrelHolder, limit: u64) -> u32
+    ensures set { (t : Terms) (sought : Sought) → IsFor t matcher.old.handle.held sought →
+        (result ≡ 0) × IsFor (record { apart = t.apart; matchers = t.matchers; limit = limit })
+        matcher.new.handle.held sought }
+    ensures none { patterns_in matcher.old.handle.held ≡ None → IsMisused result
+        matcher.old.handle.held matcher.new.handle.held matcher.new.work }
+    ensures work { steps_of matcher.new.work ≡ fresh }
+{
+    let Some(mut boxed) = matcher.take(alloc) else {
+        return MISUSED;
+    };
+    let Held::Patterns(patterns) = &mut *boxed else {
+        return matcher.put_back(boxed, MISUSED);
+    };
+    patterns.set_limit(limit);
     *matcher = GaxtrelHolder::of(boxed, &fresh_meter());
     0
 }

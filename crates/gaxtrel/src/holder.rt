@@ -57,14 +57,14 @@ impl GaxtrelHolder {
         replace(self, GaxtrelHolder::empty(alloc)).into_box()
     }
 
-    /// Holds this again, after a call for the other kind: 3.
-    pub(crate) fn put_back(&mut self, held: Box<Held>) -> u32
-        ensures answer { result ≡ 3 }
+    /// Holds this again, after a call that did nothing and answers so.
+    pub(crate) fn put_back(&mut self, held: Box<Held>, answer: u32) -> u32
+        ensures answer { result ≡ answer }
         ensures held { self.new.handle.held ≡ Some held.value }
         ensures work { steps_of self.new.work ≡ fresh }
     {
         *self = GaxtrelHolder::of(held, &fresh_meter());
-        3
+        answer
     }
 
     // What it holds.

@@ -12,6 +12,7 @@ mod line_parts;
 mod live;
 mod loose;
 mod numbers;
+mod options;
 mod part;
 mod patterns;
 mod search;
@@ -25,6 +26,7 @@ mod work;
 
 pub use holder::GaxtrelHolder;
 pub use numbers::GaxtrelFault;
+pub use options::GaxtrelOptions;
 pub use part::GaxtrelPart;
 pub use text_lines::GaxtrelLine;
 pub use work::GaxtrelWork;

@@ -1,12 +1,19 @@
-//! The numbers by which C names syntaxes, faults and ends.
-ghost use Rattle.std.specs.Prelude.{◌≡◌, IfErr, IfOk, MatchOption};
+//! The numbers by which C names syntaxes, faults, answers and ends.
+ghost use Rattle.std.specs.Prelude.{◌≡◌, IfErr, IfOk, MatchOption, length};
 ghost use Rattle.re_syntax.specs.declared.syntax.Syntax.{Syntax};
-ghost use Rattle.gaxtrel.specs.Calls.{syntax_number, kind_number};
+ghost use Rattle.gaxtrel.specs.Calls.{Says, SaysOf, syntax_number, kind_number};
 ghost use Rattle.gaxtrel.specs.Live.{end_number};
+ghost use Rattle.gaxtrel.specs.Made.{too_many};
 
 use grep_cmd::{ScriptEnd, ScriptFault};
 use re_search::Syntax;
-use re_syntax::{FaultKind, MOST_PATTERNS, PatternFault};
+use re_syntax::{FaultKind, PatternFault};
+
+/// The answer to a call for what is not held.
+pub(crate) const MISUSED: u32 = 3;
+
+/// The answer to a call that reached its limit.
+pub(crate) const STOPPED: u32 = 5;
 
 /// Why a pattern is refused, and where.
 #[repr(C)]
@@ -20,12 +27,16 @@ pub struct GaxtrelFault {
     pub pattern: usize,
 }
 
-/// The fault of more patterns than are allowed: the first of them that is too many.
-pub(crate) const TOO_MANY_PATTERNS: GaxtrelFault = GaxtrelFault {
-    kind: 15,
-    at: 0,
-    pattern: MOST_PATTERNS,
-};
+/// The fault of more patterns than there may be: the first of them that is too many.
+pub(crate) fn too_many(most: usize) -> GaxtrelFault
+    ensures { result ≡ too_many most }
+{
+    GaxtrelFault {
+        kind: 15,
+        at: 0,
+        pattern: most,
+    }
+}
 
 /// The fault of a pattern.
 pub(crate) fn fault_of(pattern: usize, fault: PatternFault) -> GaxtrelFault
@@ -74,6 +85,23 @@ fn number_of(kind: FaultKind) -> u32
         FaultKind::TooLarge => 14,
         FaultKind::Memory => 0,
     }
+}
+
+/// The answer of a search that found so many in what it searched, up to an end, of a text.
+pub(crate) fn answer_for(count: u64, end: usize, text: &[u8]) -> u32
+    ensures { SaysOf result count end (length text.now) }
+{
+    if end < text.len() {
+        return STOPPED;
+    }
+    some(count)
+}
+
+/// 1 if there are some, 0 if there are none.
+pub(crate) fn some(count: u64) -> u32
+    ensures { Says result count }
+{
+    (count > 0) as u32
 }
 
 /// The number of how the commands of a text were answered.

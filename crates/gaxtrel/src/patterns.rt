@@ -1,38 +1,40 @@
 //! The matchers of patterns, which are asked together.
-ghost use Rattle.std.specs.Prelude.{◌≡◌, ◌↔◌, ◌⊎◌, [], ◌∷◌, List, IsTrue, true, false};
-ghost use Rattle.std.specs.Prelude.{All, IfErr, IfOk, MatchOption, length};
-ghost use Rattle.std.specs.List.{AllZip};
-ghost use Rattle.re_syntax.specs.Expression.{Expression};
+ghost use Rattle.std.specs.Prelude.{◌≡◌, ◌+◌, ◌<◌, ◌≤◌, ◌↔◌, ◌⊎◌, [], ◌∷◌, IfErr, IfOk, IsTrue};
+ghost use Rattle.std.specs.Prelude.{MatchOption, false, length, true};
 ghost use Rattle.re_syntax.specs.Lines.{lines_of};
-ghost use Rattle.re_syntax.specs.Spelled.{IsMeant};
 ghost use Rattle.re_meter.specs.Meters.{AddsAtMost};
 ghost use Rattle.re_auto.specs.Searches.{FindsPart};
-ghost use Rattle.re_search.specs.Reading.{IsOutOfMemory, IsReadable, IsRefusedFor, IsSmallFor};
+ghost use Rattle.re_search.specs.Reading.{IsOutOfMemory};
 ghost use Rattle.re_search.specs.Working.Sought.{CountsSought, IsSought};
 ghost use Rattle.grep_core.specs.Matchers.{IsFirstRefused};
-ghost use Rattle.gaxtrel.specs.Kept.{Serves, Stays, expressions_in, sought_in};
-ghost use Rattle.gaxtrel.specs.Calls.{FindsLine, PutsLines, PutsNumbers, PutsParts, line_cost};
+ghost use Rattle.gaxtrel.specs.Kept.{Allows, Stays, expressions_in, sought_in, terms_of};
+ghost use Rattle.gaxtrel.specs.Calls.{FindsLine, PutsLines, PutsNumbers, PutsParts, Reaches};
+ghost use Rattle.gaxtrel.specs.Calls.{line_cost};
+ghost use Rattle.gaxtrel.specs.Made.{AreMade, is_apart, texts_for};
 
 use crate::each::{NO_MEMORY, STATES, add, matchers_of};
 use crate::line_parts::put_parts;
+use crate::options::GaxtrelOptions;
 use crate::part::GaxtrelPart;
 use crate::text_lines::{GaxtrelLine, put_lines};
 use crate::text_search::{count_in_text, next_in_text};
 use crate::which::put_numbers;
 use grep_core::Options;
 use grep_utility::searchers_of;
+use re_runs::line_start;
 use re_search::{LineParts, Matcher, Meter, Span, Syntax, is_matched, parts};
 use re_syntax::PatternFault;
 use std::alloc::{AllocError, Global};
 use std::marker::Model;
 
-/// The matchers of patterns, whether the whole line has to be matched, and whether each pattern has
-/// its own.
+/// The matchers of patterns, whether the whole line has to be matched, whether each pattern has its
+/// own, and the limit of a call's work, or 0.
 #[derive(Drop)]
 pub struct Patterns {
     matchers: Vec<Matcher>,
     whole: bool,
     apart: bool,
+    limit: u64,
 }
 
 impl Model for Patterns {
@@ -46,114 +48,168 @@ impl Model for Patterns {
 
     ghost coded = { Prim.hlevel (codes, matcher.the_row.coded) };
 
-    ghost view = { λ p. record { matchers = p.matchers.items; whole = p.whole; apart = p.apart } };
+    ghost view = { λ p. record {
+      matchers = p.matchers.items;
+      whole = p.whole;
+      apart = p.apart;
+      limit = p.limit;
+    } };
 
     ghost invariant = { λ p. AreAlike p.whole p.matchers.items × HaveRoom p.matchers.items };
 }
 
 impl Patterns {
-    /// One pattern. Of a fixed string no byte has a meaning; of other patterns one matcher is made.
+    /// The patterns that a text is, as the options say.
     ///
     /// # Errors
     ///
-    /// Those of [`Matcher::new`].
-    pub(crate) fn of_text(
+    /// The number of the first pattern that is refused, counted from 0, and why; or
+    /// `FaultKind::Memory` at 0.
+    pub(crate) fn of(
         alloc: Global,
         text: &[u8],
         syntax: Syntax,
-        fold: bool,
-        whole: bool,
-    ) -> Result<Patterns, PatternFault>
-        ensures made { IfOk result
-            (λ p. (e : Expression) × IsMeant syntax fold text.now e × IsSmallFor syntax fold e
-            × (p.apart ≡ true)
-            × Serves true (sought_in p) (record { expressions = e ∷ []; whole = whole })) }
-        ensures refused { IfErr result
-            (λ fault. IsOutOfMemory fault ⊎ IsRefusedFor syntax fold text.now fault) }
-        ensures unreadable { IfErr result
-            (λ fault. IsOutOfMemory fault ⊎ (IsReadable syntax fold text.now → ⊥)) }
+        options: &GaxtrelOptions,
+    ) -> Result<Patterns, (usize, PatternFault)>
+        ensures made { IfOk result (AreMade syntax options.now.fold options.now.whole
+            (is_apart options.now) options.now.limit (texts_for options.now text.now)) }
+        ensures refused { IfErr result (λ refused. IsOutOfMemory refused.1 ⊎ IsFirstRefused syntax
+            options.now.fold (texts_for options.now text.now) refused.0 refused.1) }
     {
+        if !options.lines {
+            return Patterns::of_text(alloc, text, syntax, options);
+        }
+        if options.apart {
+            return Patterns::of_each(alloc, text, syntax, options);
+        }
+        Patterns::of_lines(alloc, text, syntax, options)
+    }
+
+    // One pattern. Of a fixed string no byte has a meaning; of other patterns one matcher is made.
+    fn of_text(
+        alloc: Global,
+        text: &[u8],
+        syntax: Syntax,
+        options: &GaxtrelOptions,
+    ) -> Result<Patterns, (usize, PatternFault)>
+        ensures made { IfOk result (AreMade syntax options.now.fold options.now.whole true
+            options.now.limit (text.now ∷ [])) }
+        ensures refused { IfErr result (λ refused. IsOutOfMemory refused.1
+            ⊎ IsFirstRefused syntax options.now.fold (text.now ∷ []) refused.0 refused.1) }
+    {
+        let (fold, whole) = (options.fold, options.whole);
         let matcher = match Matcher::new(alloc, text, syntax, fold, whole, STATES) {
             Ok(matcher) => matcher,
-            Err(fault) => return Err(fault),
+            Err(fault) => return Err((0, fault)),
         };
         let Ok(matchers) = alone(alloc, matcher) else {
-            return Err(NO_MEMORY);
+            return Err((0, NO_MEMORY));
         };
         Ok(Patterns {
             matchers,
             whole,
             apart: true,
+            limit: options.limit,
         })
     }
 
-    /// The patterns that are the lines of a text.
-    ///
-    /// # Errors
-    ///
-    /// The number of the first line that is refused, counted from 0, and why; or
-    /// `FaultKind::Memory` at 0.
-    pub(crate) fn of_lines(
+    // The patterns that are the lines of a text.
+    fn of_lines(
         alloc: Global,
         texts: &[u8],
         syntax: Syntax,
-        fold: bool,
-        whole: bool,
+        options: &GaxtrelOptions,
     ) -> Result<Patterns, (usize, PatternFault)>
-        ensures made { IfOk result
-            (λ p. (es : List Expression)
-            × AllZip (λ text e. IsMeant syntax fold text e) (lines_of texts.now) es
-            × All (IsReadable syntax fold) (lines_of texts.now)
-            × (p.apart ≡ false)
-            × Serves false (sought_in p) (record { expressions = es; whole = whole })) }
-        ensures refused { IfErr result
-            (λ refused. IsOutOfMemory refused.1
-            ⊎ IsFirstRefused syntax fold (lines_of texts.now) refused.0 refused.1) }
+        ensures made { IfOk result (AreMade syntax options.now.fold options.now.whole false
+            options.now.limit (lines_of texts.now)) }
+        ensures refused { IfErr result (λ refused. IsOutOfMemory refused.1
+            ⊎ IsFirstRefused syntax options.now.fold (lines_of texts.now) refused.0 refused.1) }
     {
-        let options = reading(fold, whole);
-        let matchers = match searchers_of(alloc, texts, syntax, &options) {
+        let reading = reading(options.fold, options.whole);
+        let matchers = match searchers_of(alloc, texts, syntax, &reading) {
             Ok(matchers) => matchers,
             Err(refused) => return Err(refused),
         };
         Ok(Patterns {
             matchers,
-            whole,
+            whole: options.whole,
             apart: false,
+            limit: options.limit,
         })
     }
 
-    /// The same, but each pattern is kept apart.
-    ///
-    /// # Errors
-    ///
-    /// Those of [`Patterns::of_lines`].
-    pub(crate) fn of_each(
+    // The same, but each pattern is kept apart.
+    fn of_each(
         alloc: Global,
         texts: &[u8],
         syntax: Syntax,
-        fold: bool,
-        whole: bool,
+        options: &GaxtrelOptions,
     ) -> Result<Patterns, (usize, PatternFault)>
-        ensures made { IfOk result
-            (λ p. (es : List Expression)
-            × AllZip (λ text e. IsMeant syntax fold text e) (lines_of texts.now) es
-            × All (IsReadable syntax fold) (lines_of texts.now)
-            × (p.apart ≡ true)
-            × Serves true (sought_in p) (record { expressions = es; whole = whole })) }
-        ensures refused { IfErr result
-            (λ refused. IsOutOfMemory refused.1
-            ⊎ IsFirstRefused syntax fold (lines_of texts.now) refused.0 refused.1) }
+        ensures made { IfOk result (AreMade syntax options.now.fold options.now.whole true
+            options.now.limit (lines_of texts.now)) }
+        ensures refused { IfErr result (λ refused. IsOutOfMemory refused.1
+            ⊎ IsFirstRefused syntax options.now.fold (lines_of texts.now) refused.0 refused.1) }
     {
-        let options = reading(fold, whole);
-        let matchers = match matchers_of(alloc, texts, syntax, &options) {
+        let reading = reading(options.fold, options.whole);
+        let matchers = match matchers_of(alloc, texts, syntax, &reading) {
             Ok(matchers) => matchers,
             Err(refused) => return Err(refused),
         };
         Ok(Patterns {
             matchers,
-            whole,
+            whole: options.whole,
             apart: true,
+            limit: options.limit,
         })
+    }
+
+    /// Sets the limit of a call's work; 0 is none.
+    pub(crate) fn set_limit(&mut self, limit: u64)
+        ensures sought { sought_in self.new ≡ sought_in self.old }
+        ensures apart { self.new.apart ≡ self.old.apart }
+        ensures limit { self.new.limit ≡ limit }
+    {
+        self.limit = limit;
+    }
+
+    // How many of so many bytes may be searched.
+    fn most_of(&self, bytes: usize) -> usize
+        ensures few { result ≤ bytes }
+        ensures within { Allows (terms_of self.now) result }
+        ensures most { result < bytes → Allows (terms_of self.now) (result + 1) → ⊥ }
+    {
+        let matchers = self.matchers.len();
+        if self.limit == 0 {
+            return bytes;
+        }
+        if matchers == 0 {
+            return bytes;
+        }
+        let most = self.limit / matchers as u64;
+        bytes.min(most.saturating_sub(1) as usize)
+    }
+
+    /// Whether so many bytes may be searched.
+    pub(crate) fn allows(&self, bytes: usize) -> bool
+        ensures { IsTrue result ↔ Allows (terms_of self.now) bytes }
+    {
+        self.most_of(bytes) == bytes
+    }
+
+    /// The end of what may be searched of a text from a place on: that of the text, or of the whole
+    /// lines in as many bytes as may be searched.
+    pub(crate) fn reach(&self, text: &[u8], from: usize) -> usize
+        ensures reached { Reaches (terms_of self.now) text.now from result }
+        ensures within { result ≤ length text.now }
+    {
+        if from >= text.len() {
+            return text.len();
+        }
+        let end = from + self.most_of(text.len() - from);
+        if end == text.len() {
+            return end;
+        }
+        from + line_start(&text[from..end])
     }
 
     /// Whether some pattern matches the line.

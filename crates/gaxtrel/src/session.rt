@@ -10,6 +10,7 @@ ghost use Rattle.gaxtrel.specs.Calls.{IsEmpty, IsMisused, steps_of};
 use crate::held::Held;
 use crate::holder::GaxtrelHolder;
 use crate::live::Live;
+use crate::numbers::MISUSED;
 use re_auto::fresh_meter;
 use std::alloc::Global;
 
@@ -70,7 +71,7 @@ pub extern "C" fn gaxtrel_session_answer(
         return 3;
     };
     let Held::Session(live) = &mut *boxed else {
-        return session.put_back(boxed);
+        return session.put_back(boxed, MISUSED);
     };
     let mut meter = fresh_meter();
     let ended = live.answer(alloc, commands, &mut meter);
@@ -102,7 +103,7 @@ pub extern "C" fn gaxtrel_session_replies(
         return 3;
     };
     let Held::Session(live) = &*boxed else {
-        return session.put_back(boxed);
+        return session.put_back(boxed, MISUSED);
     };
     live.put_replies(from, into);
     *count = live.count();

@@ -15,7 +15,6 @@ pub use grep_io::{
 };
 pub use laws::{context_is_for_lines, has_one_answer, means_one};
 pub use options::{Context, Flag, Form, Options};
-pub use output::around::{Progress, Shown};
 pub use output::counts::{write_count, write_name};
 pub use output::messages::{write_cannot_open, write_read_error};
 pub use output::request::FileRequest;

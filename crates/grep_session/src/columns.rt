@@ -1,17 +1,14 @@
-//! What is found in all lines after a change of the patterns, chunk by chunk. Where patterns were
-//! added, removed or replaced, only the new ones are searched for, and the parts of the lines that
-//! one of these matches. A narrower pattern is searched for in lines that the old one matched.
-ghost use Rattle.std.specs.Prelude.{◌≡◌, ◌≤◌, List, length, map, All, IsTrue};
-ghost use Rattle.std.specs.Prelude.{IfOk, OnErr, vec_capacity};
-ghost use Rattle.re_syntax.specs.Expression.{Expression};
-ghost use Rattle.re_syntax.specs.Profile.{most_patterns};
+//! What is found in all lines after a change of the patterns, chunk by chunk. Only patterns that came
+//! are searched for, and the parts of the lines that one that went or came matches. Narrower ones are
+//! searched for in the lines that one that went matched.
+ghost use Rattle.std.specs.Prelude.{◌≡◌, ◌+◌, ◌≤◌, length, map, All, IsTrue, IfOk, OnErr};
+ghost use Rattle.std.specs.Prelude.{vec_capacity};
 ghost use Rattle.re_search.specs.Working.Matchers.{AreAlike, AreSame, matched_expression};
 ghost use Rattle.line_chunks.specs.Working.Chunks.{FitsColumn, all_of, line_text};
-ghost use Rattle.grep_session.specs.Working.Changed.{HasChanged, WasKept, WasFileKept, IsWithin};
-ghost use Rattle.grep_session.specs.Working.Changed.{SearchesEach};
+ghost use Rattle.grep_session.specs.Working.Changed.{HasChanged, SearchesEach};
 ghost use Rattle.grep_session.specs.Working.Columns.{AddsColumns, StaysSame};
 ghost use Rattle.grep_session.specs.Working.Found.{IsColumn, lines_of_files};
-ghost use Rattle.grep_session.specs.Working.Kept.{IsFileKept, kept_file};
+ghost use Rattle.grep_session.specs.Working.Kept.{IsFileKept, IsKept, kept_file};
 
 use crate::change::Change;
 use crate::found::put_columns;
@@ -25,16 +22,18 @@ use line_chunks::{Chunk, Found, Matches};
 use re_search::{LineParts, Matcher, Meter};
 use std::alloc::{AllocError, Global};
 
-/// Whether what was found in a chunk stays as it is: no pattern that was added matches a line of
-/// it, or no pattern matched one, and the one in place of another doesn't.
+/// Whether what was found in a chunk stays as it is: no pattern that went or moved had matched one of
+/// its lines, and none that came does.
 fn is_same(change: Change, old: &Matches, new: &Matches) -> bool
     ensures { IsTrue result → StaysSame change old.now new.now }
 {
-    match change {
-        Change::Added(_) => old.len() == new.len(),
-        Change::Replaced(_, _) => old.len() == 0 && new.len() == 0,
-        _ => false,
+    if change.all_parts {
+        return false;
     }
+    if new.len() != old.len() {
+        return false;
+    }
+    old.are_before(change.first)
 }
 
 /// What is found in the lines of a chunk after a change of the patterns; `None` where it is what
@@ -48,18 +47,16 @@ fn find_in_chunk(
     meter: &mut Meter,
 ) -> Result<Option<Found>, AllocError>
     requires whole { AreAlike search.now.options.line_regexp matchers.old }
-    requires few { length matchers.old ≤ most_patterns }
-    requires within { IsWithin change (length matchers.old) }
+    requires within { change.first + change.come ≤ length matchers.old }
     ensures same_matchers { AreSame matchers.old matchers.new }
     ensures fits { IfOk result (FitsColumn chunk.now) }
-    ensures ok { IfOk result (λ found. (before changed : List Expression) →
-        HasChanged change (map matched_expression matchers.old) before changed search.now.options →
-        All (WasKept change before search.now.options) chunk.now
+    ensures ok { IfOk result (λ found.
+        (h : HasChanged change (map matched_expression matchers.old) search.now.options) →
+        All (IsKept h.before h.was) chunk.now
         → IsColumn (map matched_expression matchers.old) search.now.options chunk.now found) }
-    ensures steps { (before changed : List Expression) →
-        HasChanged change (map matched_expression matchers.old) before changed search.now.options →
-        All (WasKept change before search.now.options) chunk.now
-        → SearchesEach change changed (map matched_expression matchers.old) search.now.options
+    ensures steps { (h : HasChanged change (map matched_expression matchers.old) search.now.options)
+        → All (IsKept h.before h.was) chunk.now
+        → SearchesEach change h.gone h.come (map matched_expression matchers.old) search.now.options
         (map line_text chunk.now) meter.old meter.new }
 {
     let old = chunk.matches();
@@ -85,18 +82,16 @@ pub fn find_in_lines(
     meter: &mut Meter,
 ) -> Result<(), AllocError>
     requires whole { AreAlike search.now.options.line_regexp matchers.old.items }
-    requires few { length matchers.old.items ≤ most_patterns }
-    requires within { IsWithin change (length matchers.old.items) }
+    requires within { change.first + change.come ≤ length matchers.old.items }
     ensures same_matchers { AreSame matchers.old.items matchers.new.items }
     ensures room { vec_capacity matchers.new ≡ vec_capacity matchers.old }
     ensures ok { IfOk result (λ _.
         AddsColumns change (map matched_expression matchers.old.items) search.now.options lines.now
         found.old.items found.new.items) }
-    ensures steps { (before changed : List Expression) →
-        HasChanged change (map matched_expression matchers.old.items) before changed
-        search.now.options → All (WasKept change before search.now.options) (all_of lines.now)
-        → SearchesEach change changed (map matched_expression matchers.old.items) search.now.options
-        (map line_text (all_of lines.now)) meter.old meter.new }
+    ensures steps { (h : HasChanged change (map matched_expression matchers.old.items)
+        search.now.options) → All (IsKept h.before h.was) (all_of lines.now)
+        → SearchesEach change h.gone h.come (map matched_expression matchers.old.items)
+        search.now.options (map line_text (all_of lines.now)) meter.old meter.new }
 {
     for i in 0..lines.chunk_count() {
         let one = find_in_chunk(search, matchers, change, lines.chunk(i), line_parts, meter)?;
@@ -116,21 +111,19 @@ pub fn find_columns(
     meter: &mut Meter,
 ) -> Result<(), AllocError>
     requires whole { AreAlike options.now.line_regexp matchers.old.items }
-    requires few { length matchers.old.items ≤ most_patterns }
-    requires within { IsWithin change (length matchers.old.items) }
+    requires within { change.first + change.come ≤ length matchers.old.items }
     ensures same_matchers { AreSame matchers.old.items matchers.new.items }
     ensures room { vec_capacity matchers.new ≡ vec_capacity matchers.old }
     ensures same { map kept_file files.new.items ≡ map kept_file files.old.items }
-    ensures ok { IfOk result (λ _. (before changed : List Expression) →
-        HasChanged change (map matched_expression matchers.old.items) before changed options.now →
-        All (WasFileKept change before options.now) files.old.items
+    ensures ok { IfOk result (λ _.
+        (h : HasChanged change (map matched_expression matchers.old.items) options.now) →
+        All (IsFileKept h.before h.was) files.old.items
         → All (IsFileKept (map matched_expression matchers.new.items) options.now)
         files.new.items) }
     ensures err { OnErr result (files.new.items ≡ files.old.items) }
-    ensures steps { (before changed : List Expression) →
-        HasChanged change (map matched_expression matchers.old.items) before changed options.now →
-        All (WasFileKept change before options.now) files.old.items
-        → SearchesEach change changed (map matched_expression matchers.old.items) options.now
+    ensures steps { (h : HasChanged change (map matched_expression matchers.old.items) options.now)
+        → All (IsFileKept h.before h.was) files.old.items
+        → SearchesEach change h.gone h.come (map matched_expression matchers.old.items) options.now
         (lines_of_files (map kept_file files.old.items)) meter.old meter.new }
 {
     let search = SearchContext {

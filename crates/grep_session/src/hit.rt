@@ -1,10 +1,13 @@
 //! A line as an editor lists it.
-ghost use Rattle.std.specs.Prelude.{◌≡◌, ◌<◌, false, true, length, get_or, if◌then◌else◌, MatchOption};
-ghost use Rattle.line_chunks.specs.Working.Chunks.{all_of, line_text, no_line};
+ghost use Rattle.std.specs.Prelude.{◌≡◌, ◌<◌, List, [], map, length, get_or, MatchOption};
+ghost use Rattle.re_syntax.specs.Expression.{Expression};
+ghost use Rattle.grep_core.specs.Files.{Selected};
+ghost use Rattle.line_chunks.specs.Working.Chunks.{all_of, no_line};
+ghost use Rattle.grep_session.specs.Listed.{ListedParts};
+ghost use Rattle.grep_session.specs.Working.Kept.{IsFileKept, kept_file, span_places};
 ghost use Rattle.grep_session.specs.Working.ListedParts.{listed_spans};
-ghost use Rattle.grep_session.specs.Working.Report.{is_selected};
 
-use crate::kept::FileLines;
+use crate::kept::{FileLines, KeptFile};
 use crate::verdicts::is_selected;
 use grep_core::Options;
 use re_search::Span;
@@ -29,19 +32,25 @@ fn listed_parts<'a>(lines: &'a FileLines, k: usize, options: &Options) -> &'a [S
     &[]
 }
 
-/// Line `k` as an editor lists it, where it is selected.
-pub fn hit_at<'a>(lines: &'a FileLines, k: usize, options: &Options) -> Option<Hit<'a>>
-    requires { k < length (all_of lines.now) }
-    ensures { let line = get_or (all_of lines.now) k no_line in
-        MatchOption result (is_selected options.now line ≡ false)
-        (λ hit. (is_selected options.now line ≡ true) × (hit.text.now ≡ line_text line)
-        × (hit.parts.now ≡ listed_spans options.now line)) }
-{
-    if !is_selected(lines, k, options) {
-        return None;
+impl KeptFile {
+    /// Line `place` of the file as an editor lists it, where it is selected.
+    pub fn hit(&self, options: &Options, place: usize) -> Option<Hit<'_>>
+        requires { place < length (kept_file self.now).lines }
+        ensures { (es : List Expression) → IsFileKept es options.now self.now →
+            let line = get_or (kept_file self.now).lines place [] in
+            MatchOption result (Selected es options.now line → ⊥)
+            (λ hit. Selected es options.now line × (hit.text.now ≡ line) ×
+            ListedParts es options.now line (map span_places hit.parts.now)) }
+    {
+        let Some(lines) = &self.lines else {
+            return None;
+        };
+        if !is_selected(lines, place, options) {
+            return None;
+        }
+        Some(Hit {
+            text: lines.line(place),
+            parts: listed_parts(lines, place, options),
+        })
     }
-    Some(Hit {
-        text: lines.line(k),
-        parts: listed_parts(lines, k, options),
-    })
 }

@@ -2,7 +2,6 @@
 //! verdicts.
 #![tactic(auto)]
 
-mod around;
 mod caches;
 mod change;
 mod columns;
@@ -26,6 +25,7 @@ mod replaced_lines;
 mod report;
 mod search;
 mod session;
+mod shown;
 mod vec_push;
 mod verdicts;
 

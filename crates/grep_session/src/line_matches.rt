@@ -1,17 +1,13 @@
 //! Which patterns match which lines of a chunk.
-ghost use Rattle.std.specs.Prelude.{◌≡◌, ◌+◌, ◌-◌, ◌*◌, ◌<◌, ◌≤◌, [], ◌∷◌, length, map};
-ghost use Rattle.std.specs.Prelude.{false, IfOk, IsTrue};
+ghost use Rattle.std.specs.Prelude.{◌≡◌, ◌+◌, ◌*◌, ◌≤◌, [], ◌∷◌, length, map, true, IfOk};
 ghost use Rattle.re_syntax.specs.Lines.{terminated};
-ghost use Rattle.re_syntax.specs.Profile.{most_patterns};
 ghost use Rattle.re_search.specs.Working.Matchers.{AreAlike, AreSame, IsSame, matched_expression};
 ghost use Rattle.re_search.specs.Working.Matchers.{wants_whole};
 ghost use Rattle.re_search.specs.Searches.{AddsAtMost};
 ghost use Rattle.line_chunks.specs.Working.Chunks.{line_text};
 ghost use Rattle.line_chunks.specs.Working.Finds.{AreBelow};
-ghost use Rattle.grep_session.specs.Working.Changed.{IsWithin, is_narrower};
-ghost use Rattle.grep_session.specs.Working.Columns.{first_sought, past_sought, AreLeft, AddsColumn};
-ghost use Rattle.grep_session.specs.Working.Columns.{AreMatches, AddsPairs};
-ghost use Rattle.grep_session.specs.Working.Columns.{IsAmong, has_pair, marked_cost};
+ghost use Rattle.grep_session.specs.Working.Columns.{AddsColumn, AreMatches};
+ghost use Rattle.grep_session.specs.Working.Columns.{had_gone, is_sought, marked_cost};
 
 use crate::change::Change;
 use crate::search::SearchContext;
@@ -28,7 +24,7 @@ fn add_column(
     meter: &mut Meter,
 ) -> Result<(), AllocError>
     ensures ok { IfOk result (λ _.
-        AddsColumn (map line_text chunk.now) (wants_whole matcher.old) number
+        AddsColumn (λ k. true) (map line_text chunk.now) (wants_whole matcher.old) number
         (matched_expression matcher.old ∷ []) matches.old matches.new) }
     ensures same { IsSame matcher.old matcher.new }
     ensures steps { AddsAtMost (length (terminated (map line_text chunk.now))) meter.old meter.new }
@@ -45,33 +41,30 @@ fn add_column(
     Ok(())
 }
 
-/// Adds the lines of a chunk that the matcher matches, if each of them was matched by the pattern
-/// of this number before: `old` says by which each line was. No other line is searched.
+/// Adds the lines of a chunk that the matcher matches, if a pattern that went matched each of them:
+/// `old` says which patterns matched each line. No other line is searched.
 fn narrow_column(
     search: &SearchContext,
     matcher: &mut Matcher,
     number: usize,
+    change: Change,
     chunk: &Chunk,
     old: &Matches,
     matches: &mut Matches,
     meter: &mut Meter,
 ) -> Result<(), AllocError>
     requires { AreBelow (length chunk.now) old.now }
-    ensures pairs { IfOk result (λ _. AddsPairs (length (map line_text chunk.now)) matches.old
-        matches.new) }
     ensures ok { IfOk result (λ _.
-        IsAmong (matched_expression matcher.old) (wants_whole matcher.old)
-        (map line_text chunk.now) number old.now →
-        AddsColumn (map line_text chunk.now) (wants_whole matcher.old) number
-        (matched_expression matcher.old ∷ []) matches.old matches.new) }
+        AddsColumn (had_gone change old.now) (map line_text chunk.now) (wants_whole matcher.old)
+        number (matched_expression matcher.old ∷ []) matches.old matches.new) }
     ensures same { IsSame matcher.old matcher.new }
-    ensures steps { AddsAtMost (marked_cost (has_pair number old.now) 1
-        (map line_text chunk.now) (length chunk.now)) meter.old meter.new }
+    ensures steps { AddsAtMost (marked_cost (had_gone change old.now) 1 (map line_text chunk.now)
+        (length chunk.now)) meter.old meter.new }
 {
     if old.len() == 0 {
         return Ok(());
     }
-    let marks = old.marks_of(search.alloc, chunk.len(), number)?;
+    let marks = old.marks_of(search.alloc, chunk.len(), change.first, change.gone)?;
     for k in 0..chunk.len() {
         if !marks[k] {
             continue;
@@ -84,63 +77,31 @@ fn narrow_column(
     Ok(())
 }
 
-/// Whether a pattern was replaced by one that is narrower.
-fn is_narrower(change: Change) -> bool
-    ensures { result ≡ is_narrower change }
-{
-    match change {
-        Change::Replaced(_, narrower) => narrower,
-        _ => false,
-    }
-}
-
-/// Of so many patterns, the number of the first that is searched for after a change.
-fn first_sought(change: Change, many: usize) -> usize
-    ensures { result ≡ first_sought change many }
-{
-    match change {
-        Change::Rebuild => 0,
-        Change::Added(first) => first,
-        Change::Replaced(p, _) => p,
-        _ => many,
-    }
-}
-
-/// Of so many patterns, the number after the last that is searched for after a change.
-fn past_sought(change: Change, many: usize) -> usize
-    requires { IsWithin change many }
-    ensures { result ≡ past_sought change many }
-{
-    match change {
-        Change::Replaced(p, _) => p + 1,
-        _ => many,
-    }
-}
-
-/// The old pairs that stay after a change.
-fn left_matches(
+/// Adds the lines of a chunk that the matcher of a pattern that came matches.
+fn find_column(
     search: &SearchContext,
+    matcher: &mut Matcher,
+    number: usize,
     change: Change,
-    size: usize,
+    chunk: &Chunk,
     old: &Matches,
-) -> Result<Matches, AllocError>
-    requires { AreBelow size old.now }
-    ensures { IfOk result (AreLeft change size old.now) }
+    matches: &mut Matches,
+    meter: &mut Meter,
+) -> Result<(), AllocError>
+    requires { AreBelow (length chunk.now) old.now }
+    ensures ok { IfOk result (λ _.
+        AddsColumn (is_sought change old.now) (map line_text chunk.now) (wants_whole matcher.old)
+        number (matched_expression matcher.old ∷ []) matches.old matches.new) }
+    ensures same { IsSame matcher.old matcher.new }
+    ensures steps { AddsAtMost (marked_cost (is_sought change old.now) 1 (map line_text chunk.now)
+        (length chunk.now)) meter.old meter.new }
 {
-    match change {
-        Change::Rebuild => Ok(Matches::new(search.alloc)),
-        Change::Dropped(p) => {
-            let mut matches = old.copied(search.alloc)?;
-            matches.drop_number(p);
-            Ok(matches)
-        }
-        Change::Replaced(p, _) => {
-            let mut matches = old.copied(search.alloc)?;
-            matches.keep_others(p);
-            Ok(matches)
-        }
-        _ => old.copied(search.alloc),
+    if change.narrower {
+        narrow_column(search, matcher, number, change, chunk, old, matches, meter)?;
+        return Ok(());
     }
+    add_column(matcher, number, chunk, matches, meter)?;
+    Ok(())
 }
 
 /// Which patterns match which lines of a chunk after a change; `old` says it before the change.
@@ -153,38 +114,29 @@ pub fn find_matches(
     meter: &mut Meter,
 ) -> Result<Matches, AllocError>
     requires whole { AreAlike search.now.options.line_regexp matchers.old }
-    requires few { length matchers.old ≤ most_patterns }
-    requires within { IsWithin change (length matchers.old) }
+    requires within { change.first + change.come ≤ length matchers.old }
     requires below { AreBelow (length chunk.now) old.now }
     ensures ok { IfOk result
         (AreMatches change (map line_text chunk.now) search.now.options.line_regexp
         (map matched_expression matchers.old) old.now) }
     ensures same_matchers { AreSame matchers.old matchers.new }
-    ensures steps { is_narrower change ≡ false →
-        AddsAtMost
-        ((past_sought change (length matchers.old) - first_sought change (length matchers.old))
-        * length (terminated (map line_text chunk.now))) meter.old meter.new }
-    ensures narrow { IsTrue (is_narrower change) → AddsAtMost
-        (marked_cost (has_pair (first_sought change (length matchers.old)) old.now) 1
+    ensures steps { AddsAtMost (change.come * marked_cost (is_sought change old.now) 1
         (map line_text chunk.now) (length chunk.now)) meter.old meter.new }
 {
-    let mut matches = left_matches(search, change, chunk.len(), old)?;
-    let first = first_sought(change, matchers.len());
-    if is_narrower(change) {
-        narrow_column(
+    let mut matches = old.copied(search.alloc)?;
+    let fewer = change.gone.saturating_sub(change.come);
+    matches.drop_numbers(change.first, change.gone, fewer);
+    for number in change.first..change.first + change.come {
+        find_column(
             search,
-            &mut matchers[first],
-            first,
+            &mut matchers[number],
+            number,
+            change,
             chunk,
             old,
             &mut matches,
             meter,
         )?;
-        return Ok(matches);
-    }
-    let past = past_sought(change, matchers.len());
-    for number in first..past {
-        add_column(&mut matchers[number], number, chunk, &mut matches, meter)?;
     }
     Ok(matches)
 }

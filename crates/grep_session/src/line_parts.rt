@@ -1,13 +1,13 @@
 //! The parts of the lines of a chunk after a change of the patterns.
-ghost use Rattle.std.specs.Prelude.{◌≡◌, ℕ, ◌+◌, ◌<◌, ◌≤◌, true, false, [], length, map, get_or};
-ghost use Rattle.std.specs.Prelude.{IfOk, ◌&&◌, if◌then◌else◌};
+ghost use Rattle.std.specs.Prelude.{◌≡◌, ℕ, ◌+◌, ◌<◌, ◌≤◌, [], length, map, get_or, IfOk};
+ghost use Rattle.std.specs.Prelude.{◌&&◌, if◌then◌else◌};
 ghost use Rattle.re_search.specs.Working.Matchers.{AreAlike, AreSame, matched_expression};
 ghost use Rattle.re_search.specs.Searches.{AddsAtMost};
 ghost use Rattle.grep_core.specs.Cost.{search_cost};
 ghost use Rattle.line_chunks.specs.Working.Chunks.{no_line, line_text};
-ghost use Rattle.line_chunks.specs.Working.Finds.{AreBelow, is_paired, numbers_at};
+ghost use Rattle.line_chunks.specs.Working.Finds.{AreBelow};
 ghost use Rattle.grep_session.specs.Touched.{parting};
-ghost use Rattle.grep_session.specs.Working.Columns.{Grows, has_new_parts, ArePartsAgain, AreAllParts};
+ghost use Rattle.grep_session.specs.Working.Columns.{ArePartsAgain, AreAllParts};
 ghost use Rattle.grep_session.specs.Working.Columns.{is_parted, marked_cost};
 
 use crate::change::Change;
@@ -15,35 +15,6 @@ use crate::search::{SearchContext, parts_of};
 use line_chunks::{Chunk, Matches, SpanLists};
 use re_search::{LineParts, Matcher, Meter};
 use std::alloc::AllocError;
-
-/// Of each line of a chunk that some pattern matches, whether its parts are searched anew.
-fn marks_anew(
-    search: &SearchContext,
-    change: Change,
-    size: usize,
-    old: &Matches,
-    new: &Matches,
-) -> Result<Vec<bool>, AllocError>
-    requires old { AreBelow size old.now }
-    requires new { AreBelow size new.now }
-    requires grows { Grows change old.now new.now }
-    ensures size { IfOk result (λ marks. length marks.items ≡ size) }
-    ensures marks { IfOk result
-        (λ marks. (k : ℕ) → k < size → is_paired k new.now ≡ true →
-        get_or marks.items k false
-        ≡ has_new_parts change (numbers_at k old.now) (numbers_at k new.now)) }
-{
-    match change {
-        Change::Added(_) => new.marks(search.alloc, size, old.len()),
-        Change::Dropped(p) => old.marks_of(search.alloc, size, p),
-        Change::Replaced(p, _) => {
-            let mut marks = old.marks_of(search.alloc, size, p)?;
-            new.add_marks_of(p, &mut marks);
-            Ok(marks)
-        }
-        _ => new.marks(search.alloc, size, 0),
-    }
-}
 
 /// Adds the parts of line `k` of a chunk: none if no pattern matches it, those that are searched
 /// anew, or those that are kept.
@@ -97,7 +68,6 @@ pub fn find_parts(
     requires whole { AreAlike search.now.options.line_regexp matchers.old }
     requires old { AreBelow (length chunk.now) old.now }
     requires new { AreBelow (length chunk.now) new.now }
-    requires grows { Grows change old.now new.now }
     ensures few { IfOk result (λ parts. length parts ≤ length chunk.now) }
     ensures ok { IfOk result
         (AreAllParts change (map matched_expression matchers.old) search.now.options chunk.now
@@ -112,11 +82,13 @@ pub fn find_parts(
         return Ok(parts);
     }
     let size = chunk.len();
-    let matched = new.marks(search.alloc, size, 0)?;
-    let anew = marks_anew(search, change, size, old, new)?;
+    let matched = new.marks(search.alloc, size)?;
+    let mut anew = old.marks_of(search.alloc, size, change.first, change.gone)?;
+    new.add_marks_of(change.first, change.come, &mut anew);
     for k in 0..size {
+        let again = change.all_parts | anew[k];
         put_parts(
-            search, matchers, chunk, k, matched[k], anew[k], &mut parts, line_parts, meter,
+            search, matchers, chunk, k, matched[k], again, &mut parts, line_parts, meter,
         )?;
     }
     Ok(parts)

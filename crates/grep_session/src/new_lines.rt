@@ -1,6 +1,7 @@
 //! Lines that a session is given.
 ghost use Rattle.std.specs.Prelude.{◌≡◌, [], ◌∷◌, ◌++◌, length, map, All, IfOk, OnErr, MatchBool};
 ghost use Rattle.re_syntax.specs.Lines.{HasNoNewline};
+ghost use Rattle.grep_session.specs.Working.Kept.{IsNew};
 ghost use Rattle.line_chunks.specs.Working.Chunks.{all_of, line_text};
 ghost use Rattle.grep_session.specs.Working.Copied.{CopiesLines};
 
@@ -45,11 +46,13 @@ impl Model for NewLines {
 
     ghost use Rattle.std.specs.Prelude.{map, All};
     ghost use Rattle.re_syntax.specs.Lines.{HasNoNewline};
+    ghost use Rattle.grep_session.specs.Working.Kept.{IsNew};
     ghost use Rattle.line_chunks.specs.Working.Chunks.{all_of, line_text};
 
     ghost view = { λ new. map line_text (all_of new.lines) };
 
-    ghost invariant = { λ new. All HasNoNewline (map line_text (all_of new.lines)) };
+    ghost invariant = { λ new. All HasNoNewline (map line_text (all_of new.lines)) ×
+        All IsNew (all_of new.lines) };
 }
 
 impl NewLines {
@@ -110,6 +113,7 @@ impl NewLines {
 pub fn kept_of(given: NewLines) -> FileLines
     ensures same { map line_text (all_of result) ≡ given }
     ensures free { All HasNoNewline given }
+    ensures new { All IsNew (all_of result) }
 {
     let NewLines { alloc: _, lines } = given;
     lines

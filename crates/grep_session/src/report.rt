@@ -1,16 +1,16 @@
 //! What grep writes for the kept files, and its status. No line is searched and nothing is
 //! allocated: all is computed from what is kept.
-ghost use Rattle.std.specs.Prelude.{◌≡◌, All, List, map, length, nat_le, IfOk};
+ghost use Rattle.std.specs.Prelude.{◌≡◌, All, List, [], ◌∷◌, map};
 ghost use Rattle.re_syntax.specs.Expression.{Expression};
-ghost use Rattle.grep_core.specs.Output.{written};
-ghost use Rattle.grep_core.specs.Written.{Writes};
-ghost use Rattle.grep_session.specs.Working.Kept.{kept_lines, kept_file, IsFileKept};
-ghost use Rattle.grep_session.specs.Working.Report.{FileFits, rows_with, report_rows, reported_from};
+ghost use Rattle.grep_core.specs.Output.{form};
+ghost use Rattle.grep_core.specs.Working.Groups.{GroupedAs};
+ghost use Rattle.grep_session.specs.Working.Kept.{kept_lines, kept_file, file_with, IsFileKept};
+ghost use Rattle.grep_session.specs.Working.Report.{FileFits, WritesGroups};
 ghost use Rattle.grep_session.specs.Working.Report.{any_selected, any_missing, status_by_files};
 ghost use Rattle.grep_session.specs.Working.Report.{status_given};
-ghost use Rattle.grep_session.specs.Working.Report.{has_selected_in};
-ghost use Rattle.grep_session.specs.Working.Report.{Reports};
+ghost use Rattle.grep_session.specs.Working.Report.{Reports, ReportsMessages};
 
+use crate::counts::count_all;
 use crate::kept::KeptFile;
 use crate::layout::Layout;
 use crate::lines::write_lines;
@@ -19,8 +19,8 @@ use grep_core::{
     status_of, write_summary,
 };
 
-/// Writes the output for one file, and returns whether a line of it is selected. `some` says
-/// whether a line of an earlier file is selected.
+/// Writes the output for one file. `some` says whether a group of lines was written before, and is
+/// returned for the file after it.
 fn write_file<W: CountedWrite>(
     layout: &Layout,
     some: bool,
@@ -28,56 +28,25 @@ fn write_file<W: CountedWrite>(
     out: &mut W,
 ) -> Result<bool, WriteFault>
     requires { FileFits layout.now.request.options file.now }
-    ensures rows { Writes W.contents W.failures out.old out.new (written layout.now.margin.now
-        (rows_with layout.now.request.options layout.now.request.many layout.now.request.name.now some
-        (kept_lines file.now))) result }
-    ensures reported { IfOk result
-        (λ found. found ≡ has_selected_in layout.now.request.options (kept_lines file.now)) }
+    ensures { (es : List Expression) → IsFileKept es layout.now.request.options file.now →
+        WritesGroups W.contents W.failures
+        (GroupedAs es layout.now.request.options layout.now.request.many
+        (form layout.now.request.options)
+        (file_with layout.now.request.name.now (kept_lines file.now) ∷ []))
+        (form layout.now.request.options) layout.now.margin.now some out.old out.new result }
 {
     let Some(lines) = &file.lines else {
         let end = FileEnd::Missing;
-        write_summary(
-            &layout.request,
-            FileFound { end, selected: 0 },
-            out,
-            layout.margin,
-        )?;
-        return Ok(false);
+        let found = FileFound { end, selected: 0 };
+        write_summary(&layout.request, found, out, layout.margin)?;
+        return Ok(some);
     };
-    let selected = write_lines(layout, some, lines, out)?;
+    let now = write_lines(layout, some, lines, out)?;
+    let selected = count_all(lines, &layout.request.options);
     let end = FileEnd::Whole;
-    write_summary(
-        &layout.request,
-        FileFound { end, selected },
-        out,
-        layout.margin,
-    )?;
-    Ok(selected > 0)
-}
-
-/// Writes the output for all files.
-fn write_files<W: CountedWrite>(
-    files: &[KeptFile],
-    options: &Options,
-    margin: &[u8],
-    out: &mut W,
-) -> Result<(), WriteFault>
-    requires { All (FileFits options.now) files.now }
-    ensures { Writes W.contents W.failures out.old out.new (written margin.now
-        (report_rows options.now (nat_le 2 (length files.now)) files.now)) result }
-{
-    let many = files.len() >= 2;
-    let mut some = false;
-    for file in files {
-        let request = FileRequest {
-            options: *options,
-            many,
-            name: &file.name,
-        };
-        let found = write_file(&Layout { request, margin }, some, file, out)?;
-        some |= found;
-    }
-    Ok(())
+    let found = FileFound { end, selected };
+    write_summary(&layout.request, found, out, layout.margin)?;
+    Ok(now)
 }
 
 /// Writes what grep writes to standard error about the files (XCU grep, STDERR), each line after the
@@ -91,8 +60,9 @@ pub fn write_messages<W: CountedWrite>(
     margin: &[u8],
     out: &mut W,
 ) -> Result<(), WriteFault>
-    ensures { Writes W.contents W.failures out.old out.new
-        (written margin.now (reported_from options.now files.now)) result }
+    ensures { (es : List Expression) → All (IsFileKept es options.now) files.now
+        → ReportsMessages W.contents W.failures es options.now (map kept_file files.now) margin.now
+        out.old out.new result }
 {
     for file in files {
         report_fault(options.no_messages, &file.name, file.end(), out, margin)?;
@@ -152,6 +122,15 @@ pub fn write_report<W: CountedWrite>(
         → Reports W.contents W.failures es options.now (map kept_file files.now) margin.now out.old
         out.new result }
 {
-    write_files(files, options, margin, out)?;
+    let many = files.len() >= 2;
+    let mut some = false;
+    for file in files {
+        let request = FileRequest {
+            options: *options,
+            many,
+            name: &file.name,
+        };
+        some = write_file(&Layout { request, margin }, some, file, out)?;
+    }
     Ok(status(files, options))
 }

@@ -1,14 +1,12 @@
 //! What is found in lines, and kept.
-ghost use Rattle.std.specs.Prelude.{◌≡◌, ◌≤◌, length, map, IfOk, IfErr, [], All};
+ghost use Rattle.std.specs.Prelude.{◌≡◌, length, map, IfOk, IfErr, [], All};
 ghost use Rattle.re_search.specs.Working.Matchers.{AreAlike, AreSame, matched_expression};
 ghost use Rattle.re_search.specs.Searches.{AddsAtMost};
 ghost use Rattle.re_syntax.specs.Lines.{HasNoNewline};
-ghost use Rattle.re_syntax.specs.Profile.{most_patterns};
 ghost use Rattle.line_chunks.specs.Working.Chunks.{all_of, line_text};
 ghost use Rattle.grep_core.specs.Cost.{search_cost};
 ghost use Rattle.grep_session.specs.Touched.{parting};
-ghost use Rattle.grep_session.specs.Working.Changed.{SearchesEach};
-ghost use Rattle.grep_session.specs.declared.change.Change.TheVariants.{Rebuild};
+ghost use Rattle.grep_session.specs.Working.Changed.{SearchesEach, anew};
 ghost use Rattle.grep_session.specs.Working.Kept.{ArePartsKept, IsKept};
 
 use crate::change::Change;
@@ -75,15 +73,15 @@ pub fn search_new(
     meter: &mut Meter,
 ) -> Result<FileLines, AllocError>
     requires whole { AreAlike options.now.line_regexp matchers.old.items }
-    requires few { length matchers.old.items ≤ most_patterns }
     ensures ok { IfOk result (λ lines.
         All (IsKept (map matched_expression matchers.old.items) options.now) (all_of lines)) }
     ensures texts { IfOk result (λ lines. map line_text (all_of lines) ≡ given) }
     ensures free { All HasNoNewline given }
     ensures same_matchers { AreSame matchers.old.items matchers.new.items }
     ensures memory { given ≡ [] → IfErr result (λ _. ⊥) }
-    ensures steps { SearchesEach Rebuild (map matched_expression matchers.old.items)
-        (map matched_expression matchers.old.items) options.now given meter.old meter.new }
+    ensures steps { SearchesEach (anew 0 (length (map matched_expression matchers.old.items))) []
+        (map matched_expression matchers.old.items) (map matched_expression matchers.old.items)
+        options.now given meter.old meter.new }
 {
     let mut lines = kept_of(given);
     if lines.len() == 0 {
@@ -98,7 +96,7 @@ pub fn search_new(
     find_in_lines(
         &search,
         matchers,
-        Change::Rebuild,
+        Change::anew(0, matchers.len()),
         &lines,
         &mut found,
         &mut line_parts,

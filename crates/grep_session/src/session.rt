@@ -213,11 +213,12 @@ impl Session {
             Ok(matchers) => matchers,
             Err(fault) => return Err(fault),
         };
+        let change = Change::anew(self.matchers.len(), matchers.len());
         match find_columns(
             self.alloc,
             &mut matchers,
             &options,
-            Change::Rebuild,
+            change,
             &mut self.files,
             meter,
         ) {
@@ -268,7 +269,7 @@ impl Session {
             self.alloc,
             &mut self.matchers,
             &options,
-            Change::PartsOnly,
+            Change::anew(0, 0),
             &mut self.files,
             meter,
         ) {
@@ -393,7 +394,7 @@ impl Session {
             Ok(()) => {}
             Err(_) => return Err(EditFault::Memory),
         }
-        let change = Change::Added(first);
+        let change = Change::new(first, 0, texts.len(), false);
         match find_columns(
             self.alloc,
             &mut self.matchers,
@@ -438,7 +439,7 @@ impl Session {
             return Ok(());
         }
         let gone = self.matchers.remove(p);
-        let change = Change::Dropped(p);
+        let change = Change::new(p, 1, 0, false);
         match find_columns(
             self.alloc,
             &mut self.matchers,
@@ -501,7 +502,7 @@ impl Session {
         };
         let narrower = narrows(self.syntax, &self.options, &self.texts[p], &text);
         let gone = exchange(&mut self.matchers, p, matcher);
-        let change = Change::Replaced(p, narrower);
+        let change = Change::new(p, 1, 1, narrower);
         match find_columns(
             self.alloc,
             &mut self.matchers,

@@ -6,6 +6,6 @@ pub mod Pieces
 pub mod Edits
 pub mod Added
 pub mod Columns
-pub mod BlockLemmas
+pub mod EndedLemmas
 pub mod SeenLaws
 pub mod NextLines

@@ -6,8 +6,7 @@ ghost use Rattle.re_runs.specs.Working.Blocks.{IsBlock};
 ghost use Rattle.line_finds.specs.Working.Finds.{numbers_at, AreBelow};
 ghost use Rattle.line_chunks.specs.Working.Chunks.{no_line, new_line, line_text, is_matched, matched_count, seen, line_without};
 
-use crate::block::Block;
-use line_finds::{Found, Matches};
+use line_finds::{Found, Matches, Pieces};
 use re_trees::Span;
 use std::alloc::{AllocError, Global};
 use std::marker::Model;
@@ -15,63 +14,21 @@ use std::marker::Model;
 /// Some lines of a file, and what is found in each.
 #[derive(Drop)]
 pub struct Chunk {
-    block: Block,
+    /// Each line with its newline.
+    lines: Pieces<u8>,
     found: Found,
 }
 
 impl Model for Chunk {
-    ghost use Rattle.std.specs.Prelude.{◌≡◌, List, length};
+    ghost use Rattle.std.specs.Prelude.{◌≡◌, List, All, length, map};
     ghost use Rattle.line_chunks.specs.Working.Chunks.{KeptLine, seen};
+    ghost use Rattle.line_chunks.specs.Working.Ended.{bare, IsEnded};
 
     ghost Value = { List KeptLine };
 
-    ghost view = { λ chunk. seen chunk.block chunk.found };
+    ghost view = { λ chunk. seen (map bare chunk.lines) chunk.found };
 
-    ghost invariant = { λ chunk. chunk.found.size ≡ length chunk.block };
-}
-
-/// Adds a line in which nothing is found. After a refusal all is as it was.
-fn add_line(block: &mut Block, found: &mut Found, line: &[u8]) -> Result<(), AllocError>
-    requires free { HasNoNewline line.now }
-    requires size { found.old.size ≡ length block.old }
-    ensures ok { IfOk result (λ _. seen block.new found.new ≡
-        seen block.old found.old ++ new_line line.now ∷ []) }
-    ensures err { OnErr result (seen block.new found.new ≡ seen block.old found.old) }
-    ensures size { found.new.size ≡ length block.new }
-{
-    let before = block.len();
-    block.push(line)?;
-    if let Err(fault) = found.push_none() {
-        block.remove(before, block.len());
-        return Err(fault);
-    }
-    Ok(())
-}
-
-/// Adds the lines of a chunk from `from` up to `to`, with what is found in them. After a refusal all
-/// is as it was.
-fn add_lines(
-    block: &mut Block,
-    found: &mut Found,
-    other: &Chunk,
-    from: usize,
-    to: usize,
-) -> Result<(), AllocError>
-    requires in_order { from ≤ to }
-    requires within { to ≤ length other.now }
-    requires size { found.old.size ≡ length block.old }
-    ensures ok { IfOk result (λ _. seen block.new found.new ≡
-        seen block.old found.old ++ slice_range other.now from to) }
-    ensures err { OnErr result (seen block.new found.new ≡ seen block.old found.old) }
-    ensures size { found.new.size ≡ length block.new }
-{
-    let before = block.len();
-    block.add_part(&other.block, from, to)?;
-    if let Err(fault) = found.add_part(&other.found, from, to) {
-        block.remove(before, block.len());
-        return Err(fault);
-    }
-    Ok(())
+    ghost invariant = { λ chunk. All IsEnded chunk.lines × (chunk.found.size ≡ length chunk.lines) };
 }
 
 impl Chunk {
@@ -79,9 +36,9 @@ impl Chunk {
     pub(crate) fn with_room(alloc: Global, bytes: usize) -> Result<Chunk, AllocError>
         ensures { IfOk result (λ chunk. chunk ≡ []) }
     {
-        let block = Block::with_room(alloc, bytes)?;
+        let lines = Pieces::with_room(alloc, bytes)?;
         Ok(Chunk {
-            block,
+            lines,
             found: Found::new(alloc),
         })
     }
@@ -90,14 +47,14 @@ impl Chunk {
     pub fn len(&self) -> usize
         ensures { result ≡ length self.now }
     {
-        self.block.len()
+        self.lines.len()
     }
 
     /// The number of bytes of the lines and their newlines.
     pub fn size(&self) -> usize
         ensures { result ≡ length (terminated (map line_text self.now)) }
     {
-        self.block.text().len()
+        self.lines.all().len()
     }
 
     /// How many lines some pattern matches.
@@ -113,7 +70,8 @@ impl Chunk {
         ensures line { result.now ≡ line_text (get_or self.now k no_line) }
         ensures free { HasNoNewline result.now }
     {
-        self.block.line(k)
+        let line = self.lines.at(k);
+        &line[..line.len() - 1]
     }
 
     /// The lines from line `k` on, one after the other, each ended by a newline.
@@ -122,7 +80,8 @@ impl Chunk {
         ensures block { IsBlock result.now }
         ensures lines { lines_of result.now ≡ drop k (map line_text self.now) }
     {
-        self.block.text_from(k)
+        let start = self.lines.start(k);
+        &self.lines.all()[start..]
     }
 
     /// Where line `k` begins in the text of all lines, or where the last one's newline has ended.
@@ -131,7 +90,7 @@ impl Chunk {
         ensures start { result ≡ length (terminated (take k (map line_text self.now))) }
         ensures fits { length (terminated (map line_text self.now)) < 2 ^ 64 }
     {
-        self.block.start(k)
+        self.lines.start(k)
     }
 
     /// The number of the line that begins at byte `place` of the text of all lines, from line
@@ -142,7 +101,14 @@ impl Chunk {
         ensures at { (k : ℕ) → from ≤ k → k ≤ length self.now →
             place ≡ length (terminated (take k (map line_text self.now))) → result ≡ k }
     {
-        self.block.number_at(from, place)
+        let mut number = from;
+        while number < self.len() {
+            if place <= self.lines.start(number) {
+                return number;
+            }
+            number += 1;
+        }
+        number
     }
 
     /// Whether some pattern matches line `k`.
@@ -225,7 +191,13 @@ impl Chunk {
         ensures ok { IfOk result (λ _. self.new ≡ self.old ++ new_line line.now ∷ []) }
         ensures err { OnErr result (self.new ≡ self.old) }
     {
-        add_line(&mut self.block, &mut self.found, line)
+        let before = self.lines.len();
+        self.lines.push(line, b"\n")?;
+        if let Err(fault) = self.found.push_none() {
+            self.lines.remove(before, self.lines.len());
+            return Err(fault);
+        }
+        Ok(())
     }
 
     /// Adds the lines of another chunk from `from` up to `to`, with what is found in them. After a
@@ -236,7 +208,13 @@ impl Chunk {
         ensures ok { IfOk result (λ _. self.new ≡ self.old ++ slice_range other.now from to) }
         ensures err { OnErr result (self.new ≡ self.old) }
     {
-        add_lines(&mut self.block, &mut self.found, other, from, to)
+        let before = self.lines.len();
+        self.lines.add_part(&other.lines, from, to)?;
+        if let Err(fault) = self.found.add_part(&other.found, from, to) {
+            self.lines.remove(before, self.lines.len());
+            return Err(fault);
+        }
+        Ok(())
     }
 
     /// Removes the lines from `from` up to `to`. Nothing is allocated.
@@ -245,7 +223,7 @@ impl Chunk {
         requires within { to ≤ length self.old }
         ensures { self.new ≡ remove_range self.old from to }
     {
-        self.block.remove(from, to);
+        self.lines.remove(from, to);
         self.found.remove(from, to);
     }
 }

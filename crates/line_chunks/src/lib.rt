@@ -2,7 +2,6 @@
 //! bytes and a few more, and what replaces some lines touches the chunks that these are in.
 #![tactic(auto)]
 
-mod block;
 mod chunk;
 mod chunks;
 mod columns;

@@ -1,5 +1,5 @@
 pub mod MappedLemmas
-pub mod SpanLemmas
+pub mod PieceLemmas
 pub mod PairLaws
 pub mod MarkLaws
 pub mod FoundLaws

@@ -1,4 +1,4 @@
 pub mod Finds
-pub mod Spans
+pub mod Pieces
 pub mod Pairs
 pub mod Marked

@@ -4,7 +4,7 @@ ghost use Rattle.line_finds.specs.Working.Finds.{no_finds, finds_at, is_paired, 
 ghost use Rattle.line_finds.specs.Working.Marked.{AreMarks, set_before, AreAdded};
 
 use crate::matches::Matches;
-use crate::spans::SpanLists;
+use crate::pieces::SpanLists;
 use re_trees::Span;
 use std::alloc::{AllocError, Global};
 use std::marker::Model;
@@ -55,7 +55,7 @@ impl Found {
         requires few { length parts ≤ size }
         ensures { IfOk result (λ found. found ≡ record { size = size; pairs = matches; parts = parts }) }
     {
-        let marks = matches.marks(alloc, size, 0)?;
+        let marks = matches.marks(alloc, size)?;
         let hits = count_set(&marks);
         Ok(Found {
             matches,
@@ -112,7 +112,7 @@ impl Found {
         ensures finds { (k : ℕ) → finds_at self.new k ≡
             record { numbers = without p (numbers_at k self.old.pairs); spans = get_or self.old.parts k [] } }
     {
-        self.matches.drop_number(p);
+        self.matches.drop_numbers(p, 1, 1);
         self.hits = renew(&self.matches, &mut self.marks);
     }
 

@@ -4,8 +4,8 @@
 
 mod found;
 mod matches;
-mod spans;
+mod pieces;
 
 pub use found::Found;
 pub use matches::Matches;
-pub use spans::SpanLists;
+pub use pieces::{Pieces, SpanLists};

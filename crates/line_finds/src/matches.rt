@@ -1,9 +1,9 @@
 //! Which patterns match which lines of a chunk.
-ghost use Rattle.std.specs.Prelude.{◌≡◌, ℕ, ◌+◌, ◌-◌, ◌<◌, ◌≤◌, [], ◌∷◌, ◌++◌, false, length, map, take, drop, get_or};
-ghost use Rattle.std.specs.Prelude.{IfOk, OnErr, not, nat_eq, ◌||◌, replicate};
-ghost use Rattle.std.specs.List.{filter, list_any};
-ghost use Rattle.line_finds.specs.Working.Finds.{numbers_at, is_paired, AreBelow, without};
-ghost use Rattle.line_finds.specs.Working.Pairs.{pairs_of, lowered_pair, is_other, is_outside, moved_pair, marked, marked_of, moved_to};
+ghost use Rattle.std.specs.Prelude.{◌≡◌, ℕ, ◌+◌, ◌-◌, ◌<◌, ◌≤◌, [], ◌∷◌, ◌++◌, false, length, map, take, get_or};
+ghost use Rattle.std.specs.Prelude.{All, IfOk, IsTrue, OnErr, not, ◌||◌, replicate};
+ghost use Rattle.std.specs.List.{filter};
+ghost use Rattle.line_finds.specs.Working.Finds.{numbers_at, is_paired, AreBelow, is_other, has_own, left_numbers};
+ghost use Rattle.line_finds.specs.Working.Pairs.{pairs_of, lowered_pair, is_outside, moved_pair, marked, marked_of, moved_to};
 
 use std::alloc::{AllocError, Global};
 use std::marker::Model;
@@ -71,56 +71,63 @@ impl Matches {
         push(&mut self.pairs, pair)
     }
 
-    /// Removes pattern `p`; later patterns move up. Nothing is allocated.
-    pub fn drop_number(&mut self, p: usize)
-        ensures numbers { (k : ℕ) → numbers_at k self.new ≡ without p (numbers_at k self.old) }
+    /// Removes the pairs of the `count` patterns from `first` on; the numbers of later patterns become
+    /// smaller by `by`. Nothing is allocated.
+    pub fn drop_numbers(&mut self, first: usize, count: usize, by: usize)
+        ensures numbers { (k : ℕ) →
+            numbers_at k self.new ≡ left_numbers first count by (numbers_at k self.old) }
         ensures within { (size : ℕ) → AreBelow size self.old → AreBelow size self.new }
+        ensures same { All (λ pair. pair.1 < first) self.old → self.new ≡ self.old }
     {
-        drop_pattern(&mut self.pairs, p);
+        drop_patterns(&mut self.pairs, first, count, by);
     }
 
-    /// Removes the pairs of pattern `p`; later patterns keep their numbers. Nothing is allocated.
-    pub fn keep_others(&mut self, p: usize)
-        ensures numbers { (k : ℕ) → numbers_at k self.new ≡
-            filter (λ n. not (nat_eq n p)) (numbers_at k self.old) }
-        ensures within { (size : ℕ) → AreBelow size self.old → AreBelow size self.new }
+    /// Whether each pair is of a pattern before `first`.
+    pub fn are_before(&self, first: usize) -> bool
+        ensures { IsTrue result → All (λ pair. pair.1 < first) self.now }
     {
-        drop_pairs(&mut self.pairs, p);
+        all_before(&self.pairs, first)
     }
 
-    /// Of each of `size` lines whether some pair after the first `first` ones is of it.
-    pub fn marks(&self, alloc: Global, size: usize, first: usize) -> Result<Vec<bool>, AllocError>
-        requires within { AreBelow size self.now }
-        requires first { first ≤ length self.now }
-        ensures size { IfOk result (λ marks. length marks.items ≡ size) }
-        ensures marks { IfOk result (λ marks. (k : ℕ) → k < size →
-            get_or marks.items k false ≡ is_paired k (drop first self.now)) }
-    {
-        let mut marks = unmarked(alloc, size)?;
-        mark_lines(&self.pairs[first..], &mut marks);
-        Ok(marks)
-    }
-
-    /// Of each of `size` lines whether pattern `p` matches it.
-    pub fn marks_of(&self, alloc: Global, size: usize, p: usize) -> Result<Vec<bool>, AllocError>
+    /// Of each of `size` lines whether some pattern matches it.
+    pub fn marks(&self, alloc: Global, size: usize) -> Result<Vec<bool>, AllocError>
         requires within { AreBelow size self.now }
         ensures size { IfOk result (λ marks. length marks.items ≡ size) }
         ensures marks { IfOk result (λ marks. (k : ℕ) → k < size →
-            get_or marks.items k false ≡ list_any (λ n. nat_eq n p) (numbers_at k self.now)) }
+            get_or marks.items k false ≡ is_paired k self.now) }
     {
         let mut marks = unmarked(alloc, size)?;
-        mark_lines_of(&self.pairs, p, &mut marks);
+        mark_lines(&self.pairs, &mut marks);
         Ok(marks)
     }
 
-    /// Sets the marks of the lines that pattern `p` matches too. Nothing is allocated.
-    pub fn add_marks_of(&self, p: usize, marks: &mut Vec<bool>)
+    /// Of each of `size` lines whether one of the `count` patterns from `first` on matches it.
+    pub fn marks_of(
+        &self,
+        alloc: Global,
+        size: usize,
+        first: usize,
+        count: usize,
+    ) -> Result<Vec<bool>, AllocError>
+        requires within { AreBelow size self.now }
+        ensures size { IfOk result (λ marks. length marks.items ≡ size) }
+        ensures marks { IfOk result (λ marks. (k : ℕ) → k < size →
+            get_or marks.items k false ≡ has_own first count (numbers_at k self.now)) }
+    {
+        let mut marks = unmarked(alloc, size)?;
+        mark_lines_of(&self.pairs, first, count, &mut marks);
+        Ok(marks)
+    }
+
+    /// Sets the marks of the lines that one of the `count` patterns from `first` on matches too.
+    /// Nothing is allocated.
+    pub fn add_marks_of(&self, first: usize, count: usize, marks: &mut Vec<bool>)
         requires { AreBelow (length marks.old.items) self.now }
         ensures size { length marks.new.items ≡ length marks.old.items }
         ensures marks { (k : ℕ) → get_or marks.new.items k false ≡
-            (get_or marks.old.items k false || list_any (λ n. nat_eq n p) (numbers_at k self.now)) }
+            (get_or marks.old.items k false || has_own first count (numbers_at k self.now)) }
     {
-        mark_lines_of(&self.pairs, p, marks);
+        mark_lines_of(&self.pairs, first, count, marks);
     }
 
     /// Sets anew, for each of some lines, whether some pattern matches it. Nothing is allocated.
@@ -216,41 +223,55 @@ fn push(pairs: &mut Vec<Match>, pair: Match) -> Result<(), AllocError>
     Ok(())
 }
 
-/// Removes the pairs of pattern `p`.
-fn drop_pairs(pairs: &mut Vec<Match>, p: usize)
-    ensures { pairs.new.items ≡ filter (is_other p) pairs.old.items }
+/// Removes the pairs of the `count` patterns from `first` on.
+fn drop_pairs(pairs: &mut Vec<Match>, first: usize, count: usize)
+    ensures { pairs.new.items ≡ filter (λ pair. is_other first count pair.number) pairs.old.items }
 {
-    pairs.retain(|pair| pair.number as usize != p);
+    pairs.retain(|pair| {
+        (pair.number as usize) < first || count <= pair.number as usize - first
+    });
 }
 
-/// A pair after pattern `p` is removed.
-fn lower(pair: Match, p: usize) -> Match
-    ensures { result ≡ lowered_pair p pair }
+/// Whether each pair is of a pattern before `first`.
+fn all_before(pairs: &[Match], first: usize) -> bool
+    ensures { IsTrue result → All (λ pair. pair.number < first) pairs.now }
 {
-    if pair.number as usize <= p {
+    pairs.iter().all(|pair| (pair.number as usize) < first)
+}
+
+/// A pair after the numbers from `first` on became smaller.
+fn lower(pair: Match, first: usize, by: usize) -> Match
+    ensures { result ≡ lowered_pair first by pair }
+{
+    let number = pair.number as usize;
+    if number < first {
         return pair;
     }
     Match {
         line: pair.line,
-        number: pair.number - 1,
+        number: number.saturating_sub(by) as u32,
     }
 }
 
-/// Lowers the numbers above `p` by one.
-fn lower_each(pairs: &mut [Match], p: usize)
-    ensures { pairs.new ≡ map (lowered_pair p) pairs.old }
+/// Lowers the numbers from `first` on.
+fn lower_each(pairs: &mut [Match], first: usize, by: usize)
+    ensures { pairs.new ≡ map (lowered_pair first by) pairs.old }
 {
     for pair in pairs.iter_mut() {
-        *pair = lower(*pair, p);
+        *pair = lower(*pair, first, by);
     }
 }
 
-/// Removes the pairs of pattern `p`, and lowers the numbers above it by one.
-fn drop_pattern(pairs: &mut Vec<Match>, p: usize)
-    ensures { pairs.new.items ≡ map (lowered_pair p) (filter (is_other p) pairs.old.items) }
+/// Removes the pairs of the `count` patterns from `first` on, and lowers the later numbers.
+fn drop_patterns(pairs: &mut Vec<Match>, first: usize, count: usize, by: usize)
+    ensures { pairs.new.items ≡ map (lowered_pair first by)
+        (filter (λ pair. is_other first count pair.number) pairs.old.items) }
 {
-    drop_pairs(pairs, p);
-    lower_each(pairs, p);
+    if all_before(pairs, first) {
+        return;
+    }
+    drop_pairs(pairs, first, count);
+    lower_each(pairs, first, by);
 }
 
 /// Removes the pairs of the lines from `from` up to `to`.
@@ -330,22 +351,33 @@ fn mark_lines(pairs: &[Match], marks: &mut Vec<bool>)
     set_marks(pairs, marks);
 }
 
-/// Sets the marks of the lines that are paired with pattern `p`.
-fn set_marks_of(pairs: &[Match], p: usize, marks: &mut [bool])
+/// Whether the pair is of one of the `count` patterns from `first` on.
+fn is_own(pair: Match, first: usize, count: usize) -> bool
+    ensures { result ≡ not (is_other first count pair.number) }
+{
+    let number = pair.number as usize;
+    if number < first {
+        return false;
+    }
+    number - first < count
+}
+
+/// Sets the marks of the lines that are paired with one of the `count` patterns from `first` on.
+fn set_marks_of(pairs: &[Match], first: usize, count: usize, marks: &mut [bool])
     requires { AreBelow (length marks.old) (pairs_of pairs.now) }
     ensures size { length marks.new ≡ length marks.old }
-    ensures set { marks.new ≡ marked_of p pairs.now marks.old }
+    ensures set { marks.new ≡ marked_of first count pairs.now marks.old }
 {
     for pair in pairs {
-        marks[pair.line as usize] |= pair.number as usize == p;
+        marks[pair.line as usize] |= is_own(*pair, first, count);
     }
 }
 
-/// Sets the marks of the lines that are paired with pattern `p`.
-fn mark_lines_of(pairs: &[Match], p: usize, marks: &mut Vec<bool>)
+/// Sets the marks of the lines that are paired with one of the `count` patterns from `first` on.
+fn mark_lines_of(pairs: &[Match], first: usize, count: usize, marks: &mut Vec<bool>)
     requires { AreBelow (length marks.old.items) (pairs_of pairs.now) }
     ensures size { length marks.new.items ≡ length marks.old.items }
-    ensures set { marks.new.items ≡ marked_of p pairs.now marks.old.items }
+    ensures set { marks.new.items ≡ marked_of first count pairs.now marks.old.items }
 {
-    set_marks_of(pairs, p, marks);
+    set_marks_of(pairs, first, count, marks);
 }

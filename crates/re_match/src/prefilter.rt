@@ -23,10 +23,8 @@ use crate::sweeps::{Stop, Sweep};
 use crate::window::{Edges, rest_of};
 use re_auto::Meter;
 use re_ends::Window;
-use re_needle::{LookCost, Needle, has_begin};
-use re_runs::{
-    RunFinder, Swept, bytes_over, first_line_beginning_with, first_line_with_run, has_no_newline,
-};
+use re_needle::{Needle, has_begin};
+use re_runs::{RunFinder, Swept, bytes_over, first_line_with_run, has_no_newline};
 use re_trees::{Span, Tree};
 use std::alloc::{AllocError, Global};
 
@@ -52,12 +50,11 @@ impl Prefilter {
     {
         let needle = Needle::of(alloc, tree)?;
         let strings = needed_strings(alloc, tree)?;
-        let backoff = ScanBackoff::new(look_cost(&needle, &strings));
         Ok(Prefilter {
             needle,
             strings,
             has_begin: has_begin(tree),
-            backoff,
+            backoff: ScanBackoff::new(),
         })
     }
 
@@ -163,12 +160,11 @@ impl Prefilter {
         let Some(needle) = &self.needle else {
             return Sweep::none();
         };
-        if whole && needle.is_first {
-            let swept = first_line_beginning_with(&needle.finder, block, meter);
-            return Sweep::to(swept.start, bytes_over(block, swept.place), Stop::Seen);
-        }
         let swept = first_line_with_run(&needle.finder, block, meter);
         let reached = bytes_over(block, swept.place);
+        if whole && needle.is_first && is_inside(swept) {
+            return Sweep::to(swept.start, reached, Stop::Decided(false));
+        }
         if needle.is_all && !whole && has_run(&needle.finder, block, swept) {
             return Sweep::to(swept.start, reached, Stop::Decided(true));
         }
@@ -234,7 +230,7 @@ impl Prefilter {
             return Sweep::none();
         }
         let sweep = self.first_line(block, whole, meter);
-        self.backoff.note(sweep.first, self.walks(whole));
+        self.backoff.note(sweep.first);
         meter.add_built(sweep.start as u64);
         sweep
     }
@@ -268,6 +264,16 @@ fn window_at(
     Window { start, end }
 }
 
+// Whether a look found a run that its line doesn't begin with.
+fn is_inside(swept: Swept) -> bool
+    ensures { IsTrue result → (at : ℕ) × (swept.place ≡ Some at) × (swept.start < at) }
+{
+    match swept.place {
+        Some(at) => swept.start < at,
+        None => false,
+    }
+}
+
 // Whether the run that a look found is in one line. A run of sets may go over a newline.
 fn has_run(finder: &RunFinder, block: &[u8], swept: Swept) -> bool
     requires { FindsRun block.now (runs_of finder.now) swept.place }
@@ -282,17 +288,6 @@ fn has_run(finder: &RunFinder, block: &[u8], swept: Swept) -> bool
         return false;
     };
     has_no_newline(&block[at..end])
-}
-
-// What it costs to look for the strings, or else for the needle.
-fn look_cost(needle: &Option<Needle>, strings: &Option<StringSet>) -> LookCost {
-    if strings.is_some() {
-        return LookCost::High;
-    }
-    match needle {
-        Some(needle) => needle.look_cost(),
-        None => LookCost::Low,
-    }
 }
 
 // Strings, one of which each match of a choice of many contains. `None` if a branch isn't known to

@@ -1,17 +1,18 @@
 //! When it is worth while to look ahead in a block. No contract depends on it.
 
-use re_needle::LookCost;
 use std::cell::Cell;
 
-// How many bytes that are walked over count as a line.
+// How many bytes count as a line.
 const LINE: usize = 64;
 
-/// When to look ahead, by how well earlier looks have paid. After a look that passed too few bytes to
-/// pay, one line is searched without a look. Each further look that does not pay doubles the number of
-/// such lines, up to a limit that the cost of a look sets. One that pays sets the number back to one.
+// The most lines between two looks.
+const MOST_REST: usize = 256;
+
+/// When to look ahead, by how well earlier looks have paid. After a look that passed less than a line,
+/// one line is searched without a look. Each further such look doubles the number of these lines, up to
+/// a limit. One that passed more sets it back to one.
 #[derive(Drop)]
 pub struct ScanBackoff {
-    cost: LookCost,
     rest: Cell<usize>,
     next_rest: Cell<usize>,
     // Whether the next line is searched by itself.
@@ -20,9 +21,8 @@ pub struct ScanBackoff {
 
 impl ScanBackoff {
     /// No look was made yet.
-    pub fn new(cost: LookCost) -> ScanBackoff {
+    pub fn new() -> ScanBackoff {
         ScanBackoff {
-            cost,
             rest: Cell::new(0),
             next_rest: Cell::new(1),
             is_alone: Cell::new(false),
@@ -69,40 +69,15 @@ impl ScanBackoff {
         self.rest.get() > 0
     }
 
-    /// A look passed `bytes` bytes, of a block that is walked over or not.
+    /// A look passed `bytes` bytes.
     #[inline(always)]
-    pub fn note(&self, bytes: usize, walks: bool) {
-        if bytes >= worth_a_look(self.cost, walks) {
+    pub fn note(&self, bytes: usize) {
+        if bytes >= LINE {
             self.next_rest.set(1);
             return;
         }
         let rest = self.next_rest.get();
         self.rest.set(rest);
-        self.next_rest
-            .set(rest.saturating_mul(2).min(most_rest(self.cost)));
-    }
-}
-
-// From how many passed bytes on a look has paid. A cheap one has paid if it passed any, or more than a
-// walk over kept steps would have in its time.
-#[inline(always)]
-fn worth_a_look(cost: LookCost, walks: bool) -> usize {
-    match cost {
-        LookCost::Low => {
-            if walks {
-                return 32;
-            }
-            1
-        }
-        LookCost::High => 512,
-    }
-}
-
-// The most lines between two looks.
-#[inline(always)]
-fn most_rest(cost: LookCost) -> usize {
-    match cost {
-        LookCost::Low => 1_024,
-        LookCost::High => 64,
+        self.next_rest.set(rest.saturating_mul(2).min(MOST_REST));
     }
 }

@@ -29,7 +29,6 @@ use crate::window::rest_of;
 use memchr::memmem::Finder;
 use re_auto::{Meter, fresh_meter};
 use re_ends::Window;
-use re_needle::LookCost;
 use re_runs::{
     bytes_over, bytes_to, count_by, find_text, first_line_with, has_no_newline, line_end,
     next_line_with,
@@ -216,7 +215,7 @@ impl Strings {
         Strings {
             look,
             whole,
-            backoff: ScanBackoff::new(LookCost::High),
+            backoff: ScanBackoff::new(),
         }
     }
 
@@ -390,7 +389,7 @@ impl Sweeps for Strings {
             return Sweep::none();
         }
         let sweep = self.look.first_line(block, meter);
-        self.backoff.note(sweep.start, false);
+        self.backoff.note(sweep.start);
         meter.add_built(sweep.start as u64);
         sweep
     }

@@ -3,7 +3,7 @@ pub use Rattle.re_runs.specs.Working.Blocks.{CountsMatched, FindsMatched, FindsN
 pub use Rattle.re_needle.specs.Working.Needles.{HasNoBegin, IsJustRun, IsNeeded, IsNeedleFor, IsNeedleOf, IsRunNeedleFor, IsSettled, LacksNeeded, RunBegins, RunIsNeeded, StandsBetween}
 pub use Rattle.re_runs.specs.Working.Finders.{runs_of}
 pub use Rattle.re_needle.specs.Working.Outlines.{AddsOutline, AddsSets, AddsTurns, AreJoined, AreSetMarks, BeginsWith, Fits, IsOutline, Leads, MarkFits, shown}
-pub use Rattle.re_runs.specs.Working.Runs.{BeginsWithout, FindsRun, IsLongestRun, IsNoWider, LacksRun, RunIsAt, RunStandsAt, Runs, front_of, members_of, most_sets, one_run, set_at, sets_of_each}
+pub use Rattle.re_runs.specs.Working.Runs.{FindsRun, IsLongestRun, IsNoWider, LacksRun, RunIsAt, RunStandsAt, Runs, front_of, members_of, most_sets, one_run, set_at, sets_of_each}
 pub use Rattle.re_needle.specs.Working.Branches.{AreRunsOf, IsRunOf, branch_within, branches_within, choice_within}
 pub use Rattle.re_needle.specs.declared.needle.Needle.{Needle}
 pub use Rattle.re_needle.specs.declared.outline_item.OutlineItem.{OutlineItem}

@@ -23,6 +23,9 @@ const FEW: u64 = 8;
 // A set is small if at most about this number of 65,536 bytes of most texts are in it.
 const SMALL: u32 = 24_576;
 
+// A mark is narrow if at most about this number are in it, like both cases of the commonest letter.
+const NARROW: u32 = 8_400;
+
 // A set may be in a run of sets if at most about this number are in it, like the set of letters and
 // digits.
 const LARGE: u32 = 65_536;
@@ -44,6 +47,8 @@ pub struct Run {
     /// Where it begins.
     pub start: usize,
     length: usize,
+    // How many of its marks are narrow.
+    narrow: usize,
     // How common its rarest mark is.
     rank: u8,
     // About how many of 65,536 places of most texts have it.
@@ -58,6 +63,7 @@ impl Run {
         Run {
             start,
             length: 0,
+            narrow: 0,
             rank: u8::MAX,
             stops: TEXT,
         }
@@ -70,6 +76,7 @@ impl Run {
         Run {
             start: self.start,
             length: self.length.saturating_add(1),
+            narrow: self.narrow.saturating_add(usize::from(mark.share <= NARROW)),
             rank: self.rank.min(mark.rank),
             stops: self.stops.saturating_mul(u64::from(mark.share)) / TEXT,
         }
@@ -85,8 +92,12 @@ impl Run {
         byte.length > 0 && byte.rank >= OFTEN && self.rank.saturating_add(HALVED) <= byte.rank
     }
 
-    /// Whether it is at fewer places of most texts than the other.
+    /// Whether it is at fewer places of most texts than the other, or at no more, and much longer than a
+    /// short one.
     pub fn is_at_fewer(self, other: Run) -> bool {
+        if other.length <= LONG && self.narrow >= 2 * other.length {
+            return self.stops <= other.stops;
+        }
         self.stops.saturating_add(FEW) < other.stops
     }
 

@@ -4,12 +4,10 @@
 mod anchors;
 mod choice;
 mod choice_needle;
-mod cost;
 mod leading_sets;
 mod needle;
 mod outline;
 mod outline_item;
 
 pub use anchors::has_begin;
-pub use cost::LookCost;
 pub use needle::{Needle, one_byte};

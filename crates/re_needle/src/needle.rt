@@ -8,7 +8,6 @@ ghost use Rattle.re_needle.specs.Working.Outlines.{IsOutline, shown};
 
 use crate::choice::{Run, RunKind, best_run};
 use crate::choice_needle::{choice_needle, needle_inside};
-use crate::cost::LookCost;
 use crate::leading_sets::leading_sets;
 use crate::outline::add_outline;
 use crate::outline_item::OutlineItem;
@@ -82,14 +81,6 @@ impl Needle {
     /// Whether the next match of a line is looked for by it: it isn't common, or sets at few places.
     pub fn is_sought(&self) -> bool {
         !self.is_common || self.finder.text().is_none() && self.stops() <= FEW
-    }
-
-    /// What the search for it over a block costs.
-    pub fn look_cost(&self) -> LookCost {
-        if self.is_common && self.finder.text().is_none() {
-            return LookCost::High;
-        }
-        LookCost::Low
     }
 }
 

@@ -1,10 +1,9 @@
 -- The words of specs and of std that proofs of this crate use, passed on from one place. Declares nothing.
 pub use Rattle.memchr.specs.Find.{FindsNeedle, NoneBefore, Nowhere, OccursAt}
 pub use Rattle.memchr.specs.Lanes.{HasLanes, Marks}
-pub use Rattle.re_meter.specs.Meters.{AddsUpTo}
-pub use Rattle.re_runs.specs.Working.Blocks.{FindsNext, HoldsOfMany, IsBlock, IsLineFrom, IsNext, Lacks, LineBegins, PassesAll, StandsIn}
+pub use Rattle.re_runs.specs.Working.Blocks.{FindsNext, HoldsOfMany, IsBlock, IsLineFrom, IsNext, Lacks, PassesAll, StandsIn}
 pub use Rattle.re_runs.specs.Working.Finders.{runs_of}
-pub use Rattle.re_runs.specs.Working.Runs.{AllPass, AreProbesOf, BeginsWithout, FindsRun, HasBitAt, HasBitFor, HasBits, IsLongestRun, IsNoWider, IsProbeOf, LacksRun, PassesAt, RunIsAt, RunStandsAt, Runs, bits_of, front_of, longest_of, look_cost, mark_of, members_of, most_sets, one_run, set_at, sets_of_each}
+pub use Rattle.re_runs.specs.Working.Runs.{AllPass, AreProbesOf, FindsRun, HasBitAt, HasBitFor, HasBits, IsLongestRun, IsNoWider, IsProbeOf, LacksRun, PassesAt, RunIsAt, RunStandsAt, Runs, bits_of, front_of, longest_of, look_cost, mark_of, members_of, most_sets, one_run, set_at, sets_of_each}
 pub use Rattle.re_runs.specs.declared.alike.Alike.{Alike}
 pub use Rattle.re_runs.specs.declared.probes.Probe.{Probe}
 pub use Rattle.re_runs.specs.declared.probes.Probes.{Probes}
@@ -14,7 +13,7 @@ unfoldable pub use Rattle.re_trees.specs.Lines.{ended_lines_of, lines_of}
 pub use Rattle.re_trees.specs.Working.Trees.{members}
 pub use Rattle.re_trees.specs.declared.bytes.ByteSet.{ByteSet}
 pub use Rattle.re_trees.specs.declared.span.Span.{Span}
-pub use Rattle.std.proofs.Common.{All, Any, Bool, IsTrue, List, None, Option, Some, [], add-one, ap, append-nil, append_assoc, arith, bit_and, cond, drop, drop-cons, drop-drop, eq-eqb, eqb, eqb-true, false, get_or, get_or-append-add, get_or-drop, get_or-take, inl, inr, length, length-append, length-drop, length-take, length-take-le, ltb, ltb-false, ltb-true, map, min, nat_eq, not, pow_mono, pow_pos, refl, replicate, rules, slice_index, slice_range, subst, suc, sym, take, take-append-drop, true, true≢false, w64, w8, ℕ, ◌%◌, ◌*◌, ◌++◌, ◌+◌, ◌-◌, ◌/◌, ◌<◌, ◌==◌, ◌^◌, ◌↔◌, ◌∙◌, ◌∷◌, ◌≡◌, ◌≢◌, ◌≤◌, ◌⊎◌}
+pub use Rattle.std.proofs.Common.{All, Any, Bool, IsTrue, List, None, Option, Some, [], ap, append-nil, append_assoc, arith, bit_and, cond, drop, drop-cons, drop-drop, eq-eqb, eqb, eqb-true, false, get_or, get_or-append-add, get_or-drop, get_or-take, inl, inr, length, length-append, length-drop, length-take, length-take-le, ltb, ltb-false, ltb-true, map, min, nat_eq, not, pow_mono, pow_pos, refl, replicate, rules, slice_index, slice_range, subst, suc, sym, take, take-append-drop, true, true≢false, w64, w8, ℕ, ◌%◌, ◌*◌, ◌++◌, ◌+◌, ◌-◌, ◌/◌, ◌<◌, ◌==◌, ◌^◌, ◌↔◌, ◌∙◌, ◌∷◌, ◌≡◌, ◌≢◌, ◌≤◌, ◌⊎◌}
 pub use Rattle.std.proofs.Math.Decide.{dec_le}
 pub use Rattle.std.proofs.Math.Nat.{two-pow-succ}
 pub use Rattle.std.proofs.Math.Seq.{drop-append-add, drop-append_seam, drop-length}

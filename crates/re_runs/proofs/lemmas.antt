@@ -2,7 +2,6 @@ pub mod Occurrences
 pub mod Ranges
 pub mod RunLaws
 pub mod BlockLemmas
-pub mod BegunLines
 pub mod CountedBlocks
 pub mod NextLines
 pub mod NibbleLanes

@@ -2,12 +2,12 @@
 ghost use Rattle.std.specs.Prelude.{◌≡◌, ◌+◌, ◌<◌, ◌≤◌, ◌↔◌, ◌++◌, ◌∷◌, IsTrue, IfSome};
 ghost use Rattle.std.specs.Prelude.{MatchOption, length, map, take, drop, ⊤, None};
 ghost use Rattle.re_trees.specs.Lines.{newline, lines_of, HasNoNewline};
-ghost use Rattle.re_runs.specs.Working.Blocks.{IsBlock, LineBegins, Lacks, PassesAll};
+ghost use Rattle.re_runs.specs.Working.Blocks.{IsBlock, Lacks, PassesAll};
 ghost use Rattle.re_runs.specs.Working.Blocks.{StandsIn, HoldsOfMany, IsLineFrom, FindsNext};
 ghost use Rattle.re_runs.specs.Working.Blocks.{next_cost, StopsInLine, LooksOnce};
 ghost use Rattle.re_meter.specs.Meters.{many_passed, AddsUpTo};
 ghost use Rattle.re_runs.specs.Working.Finders.{runs_of};
-ghost use Rattle.re_runs.specs.Working.Runs.{Runs, BeginsWithout, LacksRun, FindsRun, look_cost};
+ghost use Rattle.re_runs.specs.Working.Runs.{Runs, LacksRun, FindsRun, look_cost};
 
 use crate::newline::first_newline;
 use crate::run_finder::RunFinder;
@@ -86,51 +86,6 @@ fn nothing_in(block: &[u8]) -> Swept
         start: block.len(),
         place: None,
     }
-}
-
-/// Looks for the first line that begins with a run in a block of whole lines. Each byte is passed at
-/// most once.
-// After a run inside a line, the search goes on at the next line.
-#[inline(never)]
-pub fn first_line_beginning_with(finder: &RunFinder, block: &[u8], meter: &mut Meter) -> Swept
-    requires { IsBlock block.now }
-    ensures passes { PassesAll (BeginsWithout (runs_of finder.now)) block.now result.start }
-    ensures within { IfSome result.place (λ at. at ≤ length block.now) }
-    ensures stops { StopsInLine block.now result }
-    ensures counted { AddsUpTo 0 (look_cost block.now result.place) meter.old meter.new }
-{
-    let mut start = 0;
-    'lines: loop {
-        let Some(place) = finder.find(&block[start..], meter) else {
-            return nothing_in(block);
-        };
-        let at = start + place;
-        if line_begins(block, at) {
-            return Swept {
-                start: at,
-                place: Some(at),
-            };
-        }
-        let Some(length) = first_newline(&block[at..]) else {
-            return Swept {
-                start: line_start(&block[..at]),
-                place: Some(at),
-            };
-        };
-        start = at + length + 1;
-    }
-}
-
-// Whether a line of the bytes begins at the place.
-#[inline(always)]
-fn line_begins(bytes: &[u8], place: usize) -> bool
-    requires { place ≤ length bytes.now }
-    ensures { IsTrue result ↔ LineBegins bytes.now place }
-{
-    if place == 0 {
-        return true;
-    }
-    bytes[place - 1] == b'\n'
 }
 
 /// Where the last line of the bytes begins. It need not end with a newline.

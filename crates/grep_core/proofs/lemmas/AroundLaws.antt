@@ -67,7 +67,7 @@ module _ (es : List Expression) (options : Options) (context : Context) where
     IsRow-exist number line = IfHolds-exist (head colon name number ++ line) (head hyphen name number ++ line) (dec_selected es options line)
 
     -- what is shown of a line at a place
-    Shows-exist : (number : Option ℕ) (text : List Text) (k : ℕ) (line : Text) → (out : List Text) × Shows es options context name number text k line out
+    pub Shows-exist : (number : Option ℕ) (text : List Text) (k : ℕ) (line : Text) → (out : List Text) × Shows es options context name number text k line out
     Shows-exist number text k line = by_place (dec_shown text k) (dec_begins text k) (IsRow-exist number line)
       where
         by_place : Dec (IsShown es options context text k) → Dec (BeginsGroup es options context text k) → (row : Text) × IsRow es options context name number line row → (out : List Text) × Shows es options context name number text k line out

@@ -6,7 +6,8 @@ use Rattle.grep_core.proofs.lemmas.Decided.{dec_selected}
 use Rattle.grep_core.proofs.lemmas.Verdicts.{decided_yes, decided_no}
 use Rattle.grep_core.proofs.lemmas.MoreLines.{enumerate_from-append}
 use Rattle.grep_core.proofs.lemmas.ShownLemmas.{EachGives-placed, EachGives-placed_nothing, shown_more, shown_passed, shown_cases, shown_near, begins_from, begins_at, begins_same, shows_same}
-use Rattle.grep_core.proofs.lemmas.GroupLemmas.{after_group, after_none, said_before, more_nonempty, Given, groups_grown}
+use Rattle.grep_core.proofs.lemmas.GroupLaws.{after_nothing}
+use Rattle.grep_core.proofs.lemmas.GroupLemmas.{after_group, said_before, more_nonempty, Given, groups_grown}
 
 module _ (es : List Expression) (options : Options) (many : Bool) (name : Text) (context : Context) (before : Bool) where
   -- the search is at this progress after these lines, and these rows of them are written; `before`
@@ -48,7 +49,7 @@ module _ (es : List Expression) (options : Options) (many : Bool) (name : Text) 
     gap = ((λ _. tt), (λ _. refl));
     groups = [];
     given = refl;
-    written = after_none context before;
+    written = sym (after_nothing (around context) before);
     shown = said_before before;
     first = λ _. refl;
   }

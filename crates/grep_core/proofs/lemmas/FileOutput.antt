@@ -163,13 +163,3 @@ plain_rows counts plain shown rows = refl
 plain_rows parts plain shown rows = refl
 plain_rows lines plain shown rows = refl
 plain_rows (around context) plain shown rows = absurd plain
-
--- where there are no rows, none is left out
-pub rows_after-none : (shape : Form) (shown : Bool) → rows_after shape shown [] ≡ []
-rows_after-none nothing shown = refl
-rows_after-none names shown = refl
-rows_after-none counts shown = refl
-rows_after-none parts shown = refl
-rows_after-none lines shown = refl
-rows_after-none (around context) true = refl
-rows_after-none (around context) false = refl

@@ -18,11 +18,6 @@ after_group context false true true (g ∷ gs) rest reported first = refl
 after_group context false false true (g ∷ gs) rest reported first = refl
 after_group context false gap false (g ∷ gs) rest reported first = absurd (false≢true (reported.1 (inr (λ e. let bad : ⊥ = omega (arith, ap length e) in bad))))
 
--- where there is no group, nothing is written
-pub after_none : (context : Context) (before : Bool) → [] ≡ rows_after (around context) before []
-after_none context true = refl
-after_none context false = refl
-
 -- the verdict on whether something was shown before, where there is no group yet
 pub said_before : (before : Bool) → Decides before (IsTrue before ⊎ (◌≡◌ {A = List Text} [] [] → ⊥))
 said_before before = ((λ t. inl t), (λ h. elim h [ inl t ↦ t | inr n ↦ absurd (n refl) ]))

@@ -9,7 +9,8 @@ use Rattle.grep_core.proofs.lemmas.CostLaws.{unsearched_lines}
 use Rattle.grep_core.proofs.lemmas.WriterLaws.{TakesAll-nothing}
 use Rattle.grep_io.proofs.lemmas.WindowLemmas.{none_in_nothing}
 use Rattle.grep_core.proofs.lemmas.Readings.{IsReadingOf-exists}
-use Rattle.grep_core.proofs.lemmas.FileOutput.{rows_none, output_all, rows_begun, plain_rows, rows_after-none}
+use Rattle.grep_core.proofs.lemmas.FileOutput.{rows_none, output_all, rows_begun, plain_rows}
+use Rattle.grep_core.proofs.lemmas.GroupLaws.{after_nothing}
 
 -- a source that was opened and then read may have done what was read
 pub opened : (source : Source) (r : Reading) → IfSome source.opens (λ b. b ≡ true) → IsReadingOf (open_source source.name source.bytes) r → IsReadingOf source r
@@ -126,7 +127,7 @@ module _ (es : List Expression) (options : Options) (many shown : Bool) (source 
         read = record { given = []; are_given = lines_of-terminated [] all_none ∙ no_lines (file_of source.name some.0).lines; held = []; few_held = none_in_nothing; read = subst (λ r. Consumes source.bytes r []) (sym none_read) (Consumes-nil source.bytes) };
         rows = [];
         are_rows = rows_begun es options many (form options) 0 (file_of source.name some.0) [] (no_rows (form options) (first_lines 0 (file_of source.name some.0)) refl);
-        wrote = subst (TakesAll w w) (sym (rows_after-none (form options) shown)) (TakesAll-nothing w);
+        wrote = subst (TakesAll w w) (sym (after_nothing (form options) shown)) (TakesAll-nothing w);
         steps = unsearched_lines options (length es) (file_of source.name some.0).lines steps;
       }
     where
@@ -153,7 +154,7 @@ module _ (es : List Expression) (options : Options) (many shown : Bool) (source 
     ends = λ _. refl;
     rows = [];
     are_rows = output_all es options many source.name [] Missing (form options) [] [] (rows_none es options many source.name (form options)) refl;
-    wrote = subst (TakesAll w w) (sym (rows_after-none (form options) shown)) (TakesAll-nothing w);
+    wrote = subst (TakesAll w w) (sym (after_nothing (form options) shown)) (TakesAll-nothing w);
     steps = unsearched_lines options (length es) [] steps;
   }
 

@@ -18,7 +18,7 @@ EachGives-placed_nothing R n (x ∷ xs) none =
     ([], [], none n x (omega arith) (omega arith), EachGives-placed_nothing R (n + 1) xs (λ k y low high. none k y (omega (arith, low)) (omega (arith, high))), refl)
 
 -- one case of two holds of what is equivalent
-IfHolds-same : {P Q A B : Type 0} → (P → Q) → (Q → P) → IfHolds P A B → IfHolds Q A B
+pub IfHolds-same : {P Q A B : Type 0} → (P → Q) → (Q → P) → IfHolds P A B → IfHolds Q A B
 IfHolds-same f g (inl h) = inl (f h.0, h.1)
 IfHolds-same f g (inr h) = inr ((λ q. h.0 (g q)), h.1)
 

@@ -2,8 +2,9 @@
 ghost use Rattle.std.specs.Prelude.{◌≡◌, ◌≤◌, IsTrue, ◌++◌, length, slice_range};
 ghost use Rattle.std.specs.Option.{option_copied};
 ghost use Rattle.grep_core.specs.Output.{shown_number};
-ghost use Rattle.grep_core.specs.Row.{colon, hyphen, head, output_line};
+ghost use Rattle.grep_core.specs.Row.{colon, head, output_line};
 ghost use Rattle.grep_core.specs.Working.OneLine.{IsBare};
+ghost use Rattle.grep_core.specs.Working.Progress.{row_by};
 ghost use Rattle.grep_core.specs.Working.Requests.{name_shown};
 ghost use Rattle.grep_io.specs.Written.{Writes};
 
@@ -93,21 +94,24 @@ impl FileRequest<'_> {
         self.write_with(b':', number, text, out, margin)
     }
 
-    /// Writes an output line for a line that is not selected and is shown around one that is: what
-    /// [`FileRequest::write_text`] writes, with hyphens for the colons.
+    /// Writes an output line for a line that is shown: for a selected one what
+    /// [`FileRequest::write_text`] writes, and for one around it the same with hyphens for the colons.
     ///
     /// Returns `WriteFault` if a write fails. It is not tried again.
-    pub fn write_around<W: CountedWrite>(
+    pub fn write_shown<W: CountedWrite>(
         &self,
+        selected: bool,
         number: u64,
         text: &[u8],
         out: &mut W,
         margin: &[u8],
     ) -> Result<(), WriteFault>
         ensures { Writes W.contents W.failures out.old out.new (output_line margin.now
-            (head hyphen (name_shown self.now.many self.now.name.now)
-            (shown_number self.now.options number) ++ text.now)) result }
+            (row_by self.now.options self.now.many self.now.name.now selected number text.now)) result }
     {
+        if selected {
+            return self.write_text(number, text, out, margin);
+        }
         self.write_with(b'-', number, text, out, margin)
     }
 

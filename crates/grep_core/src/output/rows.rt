@@ -1,8 +1,9 @@
 // Output lines, written part by part to any counted writer.
-ghost use Rattle.std.specs.Prelude.{[], ◌∷◌, ◌++◌};
+ghost use Rattle.std.specs.Prelude.{[], ◌∷◌, ◌++◌, if◌then◌else◌};
 ghost use Rattle.std.specs.Fmt.{decimal};
 ghost use Rattle.std.specs.Option.{option_copied};
 ghost use Rattle.grep_core.specs.Around.{group_separator};
+ghost use Rattle.grep_core.specs.Output.{written};
 ghost use Rattle.grep_core.specs.Row.{prefix, number_part, head, output_line};
 ghost use Rattle.grep_io.specs.Written.{Writes};
 ghost use Rattle.re_syntax.specs.Lines.{newline};
@@ -89,14 +90,23 @@ pub fn write_line_after<W: CountedWrite>(
     write_line(out, line)
 }
 
-/// Writes the line that separates groups of lines: the margin, two hyphens and a newline.
+/// Writes the line that separates groups of lines, if there is one before: the margin, two hyphens
+/// and a newline.
 ///
 /// Returns `WriteFault` if a write fails. It is not tried again.
-pub fn write_separator<W: CountedWrite>(out: &mut W, margin: &[u8]) -> Result<(), WriteFault>
+#[tactic(auto, using(crate::proofs::lemmas::WrittenLemmas::as_written))]
+pub fn write_separator<W: CountedWrite>(
+    separated: bool,
+    out: &mut W,
+    margin: &[u8],
+) -> Result<(), WriteFault>
     ensures { Writes W.contents W.failures out.old out.new
-        (output_line margin.now group_separator) result }
+        (written margin.now (if separated then group_separator ∷ [] else [])) result }
 {
-    write_line_after(out, margin, b"--")
+    if separated {
+        return write_line_after(out, margin, b"--");
+    }
+    Ok(())
 }
 
 #[tactic(auto, using(crate::proofs::lemmas::RowLemmas::writing))]

@@ -4,14 +4,12 @@ ghost use Rattle.std.specs.Prelude.{if◌then◌else◌};
 ghost use Rattle.re_syntax.specs.Lines.{lines_of};
 ghost use Rattle.re_search.specs.Working.Matchers.{AreAlike, AreSame, expressions_of};
 ghost use Rattle.re_search.specs.Working.Blocks.{IsBlock};
-ghost use Rattle.grep_core.specs.Around.{group_separator};
-ghost use Rattle.grep_core.specs.Row.{output_line};
 ghost use Rattle.grep_core.specs.Output.{form, around, written};
 ghost use Rattle.grep_io.specs.Reading.{open_source, OneLeft};
 ghost use Rattle.grep_core.specs.Run.{writer};
 ghost use Rattle.grep_io.specs.Written.{Writes};
 ghost use Rattle.grep_core.specs.Working.Passed.{Waits};
-ghost use Rattle.grep_core.specs.Working.Progress.{rows_around, row_by, rows_at, last_of};
+ghost use Rattle.grep_core.specs.Working.Progress.{rows_around, rows_at, last_of};
 ghost use Rattle.grep_core.specs.Working.Progress.{progress_from};
 ghost use Rattle.grep_core.specs.Working.ShownLines.{ShowGives};
 ghost use Rattle.grep_core.specs.Working.Given.{SearchGives};
@@ -60,18 +58,6 @@ struct SearchedLine<'a> {
     text: &'a [u8],
 }
 
-// Writes the separator, where a group begins after another.
-#[tactic(auto, using(crate::proofs::lemmas::WrittenLemmas::as_written))]
-fn write_between<W: CountedWrite>(separated: bool, out: &mut W) -> Result<(), WriteFault>
-    ensures { Writes W.contents W.failures out.old out.new
-        (written [] (if separated then group_separator ∷ [] else [])) result }
-{
-    if separated {
-        return write_separator(out, b"");
-    }
-    Ok(())
-}
-
 // Writes the rows of the lines that wait before the line of this number.
 fn write_waiting<W: CountedWrite>(
     request: &FileRequest,
@@ -87,27 +73,9 @@ fn write_waiting<W: CountedWrite>(
     let count = recent.len();
     for k in 0..count {
         let at = number - (count - k) as u64;
-        request.write_around(at, recent.line(k), out, b"")?;
+        request.write_shown(false, at, recent.line(k), out, b"")?;
     }
     Ok(())
-}
-
-// Writes the row of a line that is selected or is shown around one that is.
-fn write_itself<W: CountedWrite>(
-    request: &FileRequest,
-    line: &SearchedLine,
-    out: &mut W,
-) -> Result<(), WriteFault>
-    ensures { Writes W.contents W.failures out.old out.new (output_line []
-        (row_by request.now.options request.now.many request.now.name.now line.now.selected line.now.number
-        line.now.text.now))
-        result }
-{
-    if line.selected {
-        request.write_text(line.number, line.text, out, b"")
-    } else {
-        request.write_around(line.number, line.text, out, b"")
-    }
 }
 
 // Writes what is shown at a line.
@@ -123,12 +91,12 @@ fn write_shown<W: CountedWrite>(
         (written [] (rows_at request.now.options request.now.many request.now.name.now line.now.selected
         shown recent.now.lines line.now.number line.now.text.now)) result }
 {
-    write_between(shown.separated, out)?;
+    write_separator(shown.separated, out, b"")?;
     if !shown.itself {
         return Ok(());
     }
     write_waiting(request, recent, line.number, out)?;
-    write_itself(request, line, out)
+    request.write_shown(line.selected, line.number, line.text, out, b"")
 }
 
 // Keeps a line that is not shown, and forgets all kept lines if it is shown.

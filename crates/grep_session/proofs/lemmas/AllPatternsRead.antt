@@ -1,5 +1,5 @@
 -- All patterns were read again.
-use Rattle.grep_session.proofs.Prelude.{◌≡◌, Bool, true, false, IsTrue, MatchBool, List, [], map, Option, None, Some, IfSome, Result, Ok, Err, All, inl, inr, refl, sym, ap, subst, ◌∙◌, AllZip, Text, AreParts, IsMeant, Matcher, KeptFile, KeptLine, PartsOnly, WasKept, WasFileKept, Syntax, Expression, IsReadable, matched_expression, Flag, Count, IgnoreCase, FilesWithMatches, LineNumber, OnlyMatching, Quiet, NoMessages, InvertMatch, LineRegexp, Options, Inputs, EditFault, NoSuchFile, FileIsMissing, OutOfRange, LineHasNewline, NoSuchPattern, Pattern, TooManyPatterns, Memory, ReadsAgain, read_as, SetFlag, SetSyntax, Applies, EditGives, option_of, with_option, AreMatching, IsKept, IsFileKept, kept_lines, span_places, AreMatchers, RefusesFirst, false≢true, All-weaker}
+use Rattle.grep_session.proofs.Prelude.{◌≡◌, Bool, true, false, IsTrue, MatchBool, List, [], map, Option, None, Some, IfSome, Result, Ok, Err, All, inl, inr, refl, sym, ap, subst, ◌∙◌, AllZip, Text, AreParts, IsMeant, Matcher, KeptFile, KeptLine, Syntax, Expression, IsReadable, matched_expression, Flag, Count, IgnoreCase, FilesWithMatches, LineNumber, OnlyMatching, Quiet, NoMessages, InvertMatch, LineRegexp, Options, Inputs, EditFault, NoSuchFile, FileIsMissing, OutOfRange, LineHasNewline, NoSuchPattern, Pattern, TooManyPatterns, Memory, ReadsAgain, read_as, SetFlag, SetSyntax, Applies, EditGives, option_of, with_option, AreMatching, IsKept, IsFileKept, kept_lines, span_places, AreMatchers, RefusesFirst, false≢true, All-weaker}
 use Rattle.re_search.specs.Working.Matchers.{AreAlike}
 use Rattle.std.specs.Bool.{⊤}
 
@@ -23,21 +23,10 @@ sets_syntax syntax old new (Err TooManyPatterns) h = h
 sets_syntax syntax old new (Err Memory) h = h
 
 module _ (es : List Expression) (old new : Options) (same : new.line_regexp ≡ old.line_regexp) where
-  -- what is kept of a line says which expressions match it
-  ready_line : (line : KeptLine) → IsKept es old line → WasKept PartsOnly es new line
-  ready_line line k = subst (λ w. AreMatching line.text w 0 es line.found.numbers) (sym same) k.matching
-
-  pub ready_files : (files : List KeptFile) → All (IsFileKept es old) files → All (WasFileKept PartsOnly es new) files
-  ready_files files all = All-weaker (IsFileKept es old) (WasFileKept PartsOnly es new) (λ file. one (kept_lines file)) files all
-    where
-      one : (lines : Option (List KeptLine)) → IfSome lines (All (IsKept es old)) → IfSome lines (All (WasKept PartsOnly es new))
-      one None h = tt
-      one (Some lines) h = All-weaker (IsKept es old) (WasKept PartsOnly es new) ready_line lines h
-
   -- under options that ask for no more parts, what is kept of a line stays right
   module _ (less : IsTrue new.only_matching → IsTrue old.only_matching) where
     kept_line : (line : KeptLine) → IsKept es old line → IsKept es new line
-    kept_line line k = record { matching = ready_line line k; parts = by_flags new.only_matching old.only_matching less k.parts }
+    kept_line line k = record { matching = subst (λ w. AreMatching line.text w 0 es line.found.numbers) (sym same) k.matching; parts = by_flags new.only_matching old.only_matching less k.parts }
       where
         Kept : Bool → Bool → Type 0
         Kept asked whole = MatchBool asked (AreParts es line.text whole (map span_places line.found.spans)) ⊤

@@ -1,13 +1,12 @@
 -- What is found in a line after a change of the patterns.
-use Rattle.grep_session.proofs.Prelude.{◌≡◌, ℕ, ◌+◌, ◌<◌, ◌≤◌, Bool, true, false, not, ◌||◌, List, [], ◌∷◌, ◌++◌, inl, inr, length, map, take, drop, length-take, nat_eq, nat_lt, get_or, MatchBool, Decides, Any, refl, sym, ap, subst, ◌∙◌, All, Option, None, Some, IfSome, arith, list_any, Text, Expression, Matches, AreParts, Options, Matched, Rebuild, PartsOnly, Added, Dropped, Replaced, KeptFile, KeptLine, without, Change, Span, ArePartsAgain, first_sought, has_new_parts, left_numbers, sought, take-append-drop, take_all, HasChanged, HasNewParts, IsWithin, WasKept, WasFileKept, kept_lines, AreMatching, AddsMatching, ArePartsKept, IsKept, span_places, drop-length, append-nil, false≢true}
+use Rattle.grep_session.proofs.Prelude.{◌≡◌, ℕ, ◌+◌, ◌-◌, ◌<◌, ◌≤◌, ◌⊎◌, Bool, true, false, not, ◌||◌, List, [], ◌∷◌, ◌++◌, inl, inr, length, map, All, All-weaker, append-nil, anew, Finds, IsNew, MatchBool, Any, Decides, get_or, refl, sym, ap, subst, ◌∙◌, arith, nat_eq, list_any, Text, Expression, Matches, AreParts, Options, Matched, KeptLine, Change, Span, ArePartsAgain, has_new_parts, has_number, has_own, left_numbers, HasChanged, HasNewParts, AreMatching, AddsMatching, ArePartsKept, IsKept, span_places, false≢true}
 use Rattle.std.specs.Bool.{⊤}
-use Rattle.re_syntax.proofs.lemmas.Decisions.{Any-first, Any-later, Any-cases}
-use Rattle.re_syntax.proofs.lemmas.SomeOfJoined.{Any-single}
-use Rattle.grep_core.proofs.lemmas.Verdicts.{decided_yes}
-use Rattle.grep_session.proofs.lemmas.NumberLemmas.{AreMatching-drop, AreMatching-put, adds_after, grown_decides, none_match, number_decides}
-use Rattle.grep_session.proofs.lemmas.ColumnLoops.{sought_alone}
-use Rattle.std.proofs.lemmas.List.{length-set, get_or-set_same}
-use Rattle.grep_session.proofs.lemmas.SurvivingLemmas.{found_matches, parts_replaced, parts_survive, parts_without}
+use Rattle.std.proofs.lemmas.Bool.Decides.{Decides-at, Decides-like, Decides-or}
+use Rattle.std.proofs.lemmas.List.Folds.{list_any-append}
+use Rattle.re_syntax.proofs.lemmas.SomeOfJoined.{Any-append-cases, Any-left, Any-right}
+use Rattle.grep_core.proofs.lemmas.Verdicts.{decided_no, decided_yes}
+use Rattle.grep_session.proofs.lemmas.NumberLemmas.{At, at_either, at_first, at_rest, left_number, none_match, own_decides}
+use Rattle.grep_session.proofs.lemmas.SurvivingLemmas.{found_matches, parts_survive}
 
 -- ---- the parts of a line, kept or searched anew
 
@@ -38,163 +37,201 @@ module _ (es before : List Expression) (options : Options) (line : KeptLine) (nu
       by_flag true e = by_marks matched anew none stay (λ off. subst (λ b. Kept b before line.found.spans) e (kept off)) e (are e)
       by_flag false e = subst (λ b. Kept b es spans) (sym e) tt
 
--- ---- a line without an expression
+-- ---- a line after a change
 
-pub decided_single : {A : Type 0} (P : A → Type 0) (x : A) (verdict : Bool) → Decides verdict (P x) → Decides verdict (Any P (x ∷ []))
-decided_single P x verdict d = ((λ t. Any-first P x [] (d.0 t)), (λ a. d.1 (Any-single P x a)))
+neither : (a b : Bool) → (a || b) ≡ false → (a ≡ false) × (b ≡ false)
+neither true b off = absurd (false≢true (sym off))
+neither false b off = (refl, off)
 
-module _ (p : ℕ) (es before changed : List Expression) (options : Options) (line : KeptLine) (h : HasChanged (Dropped p) es before changed options) (k : IsKept before options line) where
-  removed_decides : Decides (list_any (λ n. nat_eq n p) line.found.numbers) (Matches (get_or before p h.0) line.text options.line_regexp)
-  removed_decides = number_decides line.text options.line_regexp before line.found.numbers k.matching p h.0 h.1
+-- an expression that is as good under one flag as under the other, or is none
+turned : (line : Text) (u v : Bool) (es : List Expression) (first n : ℕ) (d : Expression) → (v ≡ u) ⊎ (es ≡ []) → At line u first es n d → At line v first es n d
+turned line u v es first n d (inl same) p = subst (λ w. At line w first es n d) (sym same) p
+turned line u v es first n d (inr none) p = absurd (let no : ⊥ = omega (arith, p.0, p.1, ap length none) in no)
 
-  -- whether the removed expression matched it
-  went_verdict : Decides (list_any (λ n. nat_eq n p) line.found.numbers) (Matched changed options line.text)
-  went_verdict =
-      let text = line.text in
-      let one = subst (λ e. Decides (list_any (λ n. nat_eq n p) line.found.numbers) (Matches e text options.line_regexp)) (sym h.2) removed_decides in
-      subst (λ c. Decides (list_any (λ n. nat_eq n p) line.found.numbers) (Matched c options text)) (sym h.4) (decided_single (λ e. Matches e text options.line_regexp) h.0 _ one)
+back_again : {v u : Bool} {es : List Expression} → (v ≡ u) ⊎ (es ≡ []) → (u ≡ v) ⊎ (es ≡ [])
+back_again (inl same) = inl (sym same)
+back_again (inr none) = inr none
 
-  -- the parts stay where it did not match
-  went_stay : list_any (λ n. nat_eq n p) line.found.numbers ≡ false → (ps : List (ℕ × ℕ)) → AreParts before line.text options.line_regexp ps → AreParts es line.text options.line_regexp ps
-  went_stay off ps are = subst (λ l. AreParts l line.text options.line_regexp ps) (sym h.3) (parts_without line.text options.line_regexp before p h.0 h.1 (λ m. false≢true (sym off ∙ removed_decides.1 m)) 0 ps are)
+module _ {change : Change} {es : List Expression} {options : Options} (h : HasChanged change es options) (line : KeptLine) (k : IsKept h.before h.was line) where
+  abbrev text : Text
+  text = line.text
 
--- ---- a line with another expression in the place of one
+  abbrev whole : Bool
+  whole = options.line_regexp
 
-decided_pair : {A : Type 0} (P : A → Type 0) (x y : A) (a b : Bool) → Decides a (P x) → Decides b (P y) → Decides (a || b) (Any P (x ∷ y ∷ []))
-decided_pair P x y true b d e = decided_yes (Any-first P x (y ∷ []) (d.0 refl))
-decided_pair P x y false b d e = (
-  (λ t. Any-later P x (y ∷ []) (Any-first P y [] (e.0 t))),
-  (λ some. elim (Any-cases P x (y ∷ []) some) [ inl m ↦ absurd (false≢true (d.1 m)) | inr l ↦ e.1 (Any-single P y l) ]),
-)
+  was : AreMatching text h.was.line_regexp 0 (h.front ++ (h.gone ++ h.back)) line.found.numbers
+  was = subst (λ l. AreMatching text h.was.line_regexp 0 l line.found.numbers) h.old k.matching
 
-module _ (p : ℕ) (narrower : Bool) (es before changed : List Expression) (options : Options) (line : KeptLine) (h : HasChanged (Replaced p narrower) es before changed options) (k : IsKept before options line) (new : List ℕ)
-    (a : AddsMatching line.text options.line_regexp p (sought (Replaced p narrower) es) (left_numbers (Replaced p narrower) line.found.numbers) new) where
-  inside : p < length es
-  inside = omega (arith, h.2, ap length h.4, length-set before p h.1)
+  front_alike : (whole ≡ h.was.line_regexp) ⊎ (h.front ≡ [])
+  front_alike = elim h.alike [ inl same ↦ inl same | inr none ↦ inr none.0 ]
 
-  there : get_or es p h.1 ≡ h.1
-  there = ap (λ (l : List Expression). get_or l p h.1) h.4 ∙ get_or-set_same before p h.1 h.1 h.2
+  back_alike : (whole ≡ h.was.line_regexp) ⊎ (h.back ≡ [])
+  back_alike = elim h.alike [ inl same ↦ inl same | inr none ↦ inr none.1 ]
 
-  -- the numbers are right
-  put_numbers : AreMatching line.text options.line_regexp 0 es new
-  put_numbers =
-      let alone : sought (Replaced p narrower) es ≡ h.1 ∷ [] = sought_alone es p h.1 inside ∙ ap (λ x. x ∷ []) there in
-      let one = subst (λ l. AreMatching line.text options.line_regexp p l a.found) alone a.are_found in
-      let all = AreMatching-put line.text options.line_regexp p before line.found.numbers a.found h.1 h.2 k.matching one in
-      subst (AreMatching line.text options.line_regexp 0 es) (sym a.added) (subst (λ l. AreMatching line.text options.line_regexp 0 l (left_numbers (Replaced p narrower) line.found.numbers ++ a.found)) (sym h.4) all)
+  -- the numbers that are left are those of the expressions that stay
+  abbrev left : List ℕ
+  left = left_numbers change.first change.gone (change.gone - change.come) line.found.numbers
 
-  -- whether the old expression or the new one matches it
-  put_pair : Decides (list_any (λ n. nat_eq n p) line.found.numbers || list_any (λ n. nat_eq n p) new) (Matched (h.0 ∷ h.1 ∷ []) options line.text)
-  put_pair =
-      let text = line.text in
-      let entire = options.line_regexp in
-      let was = number_decides text entire before line.found.numbers k.matching p h.0 h.2 in
-      let is = number_decides text entire es new put_numbers p h.1 inside in
-      decided_pair (λ e. Matches e text entire) h.0 h.1 _ _
-      (subst (λ e. Decides (list_any (λ n. nat_eq n p) line.found.numbers) (Matches e text entire)) (sym h.3) was)
-      (subst (λ e. Decides (list_any (λ n. nat_eq n p) new) (Matches e text entire)) there is)
+  abbrev Stays : ℕ → Expression → Type 0
+  Stays n d = At text whole 0 h.front n d ⊎ At text whole (0 + length h.front + length h.come) h.back n d
 
-  put_verdict : Decides (list_any (λ n. nat_eq n p) line.found.numbers || list_any (λ n. nat_eq n p) new) (Matched changed options line.text)
-  put_verdict = subst (λ c. Decides (list_any (λ n. nat_eq n p) line.found.numbers || list_any (λ n. nat_eq n p) new) (Matched c options line.text)) (sym h.5) put_pair
+  abbrev Left : ℕ → Type 0
+  Left n = (m : ℕ) × (has_number m line.found.numbers ≡ true) × (((m < change.first) × (n ≡ m)) ⊎ ((change.first + change.gone ≤ m) × (n ≡ m - (change.gone - change.come))))
 
-  -- the parts stay where neither matches
-  put_stay : (list_any (λ n. nat_eq n p) line.found.numbers || list_any (λ n. nat_eq n p) new) ≡ false → (ps : List (ℕ × ℕ)) → AreParts before line.text options.line_regexp ps → AreParts es line.text options.line_regexp ps
-  put_stay off ps are =
-      let P : Expression → Type 0 = λ e. Matches e line.text options.line_regexp in
-      let not_old : P (get_or before p h.0) → ⊥ = λ m. false≢true (sym off ∙ put_pair.1 (Any-first P h.0 (h.1 ∷ []) (subst P (sym h.3) m))) in
-      let not_new : P h.1 → ⊥ = λ m. false≢true (sym off ∙ put_pair.1 (Any-later P h.0 (h.1 ∷ []) (Any-first P h.1 [] m))) in
-      subst (λ l. AreParts l line.text options.line_regexp ps) (sym h.4) (parts_replaced line.text options.line_regexp before p h.0 h.2 not_old h.1 not_new 0 ps are)
+  -- a later expression has its place after those that came
+  module _ (n m : ℕ) (d : Expression) where
+    moves : change.first + change.gone ≤ m → n ≡ m - (change.gone - change.come) → At text h.was.line_regexp (0 + length h.front + length h.gone) h.back m d → At text whole (0 + length h.front + length h.come) h.back n d
+    moves low same p = turned text h.was.line_regexp whole h.back _ n d back_alike (elim h.fits [
+      | inl fewer ↦ (
+          let place : m - (0 + length h.front + length h.gone) ≡ n - (0 + length h.front + length h.come) = omega (arith, low, same, fewer, h.at, h.went, h.came) in
+          (omega (arith, low, same, fewer, h.at, h.went, h.came), omega (arith, p.1, low, same, fewer, h.at, h.went, h.came), subst (λ i. Matches (get_or h.back i d) text h.was.line_regexp) place p.2))
+      | inr none ↦ absurd (let no : ⊥ = omega (arith, p.0, p.1, ap length none) in no)
+    ])
 
--- ---- a line with more expressions
+    moved : At text whole (0 + length h.front + length h.come) h.back n d → m ≡ n + (change.gone - change.come) → (change.first + change.gone ≤ m) × (n ≡ m - (change.gone - change.come)) × At text h.was.line_regexp (0 + length h.front + length h.gone) h.back m d
+    moved q is = elim h.fits [
+      | inl fewer ↦ (
+          let p = turned text whole h.was.line_regexp h.back _ n d (back_again back_alike) q in
+          let place : n - (0 + length h.front + length h.come) ≡ m - (0 + length h.front + length h.gone) = omega (arith, is, q.0, fewer, h.went, h.came) in
+          (omega (arith, is, q.0, fewer, h.at, h.went, h.came), omega (arith, is), (omega (arith, is, q.0, fewer, h.went, h.came), omega (arith, is, q.0, q.1, fewer, h.went, h.came), subst (λ i. Matches (get_or h.back i d) text h.was.line_regexp) place p.2)))
+      | inr none ↦ absurd (let no : ⊥ = omega (arith, q.0, q.1, ap length none) in no)
+    ]
 
-module _ (first : ℕ) (es before changed : List Expression) (options : Options) (line : KeptLine) (h : HasChanged (Added first) es before changed options) (k : IsKept before options line) (new : List ℕ)
-    (a : AddsMatching line.text options.line_regexp first (drop first es) line.found.numbers new) where
-  added_decides : Decides (nat_lt (length line.found.numbers) (length new)) (Matched (drop first es) options line.text)
-  added_decides = subst (λ ns. Decides (nat_lt (length line.found.numbers) (length ns)) (Matched (drop first es) options line.text)) (sym a.added) (grown_decides line.text options.line_regexp first (drop first es) line.found.numbers a.found a.are_found)
+  left_decides : (n : ℕ) (d : Expression) → Decides (has_number n left) (Stays n d)
+  left_decides n d = Decides-like _ to from (left_number change.first change.gone (change.gone - change.come) n line.found.numbers)
+    where
+      to : Left n → Stays n d
+      to s = elim (at_either text h.was.line_regexp 0 h.front (h.gone ++ h.back) s.0 d ((was s.0 d).0 s.1)) [
+        | inl f ↦ elim s.2 [
+          | inl low ↦ inl (subst (λ i. At text whole 0 h.front i d) (sym low.1) (turned text h.was.line_regexp whole h.front 0 s.0 d front_alike f))
+          | inr high ↦ absurd (let no : ⊥ = omega (arith, high.0, f.1, h.at) in no)
+        ]
+        | inr r ↦ elim s.2 [
+          | inl low ↦ absurd (let no : ⊥ = omega (arith, low.0, r.0, h.at) in no)
+          | inr high ↦ elim (at_either text h.was.line_regexp (0 + length h.front) h.gone h.back s.0 d r) [
+            | inl g ↦ absurd (let no : ⊥ = omega (arith, high.0, g.1, h.at, h.went) in no)
+            | inr b ↦ inr (moves n s.0 d high.0 high.1 b)
+          ]
+        ]
+      ]
 
-  -- whether an added expression matches it
-  came_verdict : Decides (nat_lt (length line.found.numbers) (length new)) (Matched changed options line.text)
-  came_verdict = subst (λ c. Decides (nat_lt (length line.found.numbers) (length new)) (Matched c options line.text)) (sym h.1) added_decides
+      from : Stays n d → Left n
+      from (inl f) = (n, (was n d).1 (at_first text h.was.line_regexp 0 h.front (h.gone ++ h.back) n d (turned text whole h.was.line_regexp h.front 0 n d (back_again front_alike) f)), inl (omega (arith, f.1, h.at), refl))
+      from (inr b) =
+          let m = n + (change.gone - change.come) in
+          let q = moved n m d b refl in
+          (m, (was m d).1 (at_rest text h.was.line_regexp 0 h.front (h.gone ++ h.back) m d (at_rest text h.was.line_regexp (0 + length h.front) h.gone h.back m d q.2)), inr (q.0, q.1))
 
-  all_again : before ++ drop first es ≡ es
-  all_again = ap (λ l. l ++ drop first es) h.0 ∙ take-append-drop first es
+  -- whether one that went matched it
+  pub went_decides : options ≡ h.was → Decides (has_own change.first change.gone line.found.numbers) (Matched h.gone options text)
+  went_decides same = subst (λ (o : Options). Decides (has_own change.first change.gone line.found.numbers) (Matched h.gone o text)) (sym same) (own_decides text h.was.line_regexp change.first change.gone h.front h.gone h.back line.found.numbers h.at h.went was)
 
-  -- the numbers are right
-  came_numbers : first ≤ length es → AreMatching line.text options.line_regexp 0 es new
-  came_numbers within =
-      let many : first ≡ length before = omega (arith, ap length h.0, within, length-take first es) in
-      adds_after line.text options.line_regexp first before (drop first es) es line.found.numbers new many all_again k.matching a
+  module _ (new : List ℕ) (a : AddsMatching text whole change.first h.come left new) where
+    -- the numbers are right
+    pub numbers_right : AreMatching text whole 0 es new
+    numbers_right = subst (λ l. AreMatching text whole 0 l new) (sym h.new) (λ n d. Decides-at _ _ (ap (has_number n) a.added ∙ list_any-append (λ m. nat_eq m n) left a.found) (Decides-like _ (to n d) (from n d) (Decides-or _ _ (left_decides n d) (found n d))))
+      where
+        found : AreMatching text whole (0 + length h.front) h.come a.found
+        found = subst (λ n. AreMatching text whole n h.come a.found) (omega (arith, h.at)) a.are_found
 
-  -- the parts stay where none matches
-  came_stay : nat_lt (length line.found.numbers) (length new) ≡ false → (ps : List (ℕ × ℕ)) → AreParts before line.text options.line_regexp ps → AreParts es line.text options.line_regexp ps
-  came_stay off ps are = subst (λ l. AreParts l line.text options.line_regexp ps) all_again (parts_survive line.text options.line_regexp before (drop first es) (λ m. false≢true (sym off ∙ added_decides.1 m)) 0 ps are)
+        to : (n : ℕ) (d : Expression) → Stays n d ⊎ At text whole (0 + length h.front) h.come n d → At text whole 0 (h.front ++ (h.come ++ h.back)) n d
+        to n d (inl (inl f)) = at_first text whole 0 h.front (h.come ++ h.back) n d f
+        to n d (inl (inr b)) = at_rest text whole 0 h.front (h.come ++ h.back) n d (at_rest text whole (0 + length h.front) h.come h.back n d b)
+        to n d (inr c) = at_rest text whole 0 h.front (h.come ++ h.back) n d (at_first text whole (0 + length h.front) h.come h.back n d c)
 
--- ---- a line after any change
+        from : (n : ℕ) (d : Expression) → At text whole 0 (h.front ++ (h.come ++ h.back)) n d → Stays n d ⊎ At text whole (0 + length h.front) h.come n d
+        from n d p = elim (at_either text whole 0 h.front (h.come ++ h.back) n d p) [
+          | inl f ↦ inl (inl f)
+          | inr r ↦ elim (at_either text whole (0 + length h.front) h.come h.back n d r) [
+            | inl c ↦ inr c
+            | inr b ↦ inl (inr b)
+          ]
+        ]
 
--- all expressions from the first on are searched for
-adds_all : (line : Text) (entire : Bool) (first : ℕ) (es : List Expression) (old new : List ℕ) → AddsMatching line entire first (drop first (take (length es) es)) old new → AddsMatching line entire first (drop first es) old new
-adds_all line entire first es old new a = subst (λ l. AddsMatching line entire first (drop first l) old new) (take_all (length es) es (omega arith)) a
+    came_decides : Decides (has_own change.first change.come new) (Matched h.come options text)
+    came_decides = own_decides text whole change.first change.come h.front h.come h.back new h.at h.came (subst (λ l. AreMatching text whole 0 l new) h.new numbers_right)
 
--- none is searched for
-adds_nothing : (line : Text) (entire : Bool) (es : List Expression) (old new : List ℕ) → AreMatching line entire 0 es old → AddsMatching line entire (length es) (drop (length es) (take (length es) es)) old new → AreMatching line entire 0 es new
-adds_nothing line entire es old new before a = adds_after line entire (length es) es (drop (length es) es) es old new refl (ap (λ l. es ++ l) (drop-length es) ∙ append-nil es) before (adds_all line entire (length es) es old new a)
+    abbrev again : Bool
+    again = has_own change.first change.gone line.found.numbers || has_own change.first change.come new
 
-module _ (es before changed : List Expression) (options : Options) (line : KeptLine) (new : List ℕ) where
-  -- the numbers of a line, and whether its parts are searched, are right; kept parts stay the parts
-  -- where they are not
-  pub record LineChanges (change : Change) : Type 0 where
-    pub matching : AreMatching line.text options.line_regexp 0 es new
-    pub decided : Decides (has_new_parts change line.found.numbers new) (HasNewParts change changed options line.text)
-    pub stay : has_new_parts change line.found.numbers new ≡ false → (ps : List (ℕ × ℕ)) → AreParts before line.text options.line_regexp ps → AreParts es line.text options.line_regexp ps
-    pub kept : has_new_parts change line.found.numbers new ≡ false → ArePartsKept before options line.text line.found.spans
+    again_decides : options ≡ h.was → Decides again (Matched (h.gone ++ h.come) options text)
+    again_decides same =
+        let P : Expression → Type 0 = λ e. Matches e text whole in
+        Decides-like again (λ p. elim p [ inl g ↦ Any-left P h.gone h.come g | inr c ↦ Any-right P h.gone h.come c ]) (Any-append-cases P h.gone h.come) (Decides-or _ _ (went_decides same) came_decides)
 
-  pub line_changes : (change : Change) → IsWithin change (length es) → HasChanged change es before changed options → WasKept change before options line
-      → AddsMatching line.text options.line_regexp (first_sought change (length es)) (sought change es) (left_numbers change line.found.numbers) new → LineChanges change
-  line_changes Rebuild within h k b = let a = adds_all line.text options.line_regexp 0 es [] new b in record {
-    matching = subst (AreMatching line.text options.line_regexp 0 es) (sym a.added) a.are_found;
-    decided = decided_yes tt;
-    stay = λ off. absurd (false≢true (sym off));
-    kept = λ off. absurd (false≢true (sym off));
-  }
-  line_changes PartsOnly within h k a = record {
-    matching = adds_nothing line.text options.line_regexp es line.found.numbers new (subst (λ fs. AreMatching line.text options.line_regexp 0 fs line.found.numbers) h k) a;
-    decided = decided_yes tt;
-    stay = λ off. absurd (false≢true (sym off));
-    kept = λ off. absurd (false≢true (sym off));
-  }
-  line_changes (Added first) within h k b = let a = adds_all line.text options.line_regexp first es line.found.numbers new b in record {
-    matching = came_numbers first es before changed options line h k new a within;
-    decided = came_verdict first es before changed options line h k new a;
-    stay = came_stay first es before changed options line h k new a;
-    kept = λ off. k.parts;
-  }
-  line_changes (Dropped p) within h k a = record {
-    matching = adds_nothing line.text options.line_regexp es (without p line.found.numbers) new (subst (λ l. AreMatching line.text options.line_regexp 0 l (without p line.found.numbers)) (sym h.3) (AreMatching-drop line.text options.line_regexp p before line.found.numbers h.1 k.matching)) a;
-    decided = went_verdict p es before changed options line h k;
-    stay = went_stay p es before changed options line h k;
-    kept = λ off. k.parts;
-  }
-  line_changes (Replaced p narrower) within h k a = record {
-    matching = put_numbers p narrower es before changed options line h k new a;
-    decided = put_verdict p narrower es before changed options line h k new a;
-    stay = put_stay p narrower es before changed options line h k new a;
-    kept = λ off. k.parts;
-  }
+    -- whether its parts are searched
+    pub parts_decides : Decides (has_new_parts change line.found.numbers new) (HasNewParts change h.gone options h.come text)
+    parts_decides = by_flag change.all_parts refl
+      where
+        by_flag : (all : Bool) → change.all_parts ≡ all → Decides (all || again) (MatchBool all ⊤ (Matched (h.gone ++ h.come) options text))
+        by_flag true is = decided_yes tt
+        by_flag false is = again_decides (h.same is)
 
-  -- what is found in it is right
-  pub line_right : (change : Change) (matched anew : Bool) (spans : List Span) → LineChanges change → (matched ≡ false → new ≡ []) → (anew ≡ false → has_new_parts change line.found.numbers new ≡ false)
-      → (options.only_matching ≡ true → ArePartsAgain matched anew es options line spans) → IsKept es options (record { text = line.text; found = record { numbers = new; spans = spans } })
-  line_right change matched anew spans c none same are = record {
-    matching = c.matching;
-    parts = parts_again es before options line new spans matched anew none (λ off. c.stay (same off)) (λ off. c.kept (same off)) c.matching are;
-  }
+    -- what is found in it is right
+    pub line_right : (matched anew : Bool) (spans : List Span) → (matched ≡ false → new ≡ []) → (anew ≡ false → has_new_parts change line.found.numbers new ≡ false)
+        → (options.only_matching ≡ true → ArePartsAgain matched anew es options line spans) → IsKept es options (record { text = text; found = record { numbers = new; spans = spans } })
+    line_right matched anew spans none same are = record {
+      matching = numbers_right;
+      parts = parts_again es h.before options line new spans matched anew none (λ off. stay (same off)) (λ off. still (same off)) numbers_right are;
+    }
+      where
+        under : has_new_parts change line.found.numbers new ≡ false → options ≡ h.was
+        under off = h.same (neither change.all_parts again off).0
 
--- ---- files before a change
+        still : has_new_parts change line.found.numbers new ≡ false → ArePartsKept h.before options text line.found.spans
+        still off = subst (λ (o : Options). ArePartsKept h.before o text line.found.spans) (sym (under off)) k.parts
 
--- nothing has to be known of lines that are searched anew
-pub anew_files : (before : List Expression) (options : Options) (files : List KeptFile) → All (WasFileKept Rebuild before options) files
-anew_files before options files = λ k d h. one (kept_lines (get_or files k d))
-  where
-    one : (lines : Option (List KeptLine)) → IfSome lines (All (WasKept Rebuild before options))
-    one None = tt
-    one (Some lines) = λ k d h. tt
+        stay : has_new_parts change line.found.numbers new ≡ false → (ps : List (ℕ × ℕ)) → AreParts h.before text whole ps → AreParts es text whole ps
+        stay off ps are =
+            let no = neither (has_own change.first change.gone line.found.numbers) (has_own change.first change.come new) (neither change.all_parts again off).1 in
+            subst (λ l. AreParts l text whole ps) (sym h.new) (parts_survive text whole h.front h.gone h.come h.back (λ g. false≢true (sym no.0 ∙ (went_decides (under off)).1 g)) (λ c. false≢true (sym no.1 ∙ came_decides.1 c)) 0 ps
+            (subst (λ l. AreParts l text whole ps) h.old are))
+
+-- ---- all lines anew
+
+-- all went, and others came, under any options
+abbrev pub all_anew : (gone come : List Expression) (was options : Options) → HasChanged (anew (length gone) (length come)) come options
+all_anew gone come was options = record {
+  front = [];
+  gone = gone;
+  come = come;
+  back = [];
+  before = gone;
+  was = was;
+  old = sym (append-nil gone);
+  new = sym (append-nil come);
+  at = refl;
+  went = refl;
+  came = refl;
+  fits = inr refl;
+  alike = inr (refl, refl);
+  same = λ e. absurd (false≢true (sym e));
+  narrows = λ e. absurd (false≢true e);
+}
+
+-- none went, and none came
+abbrev pub parts_anew : (es : List Expression) (was options : Options) → options.line_regexp ≡ was.line_regexp → HasChanged (anew 0 0) es options
+parts_anew es was options same = record {
+  front = [];
+  gone = [];
+  come = [];
+  back = es;
+  before = es;
+  was = was;
+  old = refl;
+  new = refl;
+  at = refl;
+  went = refl;
+  came = refl;
+  fits = inl (omega arith);
+  alike = inl same;
+  same = λ e. absurd (false≢true (sym e));
+  narrows = λ e. absurd (false≢true e);
+}
+
+-- in new lines no expression has found anything
+pub new_kept : (options : Options) (lines : List KeptLine) → All IsNew lines → All (IsKept [] (record options { only_matching = false })) lines
+new_kept options = All-weaker IsNew (IsKept [] (record options { only_matching = false })) (λ line new. record {
+  matching = subst (λ (f : Finds). AreMatching line.text options.line_regexp 0 [] f.numbers) (sym new) (λ n d. decided_no (λ p. let no : ⊥ = omega (arith, p.1) in no));
+  parts = tt;
+})

@@ -1,6 +1,8 @@
 -- The lines of a chunk that an expression matches, noted one after the other.
-use Rattle.grep_session.proofs.Prelude.{AddsPairs, AddsSought, is_narrower, sought, true, false≢true, take_more, drop-append_seam, ◌≡◌, ℕ, take, drop, length-take, length-drop, ◌+◌, ◌<◌, ◌≤◌, Bool, List, [], ◌∷◌, ◌++◌, inl, inr, length, get_or, refl, sym, ap, subst, ◌∙◌, arith, append-nil, append_assoc, if◌then◌else◌, Some, ◌⊎◌, Text, Expression, Matches, numbers_at, AreBelow, Change, Added, Replaced, IsWithin, AddsColumn, IsNextLine, first_sought, past_sought, AddsMatching, cases_lt, All-push, All-nil, All-append}
+use Rattle.grep_session.proofs.Prelude.{◌≡◌, ℕ, take, drop, length-take, length-drop, ◌+◌, ◌<◌, ◌≤◌, Any, Bool, false, List, [], ◌∷◌, ◌++◌, inl, inr, length, get_or, refl, sym, ap, subst, ◌∙◌, arith, append-nil, append_assoc, if◌then◌else◌, Some, ◌⊎◌, Text, Expression, Matches, numbers_at, AreBelow, AddsColumn, IsNextLine, AddsMatching, cases_lt, All-push, All-nil, All-append}
 use Rattle.std.proofs.Math.Seq.{drop-append-le}
+use Rattle.re_syntax.proofs.lemmas.Decisions.{Any-first}
+use Rattle.re_syntax.proofs.lemmas.SomeOfJoined.{Any-left, Any-right}
 use Rattle.line_chunks.proofs.lemmas.PairLaws.{eq_yes, eq_no, numbers_at-append}
 use Rattle.grep_session.proofs.lemmas.NumberLemmas.{adds_one_matching, passes_one_matching, adds_none_matching, adds_more_matching}
 
@@ -11,13 +13,17 @@ one_here k n xs = numbers_at-append k xs ((k, n) ∷ []) ∙ ap (λ b. numbers_a
 pub one_elsewhere : (k other n : ℕ) (xs : List (ℕ × ℕ)) → (other ≡ k → ⊥) → numbers_at k (xs ++ (other, n) ∷ []) ≡ numbers_at k xs
 one_elsewhere k other n xs apart = numbers_at-append k xs ((other, n) ∷ []) ∙ ap (λ b. numbers_at k xs ++ (if b then n ∷ [] else [])) (eq_no other k apart) ∙ append-nil (numbers_at k xs)
 
-module _ (e : Expression) (entire : Bool) (number : ℕ) (texts : List Text) where
+module _ (sought : ℕ → Bool) (e : Expression) (entire : Bool) (number : ℕ) (texts : List Text) where
+  -- the line is not matched if it is not searched
+  abbrev IsPassed : ℕ → Type 0
+  IsPassed k = sought k ≡ false → ¬ Matches e (get_or texts k []) entire
+
   -- the lines before `from` that the expression matches are noted, and no others
   pub record ColumnSoFar (from : ℕ) (old new : List (ℕ × ℕ)) : Type 0 where
     pub more : List (ℕ × ℕ)
     pub added : new ≡ old ++ more
     pub within : AreBelow (length texts) more
-    pub done : (k : ℕ) → k < from → k < length texts → AddsMatching (get_or texts k []) entire number (e ∷ []) (numbers_at k old) (numbers_at k new)
+    pub done : (k : ℕ) → k < from → k < length texts → IsPassed k → AddsMatching (get_or texts k []) entire number (e ∷ []) (numbers_at k old) (numbers_at k new)
     pub left : (k : ℕ) → from ≤ k → numbers_at k new ≡ numbers_at k old
 
   pub column_none : (old : List (ℕ × ℕ)) → ColumnSoFar 0 old old
@@ -25,7 +31,7 @@ module _ (e : Expression) (entire : Bool) (number : ℕ) (texts : List Text) whe
     more = [];
     added = sym (append-nil old);
     within = All-nil (λ (pair : ℕ × ℕ). pair.0 < length texts);
-    done = λ k low high. absurd (let no : ⊥ = omega (arith, low) in no);
+    done = λ k low high passed. absurd (let no : ⊥ = omega (arith, low) in no);
     left = λ k low. refl;
   }
 
@@ -42,11 +48,11 @@ module _ (e : Expression) (entire : Bool) (number : ℕ) (texts : List Text) whe
       same_before : (k : ℕ) → (next ≡ k → ⊥) → numbers_at k new ≡ numbers_at k mid
       same_before k apart = ap (numbers_at k) pushed ∙ one_elsewhere k next number mid apart
 
-      by_place : (k : ℕ) → k < next + 1 → k < length texts → AddsMatching (get_or texts k []) entire number (e ∷ []) (numbers_at k old) (numbers_at k new)
-      by_place k low high = by_cases (cases_lt k from) (cases_lt k next)
+      by_place : (k : ℕ) → k < next + 1 → k < length texts → IsPassed k → AddsMatching (get_or texts k []) entire number (e ∷ []) (numbers_at k old) (numbers_at k new)
+      by_place k low high passed = by_cases (cases_lt k from) (cases_lt k next)
         where
           by_cases : (k < from) ⊎ (from ≤ k) → (k < next) ⊎ (next ≤ k) → AddsMatching (get_or texts k []) entire number (e ∷ []) (numbers_at k old) (numbers_at k new)
-          by_cases (inl early) c = subst (AddsMatching (get_or texts k []) entire number (e ∷ []) (numbers_at k old)) (sym (same_before k (λ same. let no : ⊥ = omega (arith, same, early, found.0) in no))) (s.done k early high)
+          by_cases (inl early) c = subst (AddsMatching (get_or texts k []) entire number (e ∷ []) (numbers_at k old)) (sym (same_before k (λ same. let no : ⊥ = omega (arith, same, early, found.0) in no))) (s.done k early high passed)
           by_cases (inr late) (inl before) =
               subst (AddsMatching (get_or texts k []) entire number (e ∷ []) (numbers_at k old)) (sym (same_before k (λ same. let no : ⊥ = omega (arith, same, before) in no) ∙ s.left k late))
               (passes_one_matching (get_or texts k []) entire number e (numbers_at k old) (found.3 k late before))
@@ -56,98 +62,65 @@ module _ (e : Expression) (entire : Bool) (number : ℕ) (texts : List Text) whe
               (ap (numbers_at k) pushed ∙ ap (λ n. numbers_at k (mid ++ (n, number) ∷ [])) here ∙ one_here k number mid ∙ ap (λ l. l ++ number ∷ []) (s.left k late))
 
   -- one more line is not matched
-  pub column_pass : (from : ℕ) (old new : List (ℕ × ℕ)) → (from < length texts → Matches e (get_or texts from []) entire → ⊥) → ColumnSoFar from old new → ColumnSoFar (from + 1) old new
+  pub column_pass : (from : ℕ) (old new : List (ℕ × ℕ)) → (from < length texts → IsPassed from → ¬ Matches e (get_or texts from []) entire) → ColumnSoFar from old new → ColumnSoFar (from + 1) old new
   column_pass from old new none s = record {
     more = s.more;
     added = s.added;
     within = s.within;
-    done = λ k low high. elim (cases_lt k from) [
-      | inl early ↦ s.done k early high
+    done = λ k low high passed. elim (cases_lt k from) [
+      | inl early ↦ s.done k early high passed
       | inr late ↦ (
           let here : k ≡ from = omega (arith, low, late) in
-          subst (AddsMatching (get_or texts k []) entire number (e ∷ []) (numbers_at k old)) (sym (s.left k late)) (passes_one_matching (get_or texts k []) entire number e (numbers_at k old) (subst (λ n. n < length texts → Matches e (get_or texts n []) entire → ⊥) (sym here) none high)))
+          subst (AddsMatching (get_or texts k []) entire number (e ∷ []) (numbers_at k old)) (sym (s.left k late)) (passes_one_matching (get_or texts k []) entire number e (numbers_at k old) (subst (λ n. n < length texts → IsPassed n → ¬ Matches e (get_or texts n []) entire) (sym here) none high passed)))
     ];
     left = λ k low. s.left k (omega (arith, low));
   }
 
   -- no line is left that the expression matches
-  pub column_done : (from : ℕ) (old new : List (ℕ × ℕ)) → ((k : ℕ) → from ≤ k → k < length texts → ¬ Matches e (get_or texts k []) entire) → ColumnSoFar from old new → AddsColumn texts entire number (e ∷ []) old new
-  column_done from old new none s = record { more = s.more; added = s.added; within = s.within; numbers = λ k high. by_cases k high (cases_lt k from) }
+  pub column_done : (from : ℕ) (old new : List (ℕ × ℕ)) → ((k : ℕ) → from ≤ k → k < length texts → IsPassed k → ¬ Matches e (get_or texts k []) entire) → ColumnSoFar from old new → AddsColumn sought texts entire number (e ∷ []) old new
+  column_done from old new none s = record { more = s.more; added = s.added; within = s.within; numbers = λ k high passed. by_cases k high (λ off m. passed off (Any-first (λ e. Matches e (get_or texts k []) entire) e [] m)) (cases_lt k from) }
     where
-      by_cases : (k : ℕ) → k < length texts → (k < from) ⊎ (from ≤ k) → AddsMatching (get_or texts k []) entire number (e ∷ []) (numbers_at k old) (numbers_at k new)
-      by_cases k high (inl early) = s.done k early high
-      by_cases k high (inr late) = subst (AddsMatching (get_or texts k []) entire number (e ∷ []) (numbers_at k old)) (sym (s.left k late)) (passes_one_matching (get_or texts k []) entire number e (numbers_at k old) (none k late high))
+      by_cases : (k : ℕ) → k < length texts → IsPassed k → (k < from) ⊎ (from ≤ k) → AddsMatching (get_or texts k []) entire number (e ∷ []) (numbers_at k old) (numbers_at k new)
+      by_cases k high passed (inl early) = s.done k early high passed
+      by_cases k high passed (inr late) = subst (AddsMatching (get_or texts k []) entire number (e ∷ []) (numbers_at k old)) (sym (s.left k late)) (passes_one_matching (get_or texts k []) entire number e (numbers_at k old) (none k late high passed))
 
 -- ---- several expressions
 
-module _ (texts : List Text) (entire : Bool) where
+module _ (sought : ℕ → Bool) (texts : List Text) (entire : Bool) where
   -- no expression
-  pub columns_none : (first : ℕ) (old : List (ℕ × ℕ)) → AddsColumn texts entire first [] old old
+  pub columns_none : (first : ℕ) (old : List (ℕ × ℕ)) → AddsColumn sought texts entire first [] old old
   columns_none first old = record {
     more = [];
     added = sym (append-nil old);
     within = All-nil (λ (pair : ℕ × ℕ). pair.0 < length texts);
-    numbers = λ k high. adds_none_matching (get_or texts k []) entire first (numbers_at k old);
-  }
-
-  -- more expressions
-  pub columns_more : (first next : ℕ) (es fs all : List Expression) (old mid new : List (ℕ × ℕ)) → next ≡ first + length es → all ≡ es ++ fs → AddsColumn texts entire first es old mid → AddsColumn texts entire next fs mid new → AddsColumn texts entire first all old new
-  columns_more first next es fs all old mid new place both a b = record {
-    more = a.more ++ b.more;
-    added = b.added ∙ ap (λ l. l ++ b.more) a.added ∙ append_assoc old a.more b.more;
-    within = All-append (λ (pair : ℕ × ℕ). pair.0 < length texts) a.more b.more a.within b.within;
-    numbers = λ k high. adds_more_matching (get_or texts k []) entire first next es fs all (numbers_at k old) (numbers_at k mid) (numbers_at k new) place both (a.numbers k high) (b.numbers k high);
+    numbers = λ k high passed. adds_none_matching (get_or texts k []) entire first (numbers_at k old);
   }
 
   -- the next expression, whose number is its place
-  pub columns_next : (first number : ℕ) (es : List Expression) (e : Expression) (old mid new : List (ℕ × ℕ)) → first ≤ number → number < length es → take (number + 1) es ≡ take number es ++ e ∷ [] → AddsColumn texts entire first (drop first (take number es)) old mid → AddsColumn texts entire number (e ∷ []) mid new
-      → AddsColumn texts entire first (drop first (take (number + 1) es)) old new
-  columns_next first number es e old mid new low high next a b =
-      let many : length (take number es) ≡ number = omega (arith, length-take number es, high) in
-      columns_more first number (drop first (take number es)) (e ∷ []) (drop first (take (number + 1) es)) old mid new (omega (arith, length-drop first (take number es), many, low)) (ap (drop first) next ∙ drop-append-le first (take number es) (e ∷ []) (omega (arith, low, many))) a b
-
--- no pair is added, and one
-pub pairs_none : (size : ℕ) (old : List (ℕ × ℕ)) → AddsPairs size old old
-pairs_none size old = record { more = []; added = sym (append-nil old); within = All-nil (λ (pair : ℕ × ℕ). pair.0 < size) }
-
-pub pairs_next : (size k number : ℕ) (old mid new : List (ℕ × ℕ)) → k < size → new ≡ mid ++ (k, number) ∷ [] → AddsPairs size old mid → AddsPairs size old new
-pairs_next size k number old mid new within pushed s = record {
-  more = s.more ++ (k, number) ∷ [];
-  added = pushed ∙ ap (λ l. l ++ (k, number) ∷ []) s.added ∙ append_assoc old s.more ((k, number) ∷ []);
-  within = All-push (λ (pair : ℕ × ℕ). pair.0 < size) s.more (k, number) s.within within;
-}
-
--- what was added whatever the pairs of the old pattern are
-pub added_sought : (change : Change) (texts : List Text) (entire : Bool) (es : List Expression) (old left mid : List (ℕ × ℕ)) → AddsColumn texts entire (first_sought change (length es)) (sought change es) left mid → AddsSought change texts entire es old left mid
-added_sought change texts entire es old left mid a = record { pairs = record { more = a.more; added = a.added; within = a.within }; adds = λ among. a }
-
--- ---- a narrower expression
-
--- one expression alone
-pub sought_alone : (es : List Expression) (p : ℕ) (d : Expression) → p < length es → drop p (take (p + 1) es) ≡ get_or es p d ∷ []
-sought_alone es p d h =
-    let many : length (take p es) ≡ p = omega (arith, length-take p es, h) in
-    ap (drop p) (take_more es p d h) ∙ ap (λ n. drop n (take p es ++ get_or es p d ∷ [])) (sym many) ∙ drop-append_seam (take p es) (get_or es p d ∷ [])
-
-module _ (change : Change) (is : is_narrower change ≡ true) where
-  -- it is one of all
-  pub narrower_within : (many : ℕ) → IsWithin change many → first_sought change many < many
-  narrower_within many within = by_change change is within
+  pub columns_next : (first number : ℕ) (es : List Expression) (e : Expression) (old mid new : List (ℕ × ℕ)) → first ≤ number → number < length es → take (number + 1) es ≡ take number es ++ e ∷ [] → AddsColumn sought texts entire first (drop first (take number es)) old mid → AddsColumn sought texts entire number (e ∷ []) mid new
+      → AddsColumn sought texts entire first (drop first (take (number + 1) es)) old new
+  columns_next first number es e old mid new low high next a b = record {
+    more = a.more ++ b.more;
+    added = b.added ∙ ap (λ l. l ++ b.more) a.added ∙ append_assoc old a.more b.more;
+    within = All-append (λ (pair : ℕ × ℕ). pair.0 < length texts) a.more b.more a.within b.within;
+    numbers = λ k in_texts passed.
+        let P : Expression → Type 0 = λ x. Matches x (get_or texts k []) entire in
+        let none : sought k ≡ false → ¬ Any P (before ++ e ∷ []) = λ off some. passed off (subst (Any P) (sym both) some) in
+        adds_more_matching (get_or texts k []) entire first number before (e ∷ []) (drop first (take (number + 1) es)) (numbers_at k old) (numbers_at k mid) (numbers_at k new) place both (a.numbers k in_texts (λ off some. none off (Any-left P before (e ∷ []) some))) (b.numbers k in_texts (λ off some. none off (Any-right P before (e ∷ []) some)));
+  }
     where
-      by_change : (c : Change) → is_narrower c ≡ true → IsWithin c many → first_sought c many < many
-      by_change (Replaced p narrower) is within = within
-      by_change c off within = absurd (false≢true off)
+      before : List Expression
+      before = drop first (take number es)
 
-  -- it alone is searched for
-  pub narrower_alone : (es : List Expression) (d : Expression) → IsWithin change (length es) → sought change es ≡ get_or es (first_sought change (length es)) d ∷ []
-  narrower_alone es d within = by_change change is within
-    where
-      by_change : (c : Change) → is_narrower c ≡ true → IsWithin c (length es) → sought c es ≡ get_or es (first_sought c (length es)) d ∷ []
-      by_change (Replaced p narrower) is within = sought_alone es p d within
-      by_change c off within = absurd (false≢true off)
+      many : length (take number es) ≡ number
+      many = omega (arith, length-take number es, high)
 
--- the expressions that are searched for are some of all
-pub sought_within : (change : Change) (many : ℕ) → IsWithin change many → (first_sought change many ≤ past_sought change many) × (past_sought change many ≤ many)
-sought_within (Added first) many h = (h, omega arith)
-sought_within (Replaced p narrower) many h = (omega arith, omega (arith, h))
-sought_within change many h = (omega arith, omega arith)
+      place : number ≡ first + length before
+      place = omega (arith, length-drop first (take number es), many, low)
+
+      both : drop first (take (number + 1) es) ≡ before ++ e ∷ []
+      both = ap (drop first) next ∙ drop-append-le first (take number es) (e ∷ []) (omega (arith, low, many))
+
+  -- none but these lines are searched, or all are
+  pub column_of : (only : ℕ → Bool) (first : ℕ) (es : List Expression) (old new : List (ℕ × ℕ)) → ((k : ℕ) → only k ≡ false → sought k ≡ false) → AddsColumn only texts entire first es old new → AddsColumn sought texts entire first es old new
+  column_of only first es old new less a = record { more = a.more; added = a.added; within = a.within; numbers = λ k high passed. a.numbers k high (λ off. passed (less k off)) }

@@ -1,6 +1,14 @@
 -- Whether some line is selected is decided by how many lines are matched.
-use Rattle.grep_session.proofs.Prelude.{◌≡◌, ℕ, ◌+◌, ◌-◌, ◌≤◌, nat_lt, Bool, true, false, not, List, [], ◌∷◌, length, refl, ◌∙◌, ap, sym, arith, if◌then◌else◌, false≢true, nat_tests, Options, KeptLine, is_matched, matched_count, is_selected, some_selected, selected_count}
-use Rattle.grep_session.proofs.lemmas.FileSteps.{counted_some}
+use Rattle.grep_session.proofs.Prelude.{◌≡◌, ℕ, ◌+◌, ◌-◌, ◌≤◌, nat_lt, Bool, true, false, not, List, [], ◌∷◌, length, refl, ◌∙◌, ap, sym, arith, if◌then◌else◌, false≢true, lt-ltb, ◌||◌, nat_tests, Options, KeptLine, is_matched, matched_count, is_selected, some_selected, selected_count}
+
+-- the number of selected lines is above 0 if and only if some line is selected
+counted_some : (options : Options) (text : List KeptLine) → nat_lt 0 (selected_count options text) ≡ some_selected options text
+counted_some options [] = refl
+counted_some options (line ∷ text) = by_verdict (is_selected options line) (selected_count options text) (some_selected options text) (counted_some options text)
+  where
+    by_verdict : (found : Bool) (n : ℕ) (some : Bool) → nat_lt 0 n ≡ some → nat_lt 0 ((if found then 1 else 0) + n) ≡ (found || some)
+    by_verdict true n some e = lt-ltb 0 (1 + n) (omega arith)
+    by_verdict false n some e = let same : 0 + n ≡ n = omega arith in ap (nat_lt 0) same ∙ e
 
 module _ (options : Options) where
   -- the matched lines are the selected ones

@@ -1,10 +1,11 @@
 -- Which kept lines grep selects, and how many, where what is kept of them is right.
-use Rattle.grep_session.proofs.Prelude.{◌≡◌, ℕ, ◌+◌, ◌<◌, ◌≤◌, Bool, true, false, List, [], ◌∷◌, length, map, take, get_or, All, IfSome, Some, ◌⊎◌, inl, inr, refl, sym, ap, subst, ◌∙◌, arith, if◌then◌else◌, Decides, Text, Expression, HoldsOfMany, Options, Selected, file_at, KeptFile, KeptLine, SelectedFrom, line_text, IsKept, IsFileKept, kept_lines, kept_file, file_with, is_selected, selected_count, false≢true, length-map, All-head, All-tail, All-take, All-get_or}
+use Rattle.grep_session.proofs.Prelude.{◌≡◌, ℕ, ◌+◌, ◌<◌, ◌≤◌, Bool, true, false, List, [], ◌∷◌, length, map, take, get_or, All, IfSome, Some, ◌⊎◌, inl, inr, refl, sym, ap, subst, ◌∙◌, arith, if◌then◌else◌, Decides, Text, Expression, HoldsOfMany, matched_expression, AreMeant, File, Inputs, Inside, IsSession, inputs_of, Options, Selected, file_at, KeptFile, KeptLine, SelectedFrom, line_text, IsKept, IsFileKept, kept_lines, kept_file, file_with, is_selected, selected_count, false≢true, length-map, All-head, All-tail, All-take, All-get_or}
 use Rattle.std.proofs.lemmas.List.{get_or-map, take-map}
+use Rattle.grep_core.proofs.lemmas.LawsHold.{means_one}
 use Rattle.grep_session.proofs.lemmas.KeptLaws.{selected_reported}
 
 module _ (es : List Expression) (options : Options) where
-  many_selected : (lines : List KeptLine) → All (IsKept es options) lines → HoldsOfMany (Selected es options) (map line_text lines) (selected_count options lines)
+  pub many_selected : (lines : List KeptLine) → All (IsKept es options) lines → HoldsOfMany (Selected es options) (map line_text lines) (selected_count options lines)
   many_selected [] kept = refl
   many_selected (line ∷ lines) kept = (
     selected_count options lines,
@@ -55,9 +56,15 @@ module _ (es : List Expression) (options : Options) where
     pub file_found : (place next : ℕ) → SelectedFrom options lines place next → next < length (kept_file file).lines → Selected es options (get_or (kept_file file).lines next [])
     file_found place next s = subst (λ (ts : List Text). next < length ts → Selected es options (get_or ts next [])) lines_are (λ h. one_found lines place next lines_kept s (omega (arith, h, length-map lines line_text)))
 
--- a file of a session, as a contract sees it, and what is kept of it
-pub file_there : (files : List KeptFile) (k : ℕ) (file : KeptFile) → k < length files → file ≡ get_or files k file → kept_file file ≡ file_at (map kept_file files) k
-file_there files k file inside at = ap kept_file at ∙ sym (get_or-map kept_file files k file (file_at [] k) inside)
-
-pub kept_there : (es : List Expression) (options : Options) (files : List KeptFile) (k : ℕ) (file : KeptFile) → k < length files → file ≡ get_or files k file → All (IsFileKept es options) files → IsFileKept es options file
-kept_there es options files k file inside at kept = subst (λ (f : KeptFile). IsFileKept es options f) (sym at) (All-get_or (IsFileKept es options) files k file inside kept)
+-- what holds of a file, by what is kept of it, holds of file k of the inputs of the session
+pub of_file : (P : List Expression → Options → File → Type 0) (s : Inside) (shown : Inputs) (k : ℕ) (files : List KeptFile) (file : KeptFile) → IsSession s → inputs_of s ≡ shown → files ≡ s.files.items → k < length files → file ≡ get_or files k file
+    → ((es : List Expression) → IsFileKept es s.options file → P es s.options (kept_file file)) → (es : List Expression) → AreMeant shown.syntax shown.options shown.patterns es → P es shown.options (file_at shown.files k)
+of_file P s shown k files file right same are inside at holds =
+    subst (λ (i : Inputs). (es : List Expression) → AreMeant i.syntax i.options i.patterns es → P es i.options (file_at i.files k)) same
+    (λ es meant.
+    let found = map matched_expression s.matchers.items in
+    let one : found ≡ es = means_one s.syntax s.options (inputs_of s).patterns found es right.matchers.meant meant in
+    let all : All (IsFileKept es s.options) files = subst (All (IsFileKept es s.options)) (sym are) (subst (λ es. All (IsFileKept es s.options) s.files.items) one right.kept) in
+    let kept : IsFileKept es s.options file = subst (λ (f : KeptFile). IsFileKept es s.options f) (sym at) (All-get_or (IsFileKept es s.options) files k file inside all) in
+    let here : kept_file file ≡ file_at (map kept_file s.files.items) k = ap kept_file at ∙ sym (get_or-map kept_file files k file (file_at [] k) inside) ∙ ap (λ fs. file_at (map kept_file fs) k) are in
+    subst (P es s.options) here (holds es kept))

@@ -1,8 +1,9 @@
 -- A pattern is removed, and the numbers of those that match a line stay right.
-use Rattle.grep_session.proofs.Prelude.{Option, Some, IfSome, ◌≡◌, ℕ, zero, suc, ◌+◌, ◌-◌, ◌<◌, MatchBool, All, false, List, [], ◌∷◌, ◌++◌, length, map, take, drop, refl, sym, ap, subst, ◌∙◌, arith, set, option_map, AllWithin, AllZip, remove, Syntax, IsMeant, Matcher, IsReadable, matched_expression, wants_whole, AreMeant, whole, AreParts, Options, KeptLine, all_of, line_text, line_without, Text, Expression, without, IsKept, span_places, file_with, AreMatchers, All-append, All-take, All-drop, All-map, All-weaker, get_or-set_other, map-append}
-use Rattle.std.proofs.lemmas.List.Edits.{length-remove}
-use Rattle.grep_session.proofs.lemmas.NumberLemmas.{AreMatching-drop}
-use Rattle.grep_session.proofs.lemmas.SessionLemmas.{map-remove}
+use Rattle.grep_session.proofs.Prelude.{inl, get_or, get_or_default, false≢true, Option, Some, IfSome, ◌≡◌, ℕ, zero, suc, ◌+◌, ◌-◌, ◌<◌, MatchBool, All, false, List, [], ◌∷◌, ◌++◌, length, map, take, drop, refl, sym, ap, subst, ◌∙◌, arith, set, option_map, AllWithin, AllZip, remove, whole, AreParts, Options, KeptLine, all_of, line_text, line_without, Text, Expression, without, IsKept, span_places, file_with, All-append, All-take, All-drop, All-map, All-weaker, get_or-set_other, map-append}
+use Rattle.re_syntax.specs.Expression.{empty}
+use Rattle.grep_session.proofs.lemmas.ChangeLemmas.{numbers_right}
+use Rattle.grep_session.proofs.lemmas.NumberLemmas.{adds_none_matching}
+use Rattle.grep_session.proofs.lemmas.SplicedLists.{list_changed, removed}
 use Rattle.std.specs.Bool.{⊤}
 
 -- ---- lines and files without an expression
@@ -23,11 +24,14 @@ file_dropped p name lines old new is drops =
     ap (λ texts. record { name = name; lines = texts; ending = whole }) (ap (map line_text) same ∙ texts_stay p (all_of old)) ∙ ap (λ l. file_with name (option_map all_of l)) (sym is)
 
 module _ (es : List Expression) (options : Options) (p : ℕ) (h : p < length es) (no_parts : options.only_matching ≡ false) where
+  abbrev one : Expression
+  one = get_or es p empty
+
   -- what is kept of a line
   dropped_line : (line : KeptLine) → IsKept es options line → IsKept (remove es p) options (line_without p line)
   dropped_line line k =
       record {
-        matching = AreMatching-drop line.text options.line_regexp p es line.found.numbers h k.matching;
+        matching = numbers_right (list_changed (removed p es one h (get_or_default es p empty one h) (remove es p) refl) options false (inl (omega arith)) (λ on. absurd (false≢true on))) line k (without p line.found.numbers) (adds_none_matching line.text options.line_regexp p (without p line.found.numbers));
         parts = subst (λ b. MatchBool b (AreParts (remove es p) line.text options.line_regexp (map span_places line.found.spans)) ⊤) (sym no_parts) tt;
       }
 
@@ -54,12 +58,3 @@ AllZip-remove P [] (y ∷ ys) k h = absurd h
 AllZip-remove P (x ∷ xs) [] k h = absurd h
 AllZip-remove P (x ∷ xs) (y ∷ ys) zero h = h.1
 AllZip-remove P (x ∷ xs) (y ∷ ys) (suc k) h = (h.0, AllZip-remove P xs ys k h.1)
-
--- the matchers without one are those of the patterns without one
-pub AreMatchers-remove : (syntax : Syntax) (options : Options) (texts : List Text) (old new : List Matcher) (p : ℕ) → p < length texts → new ≡ remove old p → AreMatchers syntax options texts old → AreMatchers syntax options (remove texts p) new
-AreMatchers-remove syntax options texts old new p within left s = record {
-  meant = subst (AreMeant syntax options (remove texts p)) (sym (map-remove matched_expression old new p left)) (AllZip-remove (λ text e. IsMeant syntax options.ignore_case text e) texts (map matched_expression old) p s.meant);
-  wholes = subst (All (λ w. w ≡ options.line_regexp)) (sym (map-remove wants_whole old new p left)) (All-remove (λ w. w ≡ options.line_regexp) (map wants_whole old) p s.wholes);
-  readable = All-remove (IsReadable syntax options.ignore_case) texts p s.readable;
-  counted = omega (arith, within, s.counted, ap length left, length-remove old p (omega (arith, within, s.counted)), length-remove texts p within);
-}

@@ -1,5 +1,5 @@
 -- How an edit changes a session's inputs, and what is kept.
-use Rattle.grep_session.proofs.Prelude.{◌≡◌, ◌≢◌, ℕ, ◌+◌, ◌<◌, ◌≤◌, List, [], ◌∷◌, ◌++◌, length, map, take, drop, Option, Some, None, Ok, IfSome, inl, inr, refl, sym, ap, subst, ◌∙◌, All, get_or, slice_set, arith, set, map-set_same, map-set, length-map, All-append, All-take, All-drop, All-set, splice, option_map, Syntax, Text, Expression, HasNoNewline, Matcher, matched_expression, wants_whole, Steps, Options, File, Inputs, AreMeant, whole, missing, file_at, most_patterns, KeptFile, Inside, AreSame, Rebuild, SearchesEach, IsSession, inputs_of, AreFit, KeptLine, line_text, AddFile, Splice, Applies, spliced, whole_file, with_files, IsKept, IsFileKept, kept_file, kept_lines, file_with, AreMatchers, HasPlace, TakesSteps, NeedsNoMemory, KeepAtMost, lost}
+use Rattle.grep_session.proofs.Prelude.{◌≡◌, ◌≢◌, ℕ, ◌+◌, ◌<◌, ◌≤◌, List, [], ◌∷◌, ◌++◌, length, map, take, drop, Option, Some, None, Ok, IfSome, inl, inr, refl, sym, ap, subst, ◌∙◌, All, get_or, slice_set, arith, set, map-set_same, map-set, length-map, All-append, All-take, All-drop, All-set, splice, option_map, Syntax, Text, Expression, HasNoNewline, Matcher, matched_expression, wants_whole, Steps, Options, File, Inputs, AreMeant, whole, missing, file_at, most_patterns, KeptFile, Inside, AreSame, anew, SearchesEach, IsSession, inputs_of, AreFit, KeptLine, line_text, AddFile, Splice, Applies, spliced, whole_file, with_files, IsKept, IsFileKept, kept_file, kept_lines, file_with, AreMatchers, HasPlace, TakesSteps, NeedsNoMemory, KeepAtMost, lost}
 use Rattle.std.proofs.lemmas.List.{get_or-map}
 use Rattle.grep_core.proofs.lemmas.CostLaws.{same_length}
 use Rattle.grep_session.proofs.lemmas.FitLemmas.{fit_as, fit_lose}
@@ -58,13 +58,13 @@ applies_splice old k start count lines p none =
     inr ((λ h. absurd (let false : ⊥ = omega (arith, h, p.in_files) in false)), inr (p.opens, inr ((λ h. absurd (let false : ⊥ = omega (arith, h, p.in_file) in false)), inl (none, refl))))
 
 -- the new lines of a splice, and those of a file that is added, were searched
-module _ (s : Inside) (old : IsSession s) (lines : List Text) (none : All HasNoNewline lines) (begun ended : Steps) (steps : SearchesEach Rebuild (map matched_expression s.matchers.items) (map matched_expression s.matchers.items) s.options lines begun ended) where
+module _ (s : Inside) (old : IsSession s) (lines : List Text) (none : All HasNoNewline lines) (begun ended : Steps) (steps : SearchesEach (anew 0 (length (map matched_expression s.matchers.items))) [] (map matched_expression s.matchers.items) (map matched_expression s.matchers.items) s.options lines begun ended) where
   pub splice_steps : (k start count : ℕ) → HasPlace (inputs_of s).files k start count → TakesSteps (Splice k start count lines) (inputs_of s) begun ended
   splice_steps k start count place =
-      takes_lines (Splice k start count lines) (inputs_of s) (with_files (spliced (inputs_of s).files k start count lines) (inputs_of s)) s.matchers.items lines begun ended (applies_splice (inputs_of s) k start count lines place none) refl old.matchers refl steps
+      takes_lines (Splice k start count lines) (inputs_of s) (with_files (spliced (inputs_of s).files k start count lines) (inputs_of s)) 0 [] s.matchers.items lines begun ended (applies_splice (inputs_of s) k start count lines place none) refl old.matchers refl steps
 
   pub file_steps : (name : Text) → TakesSteps (AddFile name lines) (inputs_of s) begun ended
-  file_steps name = takes_lines (AddFile name lines) (inputs_of s) (with_files ((inputs_of s).files ++ whole_file name lines ∷ []) (inputs_of s)) s.matchers.items lines begun ended (inl (none, refl)) refl old.matchers refl steps
+  file_steps name = takes_lines (AddFile name lines) (inputs_of s) (with_files ((inputs_of s).files ++ whole_file name lines ∷ []) (inputs_of s)) 0 [] s.matchers.items lines begun ended (inl (none, refl)) refl old.matchers refl steps
 
 -- memory is needed
 pub needs_for_lines : (old : Inputs) (k start count : ℕ) (lines : List Text) → HasPlace old.files k start count → (lines ≡ [] → ⊥) → NeedsNoMemory (Splice k start count lines) old → ⊥

@@ -1,15 +1,15 @@
 -- What was found replaces what is kept, one chunk and one file at a time.
-use Rattle.grep_session.proofs.Prelude.{◌≡◌, ℕ, zero, suc, ◌<◌, List, [], ◌∷◌, ◌++◌, length, map, take, drop, get_or, ◌+◌, add-one, Option, None, Some, IfSome, All, drop-cons, refl, sym, ap, subst, ◌∙◌, arith, append_assoc, AllZip, option_map, unwrap_or, Text, Expression, Options, whole, KeptLine, all_of, line_text, FitColumns, FitsColumn, with_column, with_columns, FoundIn, Change, Rebuild, KeptFile, HasChanged, WasKept, WasFileKept, AddsColumns, IsColumn, chunks_of, chunks_of_files, IsKept, IsFileKept, kept_file, file_with, set, take-append_seam, drop-append_seam, take-suc, map-append, append-nil, get_or-drop, drop-set-lt, flat_map-append, All-nil, All-cons, All-append, All-take, All-drop, All-head, All-tail}
+use Rattle.grep_session.proofs.Prelude.{◌≡◌, ℕ, zero, suc, ◌<◌, List, [], ◌∷◌, ◌++◌, length, map, take, drop, get_or, ◌+◌, add-one, Option, None, Some, IfSome, All, drop-cons, refl, sym, ap, subst, ◌∙◌, arith, append_assoc, AllZip, option_map, unwrap_or, Text, Expression, Options, whole, KeptLine, all_of, line_text, FitColumns, FitsColumn, with_column, with_columns, FoundIn, Change, KeptFile, HasChanged, AddsColumns, IsColumn, chunks_of, chunks_of_files, IsKept, IsFileKept, kept_file, file_with, set, take-append_seam, drop-append_seam, take-suc, map-append, append-nil, get_or-drop, drop-set-lt, flat_map-append, All-nil, All-cons, All-append, All-take, All-drop, All-head, All-tail}
 use Rattle.grep_core.proofs.lemmas.MatcherLemmas.{AllZip-append}
 use Rattle.line_chunks.proofs.lemmas.Joins.{joined_parts, joined_push}
 use Rattle.line_chunks.proofs.lemmas.SeenLaws.{texts-seen}
 
 -- ---- what holds of all elements
 
-all_first : {X : Type 0} (P : X → Type 0) (xs ys : List X) → All P (xs ++ ys) → All P xs
+pub all_first : {X : Type 0} (P : X → Type 0) (xs ys : List X) → All P (xs ++ ys) → All P xs
 all_first P xs ys all = subst (All P) (take-append_seam xs ys) (All-take P (length xs) (xs ++ ys) all)
 
-all_rest : {X : Type 0} (P : X → Type 0) (xs ys : List X) → All P (xs ++ ys) → All P ys
+pub all_rest : {X : Type 0} (P : X → Type 0) (xs ys : List X) → All P (xs ++ ys) → All P ys
 all_rest P xs ys all = subst (All P) (drop-append_seam xs ys) (All-drop P (length xs) (xs ++ ys) all)
 
 -- what holds of all lines holds of those of each chunk
@@ -34,7 +34,7 @@ module _ (chunks : List (List KeptLine)) (i : ℕ) (h : i < length chunks) where
 module _ (change : Change) (es : List Expression) (options : Options) where
   -- nothing was found in no chunk
   pub adds_no_column : (old : List (Option FoundIn)) → AddsColumns change es options [] old old
-  adds_no_column old = record { found = []; added = sym (append-nil old); fit = tt; are_right = λ before changed h k. tt }
+  adds_no_column old = record { found = []; added = sym (append-nil old); fit = tt; are_right = λ h k. tt }
 
   -- what was found in more chunks
   pub adds_columns : (chunks more all : List (List KeptLine)) (old mid new : List (Option FoundIn)) → all ≡ chunks ++ more → AddsColumns change es options chunks old mid → AddsColumns change es options more mid new → AddsColumns change es options all old new
@@ -42,16 +42,17 @@ module _ (change : Change) (es : List Expression) (options : Options) where
     found = a.found ++ b.found;
     added = b.added ∙ ap (λ l. l ++ b.found) a.added ∙ append_assoc old a.found b.found;
     fit = subst (λ cs. AllZip FitsColumn cs (a.found ++ b.found)) (sym both) (AllZip-append FitsColumn chunks more a.found b.found a.fit b.fit);
-    are_right = λ before changed h k.
-        let kept = subst (All (All (WasKept change before options))) both k in
+    are_right = λ h k.
+        let Kept = All (IsKept h.before h.was) in
+        let kept = subst (All Kept) both k in
         subst (λ cs. AllZip (IsColumn es options) cs (a.found ++ b.found)) (sym both)
-        (AllZip-append (IsColumn es options) chunks more a.found b.found (a.are_right before changed h (all_first (All (WasKept change before options)) chunks more kept)) (b.are_right before changed h (all_rest (All (WasKept change before options)) chunks more kept)));
+        (AllZip-append (IsColumn es options) chunks more a.found b.found (a.are_right h (all_first Kept chunks more kept)) (b.are_right h (all_rest Kept chunks more kept)));
   }
 
   -- what was found in one chunk
   pub adds_column : (chunk : List KeptLine) (one : Option FoundIn) (old new : List (Option FoundIn)) → new ≡ old ++ one ∷ [] → FitsColumn chunk one
-      → ((before changed : List Expression) → HasChanged change es before changed options → All (WasKept change before options) chunk → IsColumn es options chunk one) → AddsColumns change es options (chunk ∷ []) old new
-  adds_column chunk one old new pushed fits right = record { found = one ∷ []; added = pushed; fit = (fits, tt); are_right = λ before changed h k. (right before changed h (k 0 chunk (omega arith)), tt) }
+      → ((h : HasChanged change es options) → All (IsKept h.before h.was) chunk → IsColumn es options chunk one) → AddsColumns change es options (chunk ∷ []) old new
+  adds_column chunk one old new pushed fits right = record { found = one ∷ []; added = pushed; fit = (fits, tt); are_right = λ h k. (right h (k 0 chunk (omega arith)), tt) }
 
 -- ---- columns that are put
 
@@ -115,15 +116,14 @@ chunks_on files i file h is =
     ∙ flat_map-append chunks_of (take i files) (file ∷ []) ∙ ap (λ cs. chunks_of_files (take i files) ++ cs) (append-nil (chunks_of file))
 
 -- what is known of the lines of all files is known of those of each chunk
-pub files_by_chunk : (change : Change) (before : List Expression) (options : Options) (files : List KeptFile) → All (WasFileKept change before options) files → All (All (WasKept change before options)) (chunks_of_files files)
-files_by_chunk change before options [] all = All-nil (All (WasKept change before options))
-files_by_chunk change before options (file ∷ files) all =
-    All-append (All (WasKept change before options)) (chunks_of file) (chunks_of_files files) (by_lines file.lines (All-head (WasFileKept change before options) file files all))
-    (files_by_chunk change before options files (All-tail (WasFileKept change before options) file files all))
+pub files_by_chunk : (es : List Expression) (options : Options) (files : List KeptFile) → All (IsFileKept es options) files → All (All (IsKept es options)) (chunks_of_files files)
+files_by_chunk es options [] all = All-nil (All (IsKept es options))
+files_by_chunk es options (file ∷ files) all =
+    All-append (All (IsKept es options)) (chunks_of file) (chunks_of_files files) (by_lines file.lines (All-head (IsFileKept es options) file files all)) (files_by_chunk es options files (All-tail (IsFileKept es options) file files all))
   where
-    by_lines : (ls : Option (List (List KeptLine))) → IfSome (option_map all_of ls) (All (WasKept change before options)) → All (All (WasKept change before options)) (unwrap_or ls [])
-    by_lines None h = All-nil (All (WasKept change before options))
-    by_lines (Some chunks) h = all_by_chunk (WasKept change before options) chunks h
+    by_lines : (ls : Option (List (List KeptLine))) → IfSome (option_map all_of ls) (All (IsKept es options)) → All (All (IsKept es options)) (unwrap_or ls [])
+    by_lines None h = All-nil (All (IsKept es options))
+    by_lines (Some chunks) h = all_by_chunk (IsKept es options) chunks h
 
 -- a file that cannot be opened has no chunk
 pub no_chunks : (file : KeptFile) → file.lines ≡ None → chunks_of file ≡ []
@@ -137,8 +137,8 @@ module _ (file : KeptFile) (chunks : List (List KeptLine)) (is : file.lines ≡ 
   pub its_lines : (kept_file file).lines ≡ map line_text (all_of chunks)
   its_lines = ap (λ (ls : Option (List (List KeptLine))). (file_with file.name.items (option_map all_of ls)).lines) is
 
-  pub was_kept : (change : Change) (before : List Expression) (options : Options) → WasFileKept change before options file → All (WasKept change before options) (all_of chunks)
-  was_kept change before options kept = subst (λ (ls : Option (List (List KeptLine))). IfSome (option_map all_of ls) (All (WasKept change before options))) is kept
+  pub was_kept : (es : List Expression) (options : Options) → IsFileKept es options file → All (IsKept es options) (all_of chunks)
+  was_kept es options kept = subst (λ (ls : Option (List (List KeptLine))). IfSome (option_map all_of ls) (All (IsKept es options))) is kept
 
 -- ---- files whose lines are put one after the other
 
@@ -169,10 +169,3 @@ fit_all chunks found fit = fit_first chunks [] found (subst (λ cs. AllZip FitsC
 -- and is right for their lines
 pub right_all : (es : List Expression) (options : Options) (chunks : List (List KeptLine)) (found : List (Option FoundIn)) → AllZip (IsColumn es options) chunks found → All (IsKept es options) (all_of (with_columns chunks found))
 right_all es options chunks found right = right_chunks es options chunks [] found (subst (λ cs. AllZip (IsColumn es options) cs found) (sym (append-nil chunks)) right)
-
--- nothing has to be known of lines that are searched anew
-pub all_anew : (before : List Expression) (options : Options) (lines : List KeptLine) → All (WasKept Rebuild before options) lines
-all_anew before options lines = λ k d h. tt
-
-pub all_anew_chunks : (before : List Expression) (options : Options) (chunks : List (List KeptLine)) → All (All (WasKept Rebuild before options)) chunks
-all_anew_chunks before options chunks = λ k d h. all_anew before options (get_or chunks k d)

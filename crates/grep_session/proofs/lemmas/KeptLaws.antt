@@ -1,5 +1,5 @@
 -- If what is kept is right, the verdicts from it, the messages and the status are those of grep.
-use Rattle.grep_session.proofs.Prelude.{◌≡◌, ℕ, ◌≤◌, Bool, true, false, ◌&&◌, not, IsTrue, ◌↔◌, Decides, List, [], ◌∷◌, ◌++◌, map, All, Any, Option, None, Some, MatchBool, IfSome, refl, sym, ap, ◌∙◌, inl, inr, arith, if◌then◌else◌, list_any, Text, Expression, ArePartsFrom, AreParts, Span, Options, Status, EachGives, File, Selected, HasSelected, message, FaultMet, Stops, Reached, Message, Messages, AnySelected, StatusOf, is_fault, ending_of, status_by, KeptLine, line_text, KeptFile, span_places, kept_lines, file_with, kept_file, IsKept, IsFileKept, matches_none, is_selected, has_selected_in, has_selected, end_with, end_of, OnLine, PartsFit, LinesFit, FileFits, reported_like, reported_from, is_faulty, any_selected, any_missing, status_by_files, status_given, false≢true, All-head, All-tail, All-nil, All-cons}
+use Rattle.grep_session.proofs.Prelude.{◌≡◌, ℕ, ◌≤◌, Bool, true, false, ◌&&◌, not, IsTrue, ◌↔◌, Decides, List, [], ◌∷◌, ◌++◌, map, All, Any, Option, None, Some, MatchBool, IfSome, refl, sym, ap, ◌∙◌, inl, inr, arith, if◌then◌else◌, list_any, Text, Expression, ArePartsFrom, AreParts, Span, Options, Status, EachGives, File, Selected, HasSelected, message, FaultMet, Stops, Reached, Message, Messages, AnySelected, StatusOf, is_fault, ending_of, status_by, KeptLine, line_text, KeptFile, span_places, kept_lines, file_with, kept_file, IsKept, IsFileKept, matches_none, is_selected, has_selected_in, has_selected, end_with, end_of, OnLine, PartsFit, LinesFit, FileFits, is_faulty, any_selected, any_missing, status_by_files, status_given, false≢true, All-head, All-tail, All-nil, All-cons}
 use Rattle.std.specs.Prelude.{⊤}
 use Rattle.re_syntax.proofs.lemmas.Decisions.{Any-none, Any-first, Any-later, Any-cases}
 use Rattle.grep_core.specs.declared.status.Status.TheVariants.{Selected as selected}
@@ -45,7 +45,7 @@ module _ (es : List Expression) (options : Options) where
   fault_reported name None = decided_yes tt
   fault_reported name (Some text) = decided_no (λ h. h)
 
-  stops_reported : (file : KeptFile) → IsFileKept es options file → Decides (options.quiet && has_selected options file) (Stops es options (kept_file file))
+  pub stops_reported : (file : KeptFile) → IsFileKept es options file → Decides (options.quiet && has_selected options file) (Stops es options (kept_file file))
   stops_reported file k = both options.quiet (has_selected options file) (has_reported file.name.items (kept_lines file) k)
     where
       both : {P : Type 0} (a b : Bool) → Decides b P → Decides (a && b) (IsTrue a × P)
@@ -75,39 +75,11 @@ module _ (es : List Expression) (options : Options) where
   files_fit [] k = All-nil (FileFits options)
   files_fit (file ∷ files) k = All-cons (FileFits options) file files (file_fits (kept_lines file) (All-head (IsFileKept es options) file files k)) (files_fit files (All-tail (IsFileKept es options) file files k))
 
-  -- ---- the messages and the status for all files
+  -- ---- a message, and the status for all files
 
-  one_message : (name : Text) (kept : Option (List KeptLine)) → Message es options (file_with name kept) (message (ending_of (end_with kept)) name)
+  pub one_message : (name : Text) (kept : Option (List KeptLine)) → Message es options (file_with name kept) (message (ending_of (end_with kept)) name)
   one_message name None = inl (tt, refl)
   one_message name (Some text) = inr ((λ h. h), refl)
-
-  silent_reported : (files : List KeptFile) → reported_like options true files ≡ []
-  silent_reported [] = refl
-  silent_reported (file ∷ files) = by_stop (options.quiet && has_selected options file) (reported_like options true files) (silent_reported files)
-    where
-      by_stop : (stop : Bool) (reported : List Text) → reported ≡ [] → (if stop then [] else reported) ≡ []
-      by_stop true reported e = refl
-      by_stop false reported e = e
-
-  -- the files that are reached, and the messages about them
-  loud_reported : (files : List KeptFile) → All (IsFileKept es options) files → (reached : List File) × Reached es options (map kept_file files) reached × EachGives (Message es options) reached (reported_like options false files)
-  loud_reported [] k = ([], refl, refl)
-  loud_reported (file ∷ files) k =
-      by_stop (options.quiet && has_selected options file) (stops_reported file (All-head (IsFileKept es options) file files k)) (reported_like options false files) (loud_reported files (All-tail (IsFileKept es options) file files k))
-    where
-      by_stop : (stop : Bool) → Decides stop (Stops es options (kept_file file)) → (reported : List Text) → (rest : List File) × Reached es options (map kept_file files) rest × EachGives (Message es options) rest reported
-          → (reached : List File) × Reached es options (kept_file file ∷ map kept_file files) reached × EachGives (Message es options) reached (message (ending_of (end_of file)) file.name.items ++ (if stop then [] else reported))
-      by_stop true d reported r = (kept_file file ∷ [], ([], refl, inl (d.0 refl, refl)), (message (ending_of (end_of file)) file.name.items, [], one_message file.name.items (kept_lines file), refl, refl))
-      by_stop false d reported r =
-          (kept_file file ∷ r.0, (r.0, refl, inr ((λ s. false≢true (d.1 s)), r.1)), (message (ending_of (end_of file)) file.name.items, reported, one_message file.name.items (kept_lines file), r.2, refl))
-
-  -- the messages computed from what is kept are grep's messages
-  pub kept_messages : (files : List KeptFile) → All (IsFileKept es options) files → Messages es options (map kept_file files) (reported_from options files)
-  kept_messages files k = by_flag options.no_messages
-    where
-      by_flag : (silent : Bool) → MatchBool silent (reported_like options silent files ≡ []) ((reached : List File) × Reached es options (map kept_file files) reached × EachGives (Message es options) reached (reported_like options silent files))
-      by_flag true = silent_reported files
-      by_flag false = loud_reported files k
 
   -- the status is that of the files, where it is known whether some line is selected
   pub given_status : (files : List KeptFile) → All (IsFileKept es options) files → (known : Bool) → Decides known (AnySelected es options (map kept_file files)) → StatusOf es options (map kept_file files) (status_given options files known)

@@ -1,8 +1,9 @@
 -- The cost of the lines that are marked, one line after the other.
 use Rattle.grep_session.proofs.Prelude.{◌≡◌, cases_lt, inl, inr, ℕ, zero, suc, ◌+◌, ◌*◌, ◌<◌, ◌≤◌, Bool, true, false, if◌then◌else◌, Decides, List, [], ◌∷◌, ◌++◌, length, length-append, take, take_all, get_or, refl, sym, ap, subst, ◌∙◌, arith, add-one, take-suc, false≢true, Text, newline, terminated, Steps, AddsAtMost, Chosen, search_cost, pairs_cost, marked_cost}
+use Rattle.std.specs.Bool.{⊤}
 use Rattle.re_meter.proofs.lemmas.Adding.{adds_both, adds_within}
 use Rattle.grep_core.proofs.lemmas.ChooseLaws.{Chosen-end, Chosen-passed}
-use Rattle.grep_session.proofs.lemmas.StepLemmas.{pairs_cost-append}
+use Rattle.grep_session.proofs.lemmas.StepLemmas.{chosen_all, pairs_cost-append}
 
 module _ (mark : ℕ → Bool) (many : ℕ) (texts : List Text) where
   -- more lines cost no less
@@ -55,12 +56,25 @@ searched_next mark texts k line begun mid ended on is a b =
     let once : length line + 1 ≡ search_cost 1 line = omega arith in
     marked_next mark 1 texts k (length line + 1) begun mid ended (once ∙ ap (search_cost 1) (sym is) ∙ ap (λ b. if b then search_cost 1 (get_or texts k []) else 0) (sym on)) a b
 
--- all lines are searched
-pub terminated_cost : (many : ℕ) (texts : List Text) → many * length (terminated texts) ≡ pairs_cost many texts
-terminated_cost many [] = omega arith
-terminated_cost many (text ∷ texts) =
-    let long : length (terminated (text ∷ texts)) ≡ length text + 1 + length (terminated texts) = omega (arith, length-append text (newline ∷ terminated texts)) in
-    ap (λ k. many * k) long ∙ spread (length text + 1) (length (terminated texts)) ∙ ap (λ n. search_cost many text + n) (terminated_cost many texts)
+-- by more patterns
+pub pairs_times : (many : ℕ) (lines : List Text) → many * pairs_cost 1 lines ≡ pairs_cost many lines
+pairs_times many [] = omega arith
+pairs_times many (line ∷ lines) = spread (search_cost 1 line) (pairs_cost 1 lines) ∙ (λ i. once i + pairs_times many lines i)
   where
     spread : (a b : ℕ) → many * (a + b) ≡ many * a + many * b
     spread a b = omega arith
+
+    once : many * search_cost 1 line ≡ search_cost many line
+    once = ap (λ n. many * n) (let one : search_cost 1 line ≡ length line + 1 = omega arith in one)
+
+-- all lines are searched
+all_lengths : (texts : List Text) → length (terminated texts) ≡ pairs_cost 1 texts
+all_lengths [] = refl
+all_lengths (text ∷ texts) =
+    let rest = all_lengths texts in
+    omega (arith, rest, length-append text (newline ∷ terminated texts))
+
+pub all_marked : (texts : List Text) (count : ℕ) → length texts ≡ count → length (terminated texts) ≡ marked_cost (λ k. true) 1 texts count
+all_marked texts count is =
+    let all = marked_lines (λ k. true) 1 texts (λ text. ⊤) (λ k high. ((λ on. tt), (λ t. refl))) count is in
+    all_lengths texts ∙ ap (pairs_cost 1) (sym (chosen_all (λ text. ⊤) texts all.0 (λ text. tt) all.1)) ∙ sym all.2

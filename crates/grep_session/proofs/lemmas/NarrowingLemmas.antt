@@ -1,5 +1,5 @@
 -- A pattern's text is in that of another: it matches each line that the other one matches.
-use Rattle.grep_session.proofs.Prelude.{take-append-drop, ◌≡◌, ℕ, ◌+◌, ◌≤◌, Bool, true, false, List, [], ◌∷◌, ◌++◌, length, map, take, drop, Option, None, Some, is_some, Decides, MatchBool, if◌then◌else◌, refl, sym, ap, subst, ◌∙◌, arith, length-append, map-append, drop-append_seam, false≢true, Text, Expression, byte, cat, sequence, Holds, Matches, folded, Syntax, Fixed, IsMeant, IsSpelled, Options, FindsNeedle, Narrows, IsNarrower}
+use Rattle.grep_session.proofs.Prelude.{take-append-drop, ◌≡◌, ℕ, ◌+◌, ◌≤◌, Bool, true, false, List, [], ◌∷◌, ◌++◌, length, map, take, drop, Option, None, Some, is_some, Decides, MatchBool, if◌then◌else◌, refl, sym, ap, subst, ◌∙◌, arith, length-append, map-append, drop-append_seam, false≢true, Text, Expression, byte, cat, sequence, Holds, Matches, folded, Syntax, Fixed, IsMeant, IsSpelled, Options, FindsNeedle, Narrows}
 use Rattle.re_syntax.specs.Spelled.{as_fixed}
 use Rattle.re_syntax.proofs.lemmas.FixedStrings.{sequence-cat, cat-sequence}
 use Rattle.re_syntax.proofs.lemmas.FoldedLaws.{folded-cat}
@@ -52,7 +52,7 @@ string_means syntax fold t e fixed m =
     m.2 ∙ ap (λ s. if fold then folded s else s) (spells_one t Fixed m.0 (sequence (map byte t)) spelled as_fixed)
 
 -- a pattern whose text is in that of another matches its lines
-pub narrower_string : (syntax : Syntax) (options : Options) (old new : Text) (gone come : Expression) → Narrows syntax options old new → IsMeant syntax options.ignore_case old gone → IsMeant syntax options.ignore_case new come → IsNarrower come gone options
+pub narrower_string : (syntax : Syntax) (options : Options) (old new : Text) (gone come : Expression) → Narrows syntax options old new → IsMeant syntax options.ignore_case old gone → IsMeant syntax options.ignore_case new come → (line : Text) → Matches come line options.line_regexp → Matches gone line options.line_regexp
 narrower_string syntax options old new gone come narrows was is line m =
     let fold = options.ignore_case in
     let there : Matches come line false = subst (λ entire. Matches come line entire) narrows.1 m in

@@ -1,18 +1,12 @@
 -- How much the matchers of a session may keep, as some come and go.
-use Rattle.grep_session.proofs.Prelude.{◌≡◌, ℕ, ◌≤◌, ◌<◌, List, [], ◌∷◌, ◌++◌, length, map, get_or, sym, subst, ap, ◌∙◌, All, arith, map-append, length-map, All-append, All-nil, All-push, remove, Matcher, room_of, KeepAtMost}
+use Rattle.grep_session.proofs.Prelude.{◌≡◌, ℕ, ◌≤◌, ◌<◌, List, [], ◌∷◌, ◌++◌, length, map, get_or, sym, subst, ap, ◌∙◌, All, arith, map-append, length-map, All-append, All-nil, All-push, Matcher, room_of, KeepAtMost}
 use Rattle.std.proofs.lemmas.List.{get_or-map}
-use Rattle.grep_session.proofs.lemmas.SessionLemmas.{map-remove}
-use Rattle.grep_session.proofs.lemmas.DroppingLemmas.{All-remove}
 
 -- matchers that may keep as much as others keep at most as much
 pub keep_same : (most : ℕ) (old new : List Matcher) → map room_of new ≡ map room_of old → KeepAtMost most old → KeepAtMost most new
 keep_same most old new same h = subst (All (λ room. room ≤ most)) (sym same) h
 
--- they do so where one of them is removed
-pub keep_without : (most : ℕ) (old new : List Matcher) (k : ℕ) → new ≡ remove old k → KeepAtMost most old → KeepAtMost most new
-keep_without most old new k e h = subst (All (λ room. room ≤ most)) (sym (map-remove room_of old new k e)) (All-remove (λ room. room ≤ most) (map room_of old) k h)
-
--- and where others come after them
+-- they do so where others come after them
 pub keep_both : (most : ℕ) (old more new : List Matcher) → new ≡ old ++ more → KeepAtMost most old → KeepAtMost most more → KeepAtMost most new
 keep_both most old more new e h m = subst (All (λ room. room ≤ most)) (sym (ap (map room_of) e ∙ map-append room_of old more)) (All-append (λ room. room ≤ most) (map room_of old) (map room_of more) h m)
 

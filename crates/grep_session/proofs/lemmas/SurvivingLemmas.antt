@@ -1,14 +1,26 @@
--- The parts of a line stay the same when patterns that do not match it are added, removed or replaced.
-use Rattle.grep_session.proofs.Prelude.{◌≡◌, ℕ, ◌+◌, ◌-◌, ◌<◌, ◌≤◌, Bool, true, false, List, [], ◌∷◌, ◌++◌, inl, inr, length, Any, get_or, get_or_default, remove, set, cases_lt, sym, ap, subst, ◌∙◌, arith, length-append, OnTrue, Text, Expression, Holds, Matches, IsFound, ArePartsFrom}
+-- The parts of a line stay the same when patterns that do not match it go, and others come.
+use Rattle.grep_session.proofs.Prelude.{◌≡◌, ℕ, ◌+◌, ◌-◌, ◌<◌, ◌≤◌, ◌⊎◌, Bool, true, false, List, [], ◌∷◌, ◌++◌, inl, inr, length, Any, get_or, cases_lt, sym, ap, subst, ◌∙◌, arith, length-append, OnTrue, Text, Expression, Holds, Matches, IsFound, ArePartsFrom}
 use Rattle.std.proofs.Math.ListN.{get_or-append}
 use Rattle.std.proofs.Math.Seq.{get_or-append_right}
-use Rattle.std.proofs.lemmas.Bool.{cases_eq}
-use Rattle.std.proofs.lemmas.List.{get_or-set_other, get_or-set_same, length-set}
-use Rattle.std.proofs.lemmas.List.Edits.{get_or-remove_above, get_or-remove_below, length-remove}
 
 -- the expression is one of these
 abbrev pub In : Expression → List Expression → Type 0
 In e es = (k : ℕ) × (k < length es) × (get_or es k e ≡ e)
+
+module _ (e : Expression) (xs ys : List Expression) where
+  in_first : In e xs → In e (xs ++ ys)
+  in_first at = (at.0, omega (arith, at.1, length-append xs ys), get_or-append xs ys e at.0 at.1 ∙ at.2)
+
+  in_rest : In e ys → In e (xs ++ ys)
+  in_rest at =
+      let place : length xs + at.0 - length xs ≡ at.0 = omega arith in
+      (length xs + at.0, omega (arith, at.1, length-append xs ys), get_or-append_right xs ys (length xs + at.0) e (omega arith) ∙ ap (λ k. get_or ys k e) place ∙ at.2)
+
+  in_either : In e (xs ++ ys) → In e xs ⊎ In e ys
+  in_either at = elim (cases_lt at.0 (length xs)) [
+    | inl low ↦ inl (at.0, low, sym (get_or-append xs ys e at.0 low) ∙ at.2)
+    | inr high ↦ inr (at.0 - length xs, omega (arith, at.1, high, length-append xs ys), sym (get_or-append_right xs ys at.0 e high) ∙ at.2)
+  ]
 
 module _ (line : Text) (entire : Bool) where
   abbrev pub M : Expression → Type 0
@@ -43,36 +55,15 @@ module _ (line : Text) (entire : Bool) where
     same_parts es fs there back j ps p.1,
   )
 
-  -- patterns that do not match the line are added
-  pub parts_survive : (es fs : List Expression) → (Any M fs → ⊥) → (from : ℕ) (ps : List (ℕ × ℕ)) → ArePartsFrom es line entire from ps → ArePartsFrom (es ++ fs) line entire from ps
-  parts_survive es fs none = same_parts es (es ++ fs) (λ e m at. (at.0, omega (arith, at.1, length-append es fs), get_or-append es fs e at.0 at.1 ∙ at.2)) (λ e m at. elim (cases_lt at.0 (length es)) [
-    | inl low ↦ (at.0, low, sym (get_or-append es fs e at.0 low) ∙ at.2)
-    | inr high ↦ absurd (none (at.0 - length es, e, omega (arith, at.1, high, length-append es fs), sym (get_or-append_right es fs at.0 e high) ∙ at.2, m))
-  ])
-
-  module _ (es : List Expression) (p : ℕ) (d : Expression) (h : p < length es) (none : M (get_or es p d) → ⊥) where
-    not_it : (e : Expression) (k : ℕ) → M e → get_or es k e ≡ e → k ≡ p → ⊥
-    not_it e k m at here = none (subst M (sym at ∙ ap (λ n. get_or es n e) here ∙ get_or_default es p e d h) m)
-
-    -- one is removed
-    pub parts_without : (from : ℕ) (ps : List (ℕ × ℕ)) → ArePartsFrom es line entire from ps → ArePartsFrom (remove es p) line entire from ps
-    parts_without = same_parts es (remove es p) (λ e m at. elim (cases_lt at.0 p) [
-      | inl low ↦ (at.0, omega (arith, low, h, length-remove es p h), get_or-remove_below es p e at.0 low h ∙ at.2)
-      | inr high ↦ (
-          let more : p + 1 ≤ at.0 = elim (cases_lt p at.0) [ inl l ↦ omega (arith, l) | inr g ↦ absurd (not_it e at.0 m at.2 (omega (arith, high, g))) ] in
-          let next : at.0 - 1 + 1 ≡ at.0 = omega (arith, more) in
-          (at.0 - 1, omega (arith, at.1, more, length-remove es p h), get_or-remove_above es p e (at.0 - 1) (omega (arith, more)) h ∙ ap (λ n. get_or es n e) next ∙ at.2))
-    ]) (λ e m at. elim (cases_lt at.0 p) [
-      | inl low ↦ (at.0, omega (arith, low, h), sym (get_or-remove_below es p e at.0 low h) ∙ at.2)
-      | inr high ↦ (at.0 + 1, omega (arith, at.1, length-remove es p h), sym (get_or-remove_above es p e at.0 high h) ∙ at.2)
-    ])
-
-    -- one is replaced
-    pub parts_replaced : (y : Expression) → (M y → ⊥) → (from : ℕ) (ps : List (ℕ × ℕ)) → ArePartsFrom es line entire from ps → ArePartsFrom (set es p y) line entire from ps
-    parts_replaced y no_more = same_parts es (set es p y) (λ e m at. elim (cases_eq at.0 p) [
-      | inl here ↦ absurd (not_it e at.0 m at.2 here)
-      | inr apart ↦ (at.0, omega (arith, at.1, length-set es p y), get_or-set_other es p at.0 y e apart ∙ at.2)
-    ]) (λ e m at. elim (cases_eq at.0 p) [
-      | inl here ↦ absurd (no_more (subst M (sym at.2 ∙ ap (λ n. get_or (set es p y) n e) here ∙ get_or-set_same es p y e h) m))
-      | inr apart ↦ (at.0, omega (arith, at.1, length-set es p y), sym (get_or-set_other es p at.0 y e apart) ∙ at.2)
-    ])
+  -- expressions that do not match the line are put in the place of others
+  pub parts_survive : (front gone come back : List Expression) → (Any M gone → ⊥) → (Any M come → ⊥) → (from : ℕ) (ps : List (ℕ × ℕ)) → ArePartsFrom (front ++ (gone ++ back)) line entire from ps → ArePartsFrom (front ++ (come ++ back)) line entire from ps
+  parts_survive front gone come back no_more none = same_parts (front ++ (gone ++ back)) (front ++ (come ++ back)) (others gone come no_more) (others come gone none)
+    where
+      others : (xs ys : List Expression) → (Any M xs → ⊥) → Among (front ++ (xs ++ back)) (front ++ (ys ++ back))
+      others xs ys none e m at = elim (in_either e front (xs ++ back) at) [
+        | inl f ↦ in_first e front (ys ++ back) f
+        | inr r ↦ in_rest e front (ys ++ back) (elim (in_either e xs back r) [
+          | inl x ↦ absurd (none (x.0, e, x.1, x.2, m))
+          | inr b ↦ in_rest e ys back b
+        ])
+      ]

@@ -1,7 +1,8 @@
 -- What is found in the lines of a chunk after a change of the patterns, and put in a column.
-use Rattle.std.specs.Prelude.{◌≡◌, ℕ, zero, suc, ◌<◌, ⊤, Bool, true, false, List, [], ◌++◌, All, length, drop, get_or, nat_eq, nat_lt, not, slice_range, ◌+◌, ◌≤◌, ◌&&◌, Option, Some, None, if◌then◌else◌, IsTrue, take, ◌||◌}
-use Rattle.std.specs.List.{AllZip, filter}
-use Rattle.std.specs.Bool.{Decides}
+use Rattle.std.specs.Prelude.{◌≡◌, ℕ, zero, suc, ◌<◌, Bool, true, false, List, [], ◌++◌, All}
+use Rattle.std.specs.Prelude.{length, drop, take, get_or, slice_range, ◌+◌, ◌-◌, ◌≤◌, ◌&&◌, ◌||◌}
+use Rattle.std.specs.Prelude.{Option, Some, None, if◌then◌else◌}
+use Rattle.std.specs.List.{AllZip, Any}
 use Rattle.re_syntax.specs.Bytes.{Text}
 use Rattle.re_syntax.specs.Expression.{Expression}
 use Rattle.re_syntax.specs.Holds.{Matches}
@@ -9,120 +10,67 @@ use Rattle.re_syntax.specs.Lines.{terminated}
 use Rattle.re_trees.specs.declared.span.Span.{Span}
 use Rattle.grep_core.specs.declared.options.Options.{Options}
 use Rattle.grep_core.specs.Cost.{search_cost}
-use Rattle.grep_core.specs.Files.{Matched}
-use Rattle.line_chunks.specs.Working.Finds.{FoundIn, AreBelow, is_paired, numbers_at, without}
+use Rattle.line_chunks.specs.Working.Finds.{FoundIn, AreBelow, has_own, is_paired, left_numbers}
+use Rattle.line_chunks.specs.Working.Finds.{numbers_at}
 use Rattle.line_chunks.specs.Working.Chunks.{KeptLine, no_line, FitsColumn}
 use Rattle.grep_session.specs.declared.change.Change.{Change}
-use Rattle.grep_session.specs.declared.change.Change.TheVariants.{Rebuild, Added, Dropped, Replaced}
-use Rattle.grep_session.specs.Working.Changed.{HasChanged, WasKept, is_narrower}
+use Rattle.grep_session.specs.Working.Changed.{HasChanged}
 use Rattle.grep_session.specs.Working.Found.{IsColumn}
-use Rattle.grep_session.specs.Working.Kept.{AddsMatching, ArePartsKept, has_number}
+use Rattle.grep_session.specs.Working.Kept.{AddsMatching, ArePartsKept, IsKept}
 
 -- ---- the numbers of a line
 
--- of so many patterns, the number of the first that is searched for after a change
-abbrev pub first_sought : Change → ℕ → ℕ
-first_sought Rebuild many = 0
-first_sought (Added first) many = first
-first_sought (Replaced p narrower) many = p
-first_sought _ many = many
+-- an expression that went matched the line with these pairs
+abbrev pub had_gone : Change → List (ℕ × ℕ) → ℕ → Bool
+had_gone change old k = has_own change.first change.gone (numbers_at k old)
 
--- the number after the last that is searched for
-abbrev pub past_sought : Change → ℕ → ℕ
-past_sought (Replaced p narrower) many = p + 1
-past_sought _ many = many
-
--- those that are searched for
-abbrev pub sought : Change → List Expression → List Expression
-sought change es = drop (first_sought change (length es)) (take (past_sought change (length es)) es)
-
--- the numbers that stay, of those that were kept of a line
-abbrev pub left_numbers : Change → List ℕ → List ℕ
-left_numbers Rebuild numbers = []
-left_numbers (Dropped p) numbers = without p numbers
-left_numbers (Replaced p narrower) numbers = filter (λ n. not (nat_eq n p)) numbers
-left_numbers _ numbers = numbers
-
--- the pairs are those of `old` that stay; where patterns are added, all do
-abbrev pub KeepsAll : Change → List (ℕ × ℕ) → List (ℕ × ℕ) → Type 0
-KeepsAll (Added first) old left = left ≡ old
-KeepsAll _ old left = ⊤
-
-pub record AreLeft (change : Change) (size : ℕ) (old left : List (ℕ × ℕ)) : Type 0 where
-  pub within : AreBelow size left
-  pub numbers : (k : ℕ) → numbers_at k left ≡ left_numbers change (numbers_at k old)
-  pub all : KeepsAll change old left
+-- the line is searched by the expressions that came
+abbrev pub is_sought : Change → List (ℕ × ℕ) → ℕ → Bool
+is_sought change old k = if change.narrower then had_gone change old k else true
 
 -- for each of the lines, the numbers of the expressions that match it were added, of which the
--- first has the number `first`
-pub record AddsColumn (texts : List Text) (entire : Bool) (first : ℕ) (es : List Expression)
-    (old new : List (ℕ × ℕ)) : Type 0 where
+-- first has the number `first`, if none matches one of the lines that are not searched
+pub record AddsColumn (sought : ℕ → Bool) (texts : List Text) (entire : Bool) (first : ℕ)
+    (es : List Expression) (old new : List (ℕ × ℕ)) : Type 0 where
   pub more : List (ℕ × ℕ)
   pub added : new ≡ old ++ more
   pub within : AreBelow (length texts) more
   pub numbers : (k : ℕ) → k < length texts →
+      (sought k ≡ false → ¬ Any (λ e. Matches e (get_or texts k []) entire) es) →
       AddsMatching (get_or texts k []) entire first es (numbers_at k old) (numbers_at k new)
 
--- pairs of so many lines were added
-pub record AddsPairs (size : ℕ) (old new : List (ℕ × ℕ)) : Type 0 where
-  pub more : List (ℕ × ℕ)
-  pub added : new ≡ old ++ more
-  pub within : AreBelow size more
+-- the expressions that came
+abbrev pub came : Change → List Expression → List Expression
+came change es = drop change.first (take (change.first + change.come) es)
 
--- whether an expression of these matches a line is said by the pairs of this number
-abbrev pub WereMatched : List Expression → Options → List Text → ℕ → List (ℕ × ℕ) → Type 0
-WereMatched es options texts number pairs =
-    (k : ℕ) → k < length texts →
-    Decides (has_number number (numbers_at k pairs)) (Matched es options (get_or texts k []))
+-- the old pairs of the expressions that stay
+pub record AreLeft (change : Change) (size : ℕ) (old left : List (ℕ × ℕ)) : Type 0 where
+  pub within : AreBelow size left
+  pub numbers : (k : ℕ) → numbers_at k left ≡
+      left_numbers change.first change.gone (change.gone - change.come) (numbers_at k old)
+  pub same : All (λ pair. pair.1 < change.first) old → left ≡ old
 
--- the lines that the expression matches have pairs of this number
-abbrev pub IsAmong : Expression → Bool → List Text → ℕ → List (ℕ × ℕ) → Type 0
-IsAmong e entire texts number pairs =
-    (k : ℕ) → k < length texts → Matches e (get_or texts k []) entire →
-    IsTrue (has_number number (numbers_at k pairs))
-
--- if the expression that is searched for is narrower than the one before, it matches lines of old
--- pairs alone
-abbrev pub IsAmongOld : Change → List Text → Bool → List Expression → List (ℕ × ℕ) → Type 0
-IsAmongOld change texts entire es old =
-    IsTrue (is_narrower change) → (e : Expression) →
-    e ≡ get_or es (first_sought change (length es)) e →
-    IsAmong e entire texts (first_sought change (length es)) old
-
--- the pairs of the expressions that are searched for after a change were added
-pub record AddsSought (change : Change) (texts : List Text) (entire : Bool) (es : List Expression)
-    (old left mid : List (ℕ × ℕ)) : Type 0 where
-  pub pairs : AddsPairs (length texts) left mid
-  pub adds : IsAmongOld change texts entire es old →
-      AddsColumn texts entire (first_sought change (length es)) (sought change es) left mid
-
--- the pairs that stay, and those of the expressions that are searched for after a change
+-- they, and the pairs of those that came
 pub record AreMatches (change : Change) (texts : List Text) (entire : Bool) (es : List Expression)
     (old new : List (ℕ × ℕ)) : Type 0 where
   pub left : List (ℕ × ℕ)
   pub are_left : AreLeft change (length texts) old left
-  pub sought : AddsSought change texts entire es old left new
+  pub adds : AddsColumn (is_sought change old) texts entire change.first (came change es) left new
 
 -- ---- the parts of a line
 
 -- the parts of a line that some expression matches are searched anew, by the numbers that were kept
 -- of it and the new ones
 abbrev pub has_new_parts : Change → List ℕ → List ℕ → Bool
-has_new_parts (Added first) old new = nat_lt (length old) (length new)
-has_new_parts (Dropped p) old new = has_number p old
-has_new_parts (Replaced p narrower) old new = has_number p old || has_number p new
-has_new_parts _ old new = true
+has_new_parts change old new =
+    change.all_parts ||
+    (has_own change.first change.gone old || has_own change.first change.come new)
 
--- what was found stays: no pair was added, or none was there and none came
-abbrev pub StaysSame : Change → List (ℕ × ℕ) → List (ℕ × ℕ) → Type 0
-StaysSame (Added first) old new = length old ≡ length new
-StaysSame (Replaced p narrower) old new = (length old ≡ 0) × (length new ≡ 0)
-StaysSame _ old new = ⊥
-
--- where patterns are added, the new pairs are the old ones and more
-abbrev pub Grows : Change → List (ℕ × ℕ) → List (ℕ × ℕ) → Type 0
-Grows (Added first) old new = (more : List (ℕ × ℕ)) × (new ≡ old ++ more)
-Grows _ old new = ⊤
+-- what was found stays: no expression that went or moved had a pair, and none was added
+pub record StaysSame (change : Change) (old new : List (ℕ × ℕ)) : Type 0 where
+  pub some : change.all_parts ≡ false
+  pub as_many : length new ≡ length old
+  pub earlier : All (λ pair. pair.1 < change.first) old
 
 -- the parts of a line: none if no expression matches it, searched anew, or those that were kept
 abbrev pub ArePartsAgain : Bool → Bool → List Expression → Options → KeptLine → List Span → Type 0
@@ -146,10 +94,6 @@ marked_cost mark many texts zero = 0
 marked_cost mark many texts (suc k) =
     marked_cost mark many texts k + (if mark k then search_cost many (get_or texts k []) else 0)
 
--- a line has a pair of this number
-abbrev pub has_pair : ℕ → List (ℕ × ℕ) → ℕ → Bool
-has_pair number pairs k = has_number number (numbers_at k pairs)
-
 -- the parts of a line are searched anew
 abbrev pub is_parted : Change → List (ℕ × ℕ) → List (ℕ × ℕ) → ℕ → Bool
 is_parted change old new k =
@@ -163,8 +107,8 @@ pub record AddsColumns (change : Change) (es : List Expression) (options : Optio
   pub found : List (Option FoundIn)
   pub added : new ≡ old ++ found
   pub fit : AllZip FitsColumn chunks found
-  pub are_right : (before changed : List Expression) → HasChanged change es before changed options →
-      All (All (WasKept change before options)) chunks → AllZip (IsColumn es options) chunks found
+  pub are_right : (h : HasChanged change es options) → All (All (IsKept h.before h.was)) chunks →
+      AllZip (IsColumn es options) chunks found
 
 -- ---- the next line of a chunk that an expression matches
 

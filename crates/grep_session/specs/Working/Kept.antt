@@ -12,6 +12,7 @@ use Rattle.re_trees.specs.declared.span.Span.{Span}
 use Rattle.grep_core.specs.declared.options.Options.{Options}
 use Rattle.grep_core.specs.Files.{File, whole, missing}
 use Rattle.line_chunks.specs.Working.Chunks.{KeptLine, line_text, all_of}
+use Rattle.line_chunks.specs.Working.Finds.{no_finds}
 use Rattle.grep_session.specs.declared.kept.KeptFile.{KeptFile}
 
 -- ---- what is found in a line
@@ -32,6 +33,10 @@ pub record AddsMatching (line : Text) (entire : Bool) (first : ℕ) (es : List E
   pub found : List ℕ
   pub are_found : AreMatching line entire first es found
   pub added : new ≡ old ++ found
+
+-- nothing is found in the line
+abbrev pub IsNew : KeptLine → Type 0
+IsNew line = line.found ≡ no_finds
 
 -- a span as a pair of places
 abbrev pub span_places : Span → ℕ × ℕ

@@ -1,26 +1,25 @@
--- What is written for the kept files, as a function of what is kept.
-use Rattle.std.specs.Prelude.{◌==◌, ℕ, ◌+◌, ◌≤◌, Bool, false, ◌&&◌, ◌||◌, not, IsTrue, List, []}
+-- What is written for the kept files, by what is kept.
+use Rattle.std.specs.Prelude.{◌≡◌, ◌==◌, ℕ, ◌+◌, ◌<◌, ◌≤◌, Bool, true, false, ◌&&◌, not, IsTrue, List, []}
 use Rattle.std.specs.Prelude.{◌∷◌, ◌++◌, All, map, length, slice_range, Option, None, Some}
 use Rattle.std.specs.Prelude.{if◌then◌else◌, Result, IfOk}
 use Rattle.std.specs.List.{list_any}
 use Rattle.re_syntax.specs.Bytes.{Text}
 use Rattle.re_syntax.specs.Expression.{Expression}
 use Rattle.re_trees.specs.declared.span.Span.{Span}
+use Rattle.grep_core.specs.declared.options.Context.{Context}
 use Rattle.grep_core.specs.declared.options.Options.{Options}
-use Rattle.grep_core.specs.declared.output.around.Progress.{Progress}
-use Rattle.grep_core.specs.declared.output.around.Shown.{Shown}
 use Rattle.grep_core.specs.declared.status.FileEnd.{FileEnd}
 use Rattle.grep_core.specs.declared.status.FileEnd.TheVariants.{Missing, Whole}
 use Rattle.grep_core.specs.declared.status.Status.{Status}
 use Rattle.grep_core.specs.declared.status.Status.TheVariants.{Selected as selected}
-use Rattle.grep_core.specs.Row.{colon, head}
+use Rattle.grep_core.specs.Around.{IsShown, group_separator}
 use Rattle.grep_core.specs.Files.{File}
-use Rattle.grep_core.specs.Output.{Form, parts, lines, around, form, shown_number, Out, written}
+use Rattle.grep_core.specs.Output.{Form, parts, lines, around, Out, written}
 use Rattle.grep_core.specs.Messages.{Messages, StatusOf}
-use Rattle.grep_core.specs.Working.Progress.{progress_from, next_shown, after_line, last_of}
-use Rattle.grep_core.specs.Working.Progress.{rows_at}
-use Rattle.grep_core.specs.Working.Searched.{is_fault, summary_as, reported_of, status_by}
-use Rattle.grep_core.specs.Working.Requests.{name_shown, selects}
+use Rattle.grep_core.specs.Working.Groups.{rows_after}
+use Rattle.grep_core.specs.Working.Progress.{row_by}
+use Rattle.grep_core.specs.Working.Searched.{is_fault, status_by}
+use Rattle.grep_core.specs.Working.Requests.{selects}
 use Rattle.grep_core.specs.Written.{Writes}
 use Rattle.line_chunks.specs.Working.Chunks.{KeptLine, line_text}
 use Rattle.grep_session.specs.declared.kept.KeptFile.{KeptFile}
@@ -78,84 +77,51 @@ abbrev pub FileFits : Options → KeptFile → Type 0
 FileFits options file = LinesFit options (kept_lines file)
 
 module _ (options : Options) (many : Bool) (name : Text) where
-  -- the row with this text for the line of this number
-  abbrev pub row : ℕ → Text → Text
-  row number text = head colon (name_shown many name) (shown_number options number) ++ text
-
   -- the rows of the parts of a line
   abbrev pub part_rows : ℕ → Text → List Span → List Text
   part_rows number text spans =
-      map (λ span. row number (slice_range text span.start span.end)) spans
+      map (λ span. row_by options many name true number (slice_range text span.start span.end)) spans
 
-  -- the rows of a selected line, by the form of the output
-  abbrev pub selected_rows : Form → ℕ → KeptLine → List Text
-  selected_rows lines number line = row number (line_text line) ∷ []
-  selected_rows parts number line = part_rows number (line_text line) line.found.spans
-  selected_rows _ number line = []
+  -- the row of a line, after a separator if there is one
+  abbrev pub around_rows : Bool → Bool → ℕ → Text → List Text
+  around_rows separated found number text =
+      (if separated then group_separator ∷ [] else []) ++ row_by options many name found number text ∷ []
 
-  module _ (shape : Form) where
-    abbrev pub line_rows_as : ℕ → KeptLine → List Text
-    line_rows_as number line =
-        if is_selected options line then selected_rows shape number line else []
+  -- what is written for a line that is shown, by the form of the output
+  abbrev pub place_rows : Form → Bool → ℕ → KeptLine → List Text
+  place_rows lines separated number line = row_by options many name true number (line_text line) ∷ []
+  place_rows parts separated number line = part_rows number (line_text line) line.found.spans
+  place_rows (around context) separated number line =
+      around_rows separated (is_selected options line) number (line_text line)
+  place_rows _ separated number line = []
 
-    -- the rows of lines, the first of which has this number
-    abbrev pub rows_as : ℕ → List KeptLine → List Text
-    rows_as number [] = []
-    rows_as number (line ∷ more) = line_rows_as number line ++ rows_as (number + 1) more
+-- how many lines are shown around selected ones, where lines or parts of them are written
+abbrev pub context_as : Form → Option Context
+context_as lines = Some (record { before = 0; after = 0 })
+context_as parts = Some (record { before = 0; after = 0 })
+context_as (around context) = Some context
+context_as _ = None
 
-  abbrev pub rows_from : ℕ → List KeptLine → List Text
-  rows_from number text = rows_as (form options) number text
+-- the first shown line from a place on, or the number of lines
+pub record NextShown (es : List Expression) (options : Options) (context : Context)
+    (texts : List Text) (place next : ℕ) : Type 0 where
+  pub after : place ≤ next
+  pub within : next ≤ length texts
+  pub passed : (i : ℕ) → place ≤ i → i < next → ¬ IsShown es options context texts i
+  pub hit : next < length texts → IsShown es options context texts next
 
-  -- what is written at a line, by what is shown there; `before` are the lines before it
-  abbrev pub shown_rows : Bool → Shown → List Text → KeptLine → List Text
-  shown_rows found shown before line =
-      rows_at options many name found shown (last_of shown.before before) (length before + 1)
-      (line_text line)
+-- what is due was written, or a beginning of it. `some` says whether a group of lines was written
+-- before, and so does the answer for what follows
+pub record WritesGroups {W E : Type 0} (contents : W → Option Text) (failures : W → ℕ)
+    (Due : List Text → Type 0) (shape : Form) (margin : Text) (some : Bool) (old new : W)
+    (result : Result Bool E) : Type 0 where
+  pub groups : List Text
+  pub are_due : Due groups
+  pub wrote : Writes contents failures old new (written margin (rows_after shape some groups)) result
+  pub goes_on : IfOk result (λ now. (more : List Text) →
+      rows_after shape some (groups ++ more) ≡ rows_after shape some groups ++ rows_after shape now more)
 
-  -- what is written for the lines after the lines `before`, from this progress on
-  abbrev pub around_rows : Progress → List Text → List KeptLine → List Text
-  around_rows p before [] = []
-  around_rows p before (line ∷ more) =
-      shown_rows (is_selected options line) (next_shown p (is_selected options line)) before line
-      ++ around_rows (after_line p (is_selected options line)) (before ++ line_text line ∷ []) more
-
-  -- what is written for a file's lines; `some` says whether a line of an earlier file is selected
-  abbrev pub text_rows : Form → Bool → List KeptLine → List Text
-  text_rows (around context) some text = around_rows (progress_from context some) [] text
-  text_rows shape some text = rows_as shape 1 text
-
-  -- the same, and the summary that is written after them
-  abbrev pub rows_with : Bool → Option (List KeptLine) → List Text
-  rows_with some None = summary_as (form options) many name Missing 0
-  rows_with some (Some text) =
-      text_rows (form options) some text
-      ++ summary_as (form options) many name Whole (selected_count options text)
-
-abbrev pub file_rows : Options → Bool → Bool → KeptFile → List Text
-file_rows options many some file = rows_with options many file.name.items some (kept_lines file)
-
--- what is written for files; `some` says whether a line of an earlier file is selected
-abbrev pub rows_after_laws : Options → Bool → Bool → List KeptFile → List Text
-rows_after_laws options many some [] = []
-rows_after_laws options many some (file ∷ files) =
-    file_rows options many some file
-    ++ rows_after_laws options many (some || has_selected options file) files
-
--- what is written for all files
-abbrev pub report_rows : Options → Bool → List KeptFile → List Text
-report_rows options many files = rows_after_laws options many false files
-
--- ---- messages and status
-
--- the messages about files, up to the file at which a run stops under `-q`
-abbrev pub reported_like : Options → Bool → List KeptFile → List Text
-reported_like options silent [] = []
-reported_like options silent (file ∷ files) =
-    reported_of silent (end_of file) file.name.items
-    ++ (if options.quiet && has_selected options file then [] else reported_like options silent files)
-
-abbrev pub reported_from : Options → List KeptFile → List Text
-reported_from options files = reported_like options options.no_messages files
+-- ---- the status
 
 -- the file cannot be opened
 abbrev pub is_faulty : KeptFile → Bool

@@ -12,7 +12,7 @@ ghost use Rattle.grep_session.specs.Working.Kept.{span_places};
 ghost use Rattle.grep_session.specs.Listed.{ListedParts};
 
 use crate::caches::{Caches, kept_by};
-use crate::hit::{Hit, hit_at};
+use crate::hit::Hit;
 use crate::session::Session;
 use line_marks::Mark;
 
@@ -45,10 +45,7 @@ impl Session {
             (λ hit. Selected es self.now.inputs.options line × (hit.text.now ≡ line) ×
             ListedParts es self.now.inputs.options line (map span_places hit.parts.now)) }
     {
-        let Some(lines) = &self.files[k].lines else {
-            return None;
-        };
-        hit_at(lines, place, &self.options)
+        self.files[k].hit(&self.options, place)
     }
 
     /// The number of lines of file `k` before line `place` that grep selects.

@@ -1,5 +1,5 @@
 -- Lines with what is found in each, looked up by their numbers.
-use Rattle.line_chunks.proofs.Prelude.{◌≡◌, ℕ, suc, zero, ◌+◌, ◌-◌, ◌<◌, ◌≤◌, List, [], ◌∷◌, ◌++◌, length, map, take, drop, get_or, refl, ap, sym, ◌∙◌, arith, add-zero, length-append, take-append-le, drop_all, take_all, append-nil, length-take, length-drop, Text, no_finds, FoundIn, finds_at, numbers_at, without, paired_before, KeptLine, no_line, new_line, line_text, matched_count, seen_from, seen, line_without}
+use Rattle.line_chunks.proofs.Prelude.{◌≡◌, ℕ, suc, zero, ◌+◌, ◌-◌, ◌<◌, ◌≤◌, List, [], ◌∷◌, ◌++◌, length, map, take, drop, get_or, refl, ap, sym, ◌∙◌, arith, add-zero, length-append, length-take, length-drop, Text, no_finds, FoundIn, finds_at, numbers_at, without, paired_before, KeptLine, no_line, new_line, line_text, matched_count, seen_from, seen, line_without, get_or-map, length-map, bare}
 
 pub length-seen : (k : ℕ) (texts : List Text) (found : FoundIn) → length (seen_from k texts found) ≡ length texts
 length-seen k [] found = refl
@@ -95,17 +95,22 @@ seen_without k p (text ∷ texts) f g each =
 
 -- ---- lines are added
 
+-- the same is found in the lines that were there
+pub seen_same : (texts : List Text) (f g : FoundIn) → f.size ≡ length texts
+    → ((k : ℕ) → k < f.size → finds_at g k ≡ finds_at f k) → seen texts g ≡ seen texts f
+seen_same texts f g size old =
+    seen_moved 0 0 texts g f
+    (λ i h.
+    (let at : 0 + i ≡ i = omega arith in
+    ap (finds_at g) at ∙ old i (omega (arith, size, h)) ∙ ap (finds_at f) (sym at)))
+
 pub line_added : (texts new : List Text) (text : Text) (f g : FoundIn) → f.size ≡ length texts
     → new ≡ texts ++ text ∷ [] → ((k : ℕ) → k < f.size → finds_at g k ≡ finds_at f k)
     → finds_at g f.size ≡ no_finds → seen new g ≡ seen texts f ++ new_line text ∷ []
 line_added texts new text f g size is old last =
     let here : 0 + length texts ≡ f.size = omega (arith, size) in
-    let same : (i : ℕ) → i < length texts → finds_at g (0 + i) ≡ finds_at f (0 + i) =
-    λ i h.
-    (let at : 0 + i ≡ i = omega arith in
-    ap (finds_at g) at ∙ old i (omega (arith, size, h)) ∙ ap (finds_at f) (sym at)) in
     ap (λ xs. seen xs g) is ∙ seen-append 0 texts (text ∷ []) g ∙
-    ap (λ xs. xs ++ seen_from (0 + length texts) (text ∷ []) g) (seen_moved 0 0 texts g f same) ∙
+    ap (λ xs. xs ++ seen_from (0 + length texts) (text ∷ []) g) (seen_same texts f g size old) ∙
     ap (λ found. seen texts f ++ record { text = text; found = found } ∷ []) (ap (finds_at g) here ∙ last)
 
 pub part_added : (texts new others : List Text) (f g h : FoundIn) (from to : ℕ) → f.size ≡ length texts
@@ -116,17 +121,13 @@ pub part_added : (texts new others : List Text) (f g h : FoundIn) (from to : ℕ
 part_added texts new others f g h from to size within order is old more =
     let xs : List Text = take (to - from) (drop from others) in
     let many : length xs ≤ to - from = omega (arith, length-take (to - from) (drop from others)) in
-    let same : (i : ℕ) → i < length texts → finds_at g (0 + i) ≡ finds_at f (0 + i) =
-    λ i inside.
-    (let at : 0 + i ≡ i = omega arith in
-    ap (finds_at g) at ∙ old i (omega (arith, size, inside)) ∙ ap (finds_at f) (sym at)) in
     let moved : (i : ℕ) → i < length xs → finds_at g (0 + length texts + i) ≡ finds_at h (0 + from + i) =
     λ i inside.
     (let at : 0 + length texts + i ≡ f.size + i = omega (arith, size) in
     let to_at : from + i ≡ 0 + from + i = omega arith in
     ap (finds_at g) at ∙ more i (omega (arith, inside, many)) ∙ ap (finds_at h) to_at) in
     ap (λ ys. seen ys g) is ∙ seen-append 0 texts xs g ∙
-    ap (λ ys. ys ++ seen_from (0 + length texts) xs g) (seen_moved 0 0 texts g f same) ∙
+    ap (λ ys. ys ++ seen_from (0 + length texts) xs g) (seen_same texts f g size old) ∙
     ap (λ ys. seen texts f ++ ys)
     (seen_moved (0 + length texts) (0 + from) xs g h moved ∙
     sym (take-seen (0 + from) (to - from) (drop from others) h) ∙
@@ -160,25 +161,25 @@ lines_removed texts new f g from to order within is before after =
 
 -- ---- a chunk's lines, of which the text and what is found are kept apart
 
-module _ (lines : List KeptLine) (texts : List Text) (found : FoundIn) (view : seen texts found ≡ lines) where
-  pub texts_are : texts ≡ map line_text lines
-  texts_are = sym (texts-seen 0 texts found) ∙ ap (map line_text) view
+module _ (lines : List Text) (found : FoundIn) {kept : List KeptLine} (view : seen (map bare lines) found ≡ kept) where
+  pub texts_are : map bare lines ≡ map line_text kept
+  texts_are = sym (texts-seen 0 (map bare lines) found) ∙ ap (map line_text) view
 
-  pub as_many : length texts ≡ length lines
-  as_many = sym (length-seen 0 texts found) ∙ ap length view
+  pub as_many : length lines ≡ length kept
+  as_many = sym (length-map lines bare) ∙ sym (length-seen 0 (map bare lines) found) ∙ ap length view
 
-  seen_at : (k : ℕ) → k < length lines
-      → record { text = get_or texts k []; found = finds_at found k } ≡ get_or lines k no_line
+  seen_at : (k : ℕ) → k < length kept
+      → record { text = bare (get_or lines k []); found = finds_at found k } ≡ get_or kept k no_line
   seen_at k h =
-      let inside : k < length texts = omega (arith, as_many, h) in
       let at : k ≡ 0 + k = omega arith in
-      ap (λ n. record { text = get_or texts k []; found = finds_at found n }) at ∙
-      sym (line_seen 0 texts found k inside) ∙ ap (λ xs. get_or xs k no_line) view
+      let inside : k < length lines = omega (arith, as_many, h) in
+      (λ j. record { text = sym (get_or-map bare lines k [] [] inside) j; found = finds_at found (at j) }) ∙
+      sym (line_seen 0 (map bare lines) found k (omega (arith, length-map lines bare, inside))) ∙ ap (λ xs. get_or xs k no_line) view
 
-  pub text_at : (k : ℕ) → k < length lines → get_or texts k [] ≡ line_text (get_or lines k no_line)
+  pub text_at : (k : ℕ) → k < length kept → bare (get_or lines k []) ≡ line_text (get_or kept k no_line)
   text_at k h = ap line_text (seen_at k h)
 
-  pub found_at : (k : ℕ) → k < length lines → finds_at found k ≡ (get_or lines k no_line).found
+  pub found_at : (k : ℕ) → k < length kept → finds_at found k ≡ (get_or kept k no_line).found
   found_at k h = ap (λ (line : KeptLine). line.found) (seen_at k h)
 
 -- ---- as many findings as lines
@@ -210,21 +211,3 @@ size_added texts new others f g from to size within order is more =
       length-take (to - from) (drop from others),
       length-drop from others,
     )
-
--- what was added is removed again
-pub part_undone : (texts longer new : List Text) (f g : FoundIn) (more : List Text) (before after : ℕ)
-    → before ≡ length texts → longer ≡ texts ++ more → after ≡ length longer
-    → new ≡ take before longer ++ drop after longer → ((k : ℕ) → k < f.size → finds_at g k ≡ finds_at f k)
-    → f.size ≡ length texts → seen new g ≡ seen texts f
-part_undone texts longer new f g more before after first is last undone old size =
-    let none : drop after longer ≡ [] = drop_all after longer (omega (arith, last)) in
-    let enough : before ≤ length texts = omega (arith, first) in
-    let kept : take before longer ≡ texts =
-    ap (take before) is ∙ take-append-le before texts more enough ∙ take_all before texts (omega (arith, first)) in
-    let same : new ≡ texts =
-    undone ∙ ap (λ xs. take before longer ++ xs) none ∙ append-nil (take before longer) ∙ kept in
-    let each : (i : ℕ) → i < length texts → finds_at g (0 + i) ≡ finds_at f (0 + i) =
-    λ i h.
-    (let at : 0 + i ≡ i = omega arith in
-    ap (finds_at g) at ∙ old i (omega (arith, size, h)) ∙ ap (finds_at f) (sym at)) in
-    ap (λ xs. seen xs g) same ∙ seen_moved 0 0 texts g f each

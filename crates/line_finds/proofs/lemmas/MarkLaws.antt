@@ -1,5 +1,5 @@
--- Marks of lines that are paired with some pattern, or with one.
-use Rattle.line_finds.proofs.Prelude.{◌≡◌, ℕ, suc, ◌-◌, ◌<◌, ◌==◌, Bool, true, false, not, ◌||◌, List, [], ◌∷◌, inl, inr, length, take, drop, replicate, nat_eq, get_or, cond, sym, ap, subst, ◌∙◌, arith, list_any, cases_eq, nat_tests, set, get_or-map, or-true, or-false, length-map, length-set, get_or-set_other, take_rest, drop-map, length-replicate, get_or-replicate, get_or-set_at, All-head, All-tail, All-get_or, All-drop, Match, numbers_at, is_paired, AreBelow, pair_of, pairs_of, marked, marked_of}
+-- Marks of lines that are paired with some pattern, or with some of them.
+use Rattle.line_finds.proofs.Prelude.{◌≡◌, ℕ, suc, ◌<◌, ◌==◌, Bool, true, false, not, ◌||◌, List, [], ◌∷◌, inl, inr, length, replicate, get_or, cond, sym, ap, subst, ◌∙◌, arith, list_any, cases_eq, nat_tests, set, get_or-map, or-true, or-false, length-map, length-set, get_or-set_other, length-replicate, get_or-replicate, get_or-set_at, All-head, All-tail, All-get_or, Match, numbers_at, has_own, is_other, is_paired, AreBelow, pair_of, pairs_of, marked, marked_of}
 use Rattle.std.proofs.Math.Bool.{or_assoc as or-assoc}
 use Rattle.line_finds.proofs.lemmas.PairLaws.{eq_yes, eq_no}
 
@@ -19,22 +19,22 @@ marked_is (pair ∷ pairs) marks h k =
       | inr n ↦ more ∙ ap (λ b. b || is_paired k rest) (get_or-set_other marks pair.line k true false n) ∙ sym (ap (λ b. get_or marks k false || not (length (cond b (pair.number ∷ numbers_at k rest) (numbers_at k rest)) == 0)) (eq_no pair.line k (λ e. n (sym e))))
     ]
 
-pub marked_of_is : (p : ℕ) (pairs : List Match) (marks : List Bool) → AreBelow (length marks) (pairs_of pairs) → (k : ℕ) → get_or (marked_of p pairs marks) k false ≡ (get_or marks k false || list_any (λ n. nat_eq n p) (numbers_at k (pairs_of pairs)))
-marked_of_is p [] marks h k = sym (or-false (get_or marks k false))
-marked_of_is p (pair ∷ pairs) marks h k =
-    let test : ℕ → Bool = λ n. nat_eq n p in
-    let one = get_or marks pair.line false || nat_eq pair.number p in
+pub marked_of_is : (first count : ℕ) (pairs : List Match) (marks : List Bool) → AreBelow (length marks) (pairs_of pairs) → (k : ℕ) → get_or (marked_of first count pairs marks) k false ≡ (get_or marks k false || has_own first count (numbers_at k (pairs_of pairs)))
+marked_of_is first count [] marks h k = sym (or-false (get_or marks k false))
+marked_of_is first count (pair ∷ pairs) marks h k =
+    let test : ℕ → Bool = λ n. not (is_other first count n) in
+    let one = get_or marks pair.line false || test pair.number in
     let set_marks = set marks pair.line one in
     let rest = pairs_of pairs in
     let less : pair.line < length marks = All-head (λ x. x.0 < length marks) (pair_of pair) rest h in
     let later : AreBelow (length set_marks) rest = subst (λ n. AreBelow n rest) (sym (length-set marks pair.line one)) (All-tail (λ x. x.0 < length marks) (pair_of pair) rest h) in
-    let more = marked_of_is p pairs set_marks later k in
+    let more = marked_of_is first count pairs set_marks later k in
     let others = list_any test (numbers_at k rest) in
     elim (cases_eq k pair.line) [
       | inl e ↦
           more ∙ ap (λ b. b || others) (get_or-set_at marks pair.line k one false e less)
-          ∙ ap (λ j. (get_or marks j false || nat_eq pair.number p) || others) (sym e)
-          ∙ or-assoc (get_or marks k false) (nat_eq pair.number p) others
+          ∙ ap (λ j. (get_or marks j false || test pair.number) || others) (sym e)
+          ∙ or-assoc (get_or marks k false) (test pair.number) others
           ∙ sym (ap (λ b. get_or marks k false || list_any test (cond b (pair.number ∷ numbers_at k rest) (numbers_at k rest))) (eq_yes pair.line k (sym e)))
       | inr n ↦ more ∙ ap (λ b. b || others) (get_or-set_other marks pair.line k one false n) ∙ sym (ap (λ b. get_or marks k false || list_any test (cond b (pair.number ∷ numbers_at k rest) (numbers_at k rest))) (eq_no pair.line k (λ e. n (sym e))))
     ]
@@ -50,17 +50,6 @@ line_below old marks pairs i same low h =
 
 -- ---- goals of functions
 
--- the pairs from one of them on
-pub rest_is : (there items : List Match) (all : List (ℕ × ℕ)) (first : ℕ) → there ≡ items → pairs_of items ≡ all → pairs_of (take (length there - first) (drop first there)) ≡ drop first all
-rest_is there items all first same is =
-    ap pairs_of (take_rest there first) ∙ sym (drop-map pair_of first there) ∙ ap (λ l. drop first (pairs_of l)) same ∙ ap (drop first) is
-
-pub rest_below : (there items : List Match) (all : List (ℕ × ℕ)) (first size : ℕ) (none : List Bool) → there ≡ items → pairs_of items ≡ all → none ≡ replicate size false → AreBelow size all → AreBelow (length none) (pairs_of (take (length there - first) (drop first there)))
-rest_below there items all first size none same is clear h =
-    let many : length none ≡ size = ap length clear ∙ length-replicate size false in
-    subst (λ n. AreBelow n (pairs_of (take (length there - first) (drop first there)))) (sym many)
-    (subst (AreBelow size) (sym (rest_is there items all first same is)) (All-drop (λ x. x.0 < size) first all h))
-
 pub all_below : (there : List Match) (all : List (ℕ × ℕ)) (size : ℕ) (none : List Bool) → pairs_of there ≡ all → length none ≡ size → AreBelow size all → AreBelow (length none) (pairs_of there)
 all_below there all size none is many h = subst (λ n. AreBelow n (pairs_of there)) (sym many) (subst (AreBelow size) (sym is) h)
 
@@ -71,9 +60,8 @@ marks_are pairs all size none marks is clear set h k low =
     let below : AreBelow (length none) (pairs_of pairs) = subst (λ n. AreBelow n (pairs_of pairs)) (sym many) (subst (AreBelow size) (sym is) h) in
     ap (λ l. get_or l k false) set ∙ marked_is pairs none below k ∙ ap (λ b. b || is_paired k (pairs_of pairs)) (ap (λ l. get_or l k false) clear ∙ get_or-replicate size k false false low) ∙ ap (is_paired k) is
 
-pub marks_of_are : (p : ℕ) (pairs : List Match) (all : List (ℕ × ℕ)) (size : ℕ) (none marks : List Bool) → pairs_of pairs ≡ all → none ≡ replicate size false → marks ≡ marked_of p pairs none → AreBelow size all → (k : ℕ) → k < size → get_or marks k false ≡ list_any (λ n. nat_eq n p) (numbers_at k all)
-marks_of_are p pairs all size none marks is clear set h k low =
+pub marks_of_are : (first count : ℕ) (pairs : List Match) (all : List (ℕ × ℕ)) (size : ℕ) (none marks : List Bool) → pairs_of pairs ≡ all → none ≡ replicate size false → marks ≡ marked_of first count pairs none → AreBelow size all → (k : ℕ) → k < size → get_or marks k false ≡ has_own first count (numbers_at k all)
+marks_of_are first count pairs all size none marks is clear set h k low =
     let many : length none ≡ size = ap length clear ∙ length-replicate size false in
     let below : AreBelow (length none) (pairs_of pairs) = subst (λ n. AreBelow n (pairs_of pairs)) (sym many) (subst (AreBelow size) (sym is) h) in
-    let test : ℕ → Bool = λ n. nat_eq n p in
-    ap (λ l. get_or l k false) set ∙ marked_of_is p pairs none below k ∙ ap (λ b. b || list_any test (numbers_at k (pairs_of pairs))) (ap (λ l. get_or l k false) clear ∙ get_or-replicate size k false false low) ∙ ap (λ l. list_any test (numbers_at k l)) is
+    ap (λ l. get_or l k false) set ∙ marked_of_is first count pairs none below k ∙ ap (λ b. b || has_own first count (numbers_at k (pairs_of pairs))) (ap (λ l. get_or l k false) clear ∙ get_or-replicate size k false false low) ∙ ap (λ l. has_own first count (numbers_at k l)) is

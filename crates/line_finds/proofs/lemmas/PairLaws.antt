@@ -1,5 +1,5 @@
 -- Pairs of lines and patterns: what becomes of the numbers of each line.
-use Rattle.line_finds.proofs.Prelude.{◌≡◌, ℕ, Bool, ◌+◌, ◌-◌, ◌<◌, ◌≤◌, true, false, ◌||◌, List, [], ◌∷◌, ◌++◌, inl, inr, length, map, take, nat_eq, nat_lt, nat_le, get_or, cond, refl, sym, ap, subst, ◌∙◌, arith, append_assoc, append-nil, filter, cases_Bool, cases_lt, cases_eq, nat_tests, take_more, map-append, take-map, All-nil, All-cons, All-head, All-tail, All-append, All-weaker, Match, numbers_at, AreBelow, lowered, without, pair_of, pairs_of, is_other, lowered_pair, is_outside, moved_pair, moved_to}
+use Rattle.line_finds.proofs.Prelude.{◌≡◌, ℕ, All, Bool, ◌+◌, ◌-◌, ◌<◌, ◌≤◌, true, false, ◌||◌, List, [], ◌∷◌, ◌++◌, inl, inr, length, map, take, nat_eq, nat_lt, nat_le, get_or, cond, refl, sym, ap, subst, ◌∙◌, arith, append_assoc, append-nil, filter, cases_Bool, cases_lt, cases_eq, nat_tests, take_more, map-append, take-map, All-nil, All-cons, All-head, All-tail, All-append, All-weaker, Match, numbers_at, AreBelow, is_other, lowered, pair_of, pairs_of, is_outside, moved_pair, moved_to}
 
 pub eq_yes : (n p : ℕ) → n ≡ p → nat_eq n p ≡ true
 eq_yes n p h = grind (arith, nat_tests, h)
@@ -28,42 +28,20 @@ numbers_at-append k (x ∷ xs) ys =
       | inr h ↦ rw h more
     ]
 
--- ---- a pattern is removed
+-- ---- patterns go
 
-pub dropped_numbers : (p k : ℕ) (pairs : List Match) → numbers_at k (pairs_of (map (lowered_pair p) (filter (is_other p) pairs))) ≡ without p (numbers_at k (pairs_of pairs))
-dropped_numbers p k [] = refl
-dropped_numbers p k (pair ∷ pairs) =
-    let more = dropped_numbers p k pairs in
-    elim (cases_Bool (nat_eq pair.number p)) [
-      | inl own ↦ elim (cases_Bool (nat_eq pair.line k)) [
-        | inl here ↦ rw (own, here, own) more
-        | inr gone ↦ rw (own, gone) more
-      ]
-      | inr own ↦ elim (cases_Bool (nat_eq pair.line k)) [
-        | inl here ↦ rw (own, here, own) (ap (λ l. lowered p pair.number ∷ l) more)
-        | inr gone ↦ rw (own, gone) more
-      ]
-    ]
+module _ (f : ℕ → Bool) (g : ℕ → ℕ) where
+  -- the pairs whose numbers stay, with other numbers
+  abbrev pub renumbered : List Match → List Match
+  renumbered pairs = map (λ pair. record { line = pair.line; number = g pair.number }) (filter (λ (pair : Match). f pair.number) pairs)
 
-pub dropped_below : (p size : ℕ) (pairs : List Match) → AreBelow size (pairs_of pairs) → AreBelow size (pairs_of (map (lowered_pair p) (filter (is_other p) pairs)))
-dropped_below p size [] h = h
-dropped_below p size (pair ∷ pairs) h =
-    let more = dropped_below p size pairs (All-tail (λ x. x.0 < size) (pair_of pair) (pairs_of pairs) h) in
-    elim (cases_Bool (nat_eq pair.number p)) [
-      | inl own ↦ rw own more
-      | inr own ↦ rw own (All-cons (λ x. x.0 < size) (pair_of (lowered_pair p pair)) (pairs_of (map (lowered_pair p) (filter (is_other p) pairs))) (All-head (λ x. x.0 < size) (pair_of pair) (pairs_of pairs) h) more)
-    ]
-
--- ---- the pairs of some patterns are kept
-
-module _ (f : ℕ → Bool) where
-  pub kept_numbers : (k : ℕ) (pairs : List Match) → numbers_at k (pairs_of (filter (λ (pair : Match). f pair.number) pairs)) ≡ filter f (numbers_at k (pairs_of pairs))
-  kept_numbers k [] = refl
-  kept_numbers k (pair ∷ pairs) =
-      let more = kept_numbers k pairs in
+  pub left_numbers_are : (k : ℕ) (pairs : List Match) → numbers_at k (pairs_of (renumbered pairs)) ≡ map g (filter f (numbers_at k (pairs_of pairs)))
+  left_numbers_are k [] = refl
+  left_numbers_are k (pair ∷ pairs) =
+      let more = left_numbers_are k pairs in
       elim (cases_Bool (f pair.number)) [
         | inl own ↦ elim (cases_Bool (nat_eq pair.line k)) [
-          | inl here ↦ rw (own, here, own) (ap (λ l. pair.number ∷ l) more)
+          | inl here ↦ rw (own, here, own) (ap (λ l. g pair.number ∷ l) more)
           | inr gone ↦ rw (own, gone) more
         ]
         | inr own ↦ elim (cases_Bool (nat_eq pair.line k)) [
@@ -72,14 +50,22 @@ module _ (f : ℕ → Bool) where
         ]
       ]
 
-  pub kept_below : (size : ℕ) (pairs : List Match) → AreBelow size (pairs_of pairs) → AreBelow size (pairs_of (filter (λ (pair : Match). f pair.number) pairs))
-  kept_below size [] h = h
-  kept_below size (pair ∷ pairs) h =
-      let more = kept_below size pairs (All-tail (λ x. x.0 < size) (pair_of pair) (pairs_of pairs) h) in
+  pub left_below_too : (size : ℕ) (pairs : List Match) → AreBelow size (pairs_of pairs) → AreBelow size (pairs_of (renumbered pairs))
+  left_below_too size [] h = h
+  left_below_too size (pair ∷ pairs) h =
+      let more = left_below_too size pairs (All-tail (λ x. x.0 < size) (pair_of pair) (pairs_of pairs) h) in
       elim (cases_Bool (f pair.number)) [
-        | inl own ↦ rw own (All-cons (λ x. x.0 < size) (pair_of pair) (pairs_of (filter (λ (pair : Match). f pair.number) pairs)) (All-head (λ x. x.0 < size) (pair_of pair) (pairs_of pairs) h) more)
+        | inl own ↦ rw own (All-cons (λ x. x.0 < size) (pair.line, g pair.number) (pairs_of (renumbered pairs)) (All-head (λ x. x.0 < size) (pair_of pair) (pairs_of pairs) h) more)
         | inr own ↦ rw own more
       ]
+
+-- where all are before those that go, they stay
+pub all_left : (first count by : ℕ) (pairs : List Match) → All (λ (x : ℕ × ℕ). x.1 < first) (pairs_of pairs) → renumbered (is_other first count) (lowered first by) pairs ≡ pairs
+all_left first count by [] h = refl
+all_left first count by (pair ∷ pairs) h =
+    let low : pair.number < first = All-head (λ (x : ℕ × ℕ). x.1 < first) (pair_of pair) (pairs_of pairs) h in
+    let more = all_left first count by pairs (All-tail (λ (x : ℕ × ℕ). x.1 < first) (pair_of pair) (pairs_of pairs) h) in
+    rw (lt_yes pair.number first low, lt_yes pair.number first low) (ap (λ l. pair ∷ l) more)
 
 -- ---- lines are removed
 

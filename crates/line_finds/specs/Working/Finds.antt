@@ -1,6 +1,6 @@
 -- What is found in the lines of a chunk, and how it is kept.
-use Rattle.std.specs.Prelude.{ℕ, zero, suc, ◌+◌, ◌-◌, ◌<◌, ◌==◌, Bool, not, List, [], ◌∷◌, All, length, map, get_or, nat_eq, nat_lt, if◌then◌else◌}
-use Rattle.std.specs.List.{filter}
+use Rattle.std.specs.Prelude.{ℕ, zero, suc, ◌+◌, ◌-◌, ◌<◌, ◌==◌, Bool, not, ◌||◌, List, [], ◌∷◌, All, length, map, get_or, nat_eq, nat_le, nat_lt, if◌then◌else◌}
+use Rattle.std.specs.List.{filter, list_any}
 use Rattle.re_trees.specs.declared.span.Span.{Span}
 
 -- the numbers of the patterns that match a line, and the parts of it that are kept
@@ -32,15 +32,27 @@ abbrev pub paired_before : ℕ → List (ℕ × ℕ) → ℕ
 paired_before zero pairs = 0
 paired_before (suc k) pairs = (if is_paired k pairs then 1 else 0) + paired_before k pairs
 
--- ---- a pattern is removed, and the later ones move up
+-- ---- patterns go, and the later ones move up
 
--- the number that a pattern has after pattern p is removed
-abbrev pub lowered : ℕ → ℕ → ℕ
-lowered p n = if nat_lt p n then n - 1 else n
+-- whether a number is none of the `count` numbers from `first` on
+abbrev pub is_other : ℕ → ℕ → ℕ → Bool
+is_other first count n = nat_lt n first || nat_le count (n - first)
 
--- the numbers of the patterns after pattern p is removed
+-- whether one of the numbers is among them
+abbrev pub has_own : ℕ → ℕ → List ℕ → Bool
+has_own first count numbers = list_any (λ n. not (is_other first count n)) numbers
+
+-- a number that is not before `first` becomes smaller
+abbrev pub lowered : ℕ → ℕ → ℕ → ℕ
+lowered first by n = if nat_lt n first then n else n - by
+
+-- the numbers after those of these patterns have gone, and the later ones became smaller
+abbrev pub left_numbers : ℕ → ℕ → ℕ → List ℕ → List ℕ
+left_numbers first count by numbers = map (lowered first by) (filter (is_other first count) numbers)
+
+-- the numbers after pattern p is removed
 abbrev pub without : ℕ → List ℕ → List ℕ
-without p numbers = map (lowered p) (filter (λ n. not (nat_eq n p)) numbers)
+without p numbers = left_numbers p 1 1 numbers
 
 -- ---- what is kept for some lines
 

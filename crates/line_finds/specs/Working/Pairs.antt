@@ -1,7 +1,7 @@
 -- Pairs of a line's and a pattern's number as they are kept, and what becomes of them.
-use Rattle.std.specs.Prelude.{ℕ, ◌+◌, ◌-◌, Bool, true, false, not, ◌||◌, List, [], ◌∷◌, map, get_or, slice_set, nat_eq, nat_lt, nat_le, if◌then◌else◌}
+use Rattle.std.specs.Prelude.{ℕ, ◌+◌, ◌-◌, Bool, true, false, not, ◌||◌, List, [], ◌∷◌, map, get_or, slice_set, nat_lt, nat_le, if◌then◌else◌}
 use Rattle.line_finds.specs.declared.matches.Match.{Match}
-use Rattle.line_finds.specs.Working.Finds.{lowered}
+use Rattle.line_finds.specs.Working.Finds.{is_other, lowered}
 
 abbrev pub pair_of : Match → ℕ × ℕ
 pair_of pair = (pair.line, pair.number)
@@ -9,15 +9,11 @@ pair_of pair = (pair.line, pair.number)
 abbrev pub pairs_of : List Match → List (ℕ × ℕ)
 pairs_of pairs = map pair_of pairs
 
--- ---- a pattern is removed
+-- ---- patterns go
 
--- whether the pair is of another pattern
-abbrev pub is_other : ℕ → Match → Bool
-is_other p pair = not (nat_eq pair.number p)
-
--- a pair after pattern p is removed
-abbrev pub lowered_pair : ℕ → Match → Match
-lowered_pair p pair = record { line = pair.line; number = lowered p pair.number }
+-- a pair after the numbers from `first` on became smaller
+abbrev pub lowered_pair : ℕ → ℕ → Match → Match
+lowered_pair first by pair = record { line = pair.line; number = lowered first by pair.number }
 
 -- ---- lines are removed
 
@@ -49,8 +45,10 @@ abbrev pub marked : List Match → List Bool → List Bool
 marked [] marks = marks
 marked (pair ∷ pairs) marks = marked pairs (slice_set marks pair.line true)
 
--- the marks after those of the lines that are paired with pattern p are set
-abbrev pub marked_of : ℕ → List Match → List Bool → List Bool
-marked_of p [] marks = marks
-marked_of p (pair ∷ pairs) marks =
-    marked_of p pairs (slice_set marks pair.line (get_or marks pair.line false || nat_eq pair.number p))
+-- the marks after those of the lines that are paired with one of these patterns are set
+abbrev pub marked_of : ℕ → ℕ → List Match → List Bool → List Bool
+marked_of first count [] marks = marks
+marked_of first count (pair ∷ pairs) marks =
+    marked_of first count pairs
+    (slice_set marks pair.line
+    (get_or marks pair.line false || not (is_other first count pair.number)))

@@ -1,5 +1,5 @@
 -- What a look over a block says of the line in which it stopped.
-use Rattle.re_match.proofs.Prelude.{◌≡◌, ◌∙◌, ℕ, ◌+◌, ◌-◌, ◌<◌, ◌≤◌, ◌↔◌, ◌∷◌, inr, List, Bool, true, false, Some, length, take, drop, get_or, slice_range, slice_index, sym, ap, subst, refl, arith, length-take, length-drop, IsTrue, Text, Expression, Matches, newline, HasNoNewline, AddsUpTo, IsLineFrom, StopsInLine, PassesAll, PassesUnmatched, ⊤, IsJustRun, Runs, RunStandsAt, FindsRun, look_cost, set_at, Swept, Sweep, Stop, Unseen, Seen, Decided, StopsAt, left_for, steps_left, steps_to, dec_le}
+use Rattle.re_match.proofs.Prelude.{◌≡◌, ◌∙◌, ℕ, ◌+◌, ◌-◌, ◌<◌, ◌≤◌, ◌↔◌, ◌∷◌, inr, List, Bool, true, false, Some, length, take, drop, get_or, slice_range, slice_index, sym, ap, subst, refl, arith, length-take, length-drop, IsTrue, Text, Expression, Matches, newline, HasNoNewline, AddsUpTo, IsLineFrom, StopsInLine, PassesAll, PassesUnmatched, ⊤, IsJustRun, Runs, RunStandsAt, FindsRun, look_cost, set_at, Swept, Sweep, Stop, Unseen, Seen, Decided, StopsAt, left_for, steps_left, steps_to, false≢true, dec_le}
 use Rattle.re_trees.specs.Bytes.{Bytes}
 use Rattle.re_runs.specs.Working.Runs.{IsLongestRun, IsNoWider, RunIsAt}
 use Rattle.re_meter.specs.Meters.{Steps, AddsAtMost}
@@ -71,14 +71,11 @@ stops_matched e runs block swept at last is wide place longest low free stops = 
       };
 }
 
--- ---- a line that is searched from the first run on with which each match begins
+-- ---- a line and the first run in it, with one of which each match begins
 
-module _ (e : Expression) (runs : Runs) (block : Text) (start at end : ℕ) (free : HasNoBegin e) (begins : RunBegins runs e) (finds : FindsRun block runs (Some at)) (low : start ≤ at) (high : at ≤ end) (cut : IsLineFrom block start end) where
+module _ (e : Expression) (runs : Runs) (block : Text) (start at end : ℕ) (begins : RunBegins runs e) (finds : FindsRun block runs (Some at)) (low : start ≤ at) (cut : IsLineFrom block start end) where
   abbrev pub its_line : Text
   its_line = slice_range block start end
-
-  rest_of_it : drop (at - start) its_line ≡ slice_range block at end
-  rest_of_it = drop_range block start end (at - start) (omega (arith, low, high)) ∙ ap (λ n. slice_range block n end) (omega (arith, low))
 
   none_before : (k : ℕ) → k < at - start → RunStandsAt its_line runs k → ⊥
   none_before k below o =
@@ -86,8 +83,14 @@ module _ (e : Expression) (runs : Runs) (block : Text) (start at end : ℕ) (fre
       let here = subst (λ l. RunStandsAt l runs k) (sym cut.3) (run_before runs its_line (newline ∷ drop (end + 1) block) k o) in
       finds.0.before (start + k) (omega arith) (omega (arith, below)) (run_whole runs block start k within here)
 
-  pub from_head : Matches e (slice_range block at end) false ↔ Matches e its_line false
-  from_head =
+  -- as a whole it is not matched, if the run is inside it
+  pub inside : start < at → ¬ Matches e its_line true
+  inside before h = none_before 0 (omega (arith, before)) (begins its_line 0 (length its_line) (omega arith) h)
+
+  -- no match begins before the run
+  pub from_head : HasNoBegin e → at ≤ end → Matches e (slice_range block at end) false ↔ Matches e its_line false
+  from_head free high =
+      let rest_of_it : drop (at - start) its_line ≡ slice_range block at end = drop_range block start end (at - start) (omega (arith, low, high)) ∙ ap (λ n. slice_range block n end) (omega (arith, low)) in
       let size = length_range block start end (omega (arith, cut.1)) in
       subst (λ l. Matches e l false ↔ Matches e its_line false) rest_of_it (rest_matched its_line (at - start) (omega (arith, size, low, high)) e runs free begins none_before)
 
@@ -105,7 +108,23 @@ stops_at_head e runs block swept at free begins wide place found low stops =
           let fits = there.fits in
           let near = subst (λ p. look_cost block p ≤ end + 1) place (stops end cut) in
           let high : at ≤ end = omega (arith, near, fits, some) in
-          record { high = high; near = omega (arith, stops end cut); same = from_head e runs block swept.start at end free begins finds low high cut; right = tt };
+          record { high = high; near = omega (arith, stops end cut); same = from_head e runs block swept.start at end begins finds low cut free high; right = tt };
+    }
+
+-- a look that stopped inside a line says that it is not matched as a whole
+pub stops_inside : (e : Expression) (runs : Runs) (block : Text) (swept : Swept) (at : ℕ) → RunBegins runs e → swept.place ≡ Some at → FindsRun block runs swept.place → swept.start < at
+    → StopsInLine block swept → StopsAt e true block (record { start = swept.start; first = swept.start; reached = look_cost block swept.place; stop = Decided false })
+stops_inside e runs block swept at begins place found before stops =
+    let finds = subst (FindsRun block runs) place found in
+    record {
+      within = look_within block swept.place;
+      low = omega arith;
+      line = λ end cut. record {
+        high = cut.0;
+        near = omega (arith, stops end cut);
+        same = (λ m. m, λ m. m);
+        right = (λ yes. absurd (false≢true yes), λ m. absurd (inside e runs block swept.start at end begins finds (omega (arith, before)) cut before m));
+      };
     }
 
 module _ {e : Expression} {whole : Bool} (block : Text) (start : ℕ) {end : ℕ} {sweep : Sweep} (stops : StopsAt e whole (drop start block) sweep) (cut : IsLineFrom block (start + sweep.start) end) where

@@ -1,5 +1,5 @@
 -- Lines, and blocks of lines, that lack what an expression needs, or have all that it is.
-use Rattle.re_needle.proofs.Prelude.{ℕ, ◌+◌, ◌≤◌, Bool, true, false, List, length, map, get_or, arith, Text, Expression, Matches, Lacks, PassesAll, PassesUnmatched, IsNeeded, RunIsNeeded, Runs, LacksRun, RunBegins, BeginsWithout, byte, sequence, StandsIn, HoldsOfMany, CountsMatched, Option, Span, FindsMatched, FindsNext}
+use Rattle.re_needle.proofs.Prelude.{ℕ, ◌+◌, ◌≤◌, Bool, true, false, List, length, map, get_or, arith, Text, Expression, Matches, Lacks, PassesAll, PassesUnmatched, IsNeeded, RunIsNeeded, Runs, LacksRun, byte, sequence, StandsIn, HoldsOfMany, CountsMatched, Option, Span, FindsMatched, FindsNext}
 use Rattle.re_trees.proofs.lemmas.FixedStrings.{stands-matches}
 use Rattle.re_needle.proofs.lemmas.NeededLaws.{sequence_needed}
 use Rattle.re_needle.proofs.lemmas.NeedleLaws.{stands_there}
@@ -26,15 +26,6 @@ unmatched_run e run line true needed lacks holds = let there = needed line 0 (le
 pub passes_unmatched_run : (e : Expression) (run : Runs) (whole : Bool) → RunIsNeeded run e → (block : Text) (count : ℕ) → PassesAll (LacksRun run) block count → PassesUnmatched e whole block count
 passes_unmatched_run e run whole needed block count (lines, rest, free, lack, is, counted) =
     (lines, rest, free, λ i d below. unmatched_run e run _ whole needed (lack i d below), is, counted)
-
--- a line that does not begin with a run with which every match begins
-pub unmatched_begun : (e : Expression) (run : Runs) (line : Text) → RunBegins run e → BeginsWithout run line → ¬ Matches e line true
-unmatched_begun e run line begins without holds = without (begins line 0 (length line) (omega arith) holds)
-
--- nor are lines if none of them does
-pub passes_unmatched_begun : (e : Expression) (run : Runs) → RunBegins run e → (block : Text) (count : ℕ) → PassesAll (BeginsWithout run) block count → PassesUnmatched e true block count
-passes_unmatched_begun e run begins block count (lines, rest, free, without, is, counted) =
-    (lines, rest, free, λ i d below. unmatched_begun e run (get_or lines i d) begins (without i d below), is, counted)
 
 -- a string matches the lines that have it
 pub stands_literal : (text line : Text) → StandsIn text line → Matches (sequence (map byte text)) line false

@@ -111,15 +111,6 @@ passes_front text block at count finds front = passes_text text block count (pas
 
 -- ---- the first lines of a block
 
--- the whole block is made of lines
-pub passes_block : (block : Text) → IsBlock block → PassesAll (λ _. ⊤) block (length block)
-passes_block block (lines, free, is) = (lines, [], free, λ i d h. tt, is ∙ sym (append-nil (terminated lines)), ap length is)
-
 -- lines that are passed end within the block
 pub passed_within : (Holds : Text → Type 0) (block : Text) (count : ℕ) → PassesAll Holds block count → count ≤ length block
 passed_within Holds block count (lines, rest, free, any, is, counted) = omega (arith, counted, ap length is, length-append (terminated lines) rest)
-
--- the first lines of the first bytes are those of all
-pub passes_longer : (Holds : Text → Type 0) (block : Text) (at count : ℕ) → PassesAll Holds (take at block) count → PassesAll Holds block count
-passes_longer Holds block at count (lines, rest, free, all, is, counted) =
-    (lines, rest ++ drop at block, free, all, sym (take-append-drop at block) ∙ ap (λ l. l ++ drop at block) is ∙ append_assoc (terminated lines) rest (drop at block), counted)

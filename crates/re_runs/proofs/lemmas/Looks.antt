@@ -24,7 +24,3 @@ none_after block start end n last cut = absurd (omega (arith, last, cut.0, cut.1
 pub look_within : (line : Text) (found : Option ℕ) → look_cost line found ≤ length line
 look_within line None = omega arith
 look_within line (Some k) = omega arith
-
--- a look that stopped at the line's beginning passed no byte beyond its newline
-pub look_at_begin : (block : Text) (at end : ℕ) → IsLineFrom block at end → look_cost block (Some at) ≤ end + 1
-look_at_begin block at end cut = let low = cut.0 in omega (arith, low)

@@ -1,5 +1,5 @@
 -- Blocks of whole lines, and what a look at one says of its first lines.
-use Rattle.std.specs.Prelude.{◌≡◌, ℕ, ◌+◌, ◌<◌, ◌≤◌, ◌⊎◌, Bool, List, [], ◌∷◌, ◌++◌, All, length, drop, slice_index, slice_range, Option, Some, None, MatchOption}
+use Rattle.std.specs.Prelude.{◌≡◌, ℕ, ◌+◌, ◌<◌, ◌≤◌, ◌⊎◌, Bool, List, [], ◌∷◌, ◌++◌, All, length, drop, slice_range, Option, Some, None, MatchOption}
 use Rattle.re_trees.specs.Bytes.{Text}
 use Rattle.re_trees.specs.Expression.{Expression}
 use Rattle.re_trees.specs.Holds.{Matches}
@@ -17,10 +17,6 @@ IsBlock text = (lines : List Text) × All HasNoNewline lines × (text ≡ termin
 -- the text occurs nowhere in the line
 abbrev pub Lacks : Text → Text → Type 0
 Lacks text line = (k : ℕ) → ¬ OccursAt line text k
-
--- a line of the text begins at the place
-abbrev pub LineBegins : Text → ℕ → Type 0
-LineBegins text k = (k ≡ 0) ⊎ ((j : ℕ) × (k ≡ j + 1) × (slice_index text j ≡ newline))
 
 -- a line begins at the first place, and its newline is at the second
 abbrev pub IsLineFrom : Text → ℕ → ℕ → Type 0

@@ -1,4 +1,4 @@
-use Rattle.grep_session.proofs.Prelude.{◌≡◌, ◌<◌, ◌≤◌, ◌∙◌, All, length, map, take, get_or, take_all, sym, refl, ap, subst, arith, [], AllZip, most_patterns, Expression, HasChanged, IsWithin, List, SearchesEach, WasFileKept, FitsColumn, IsColumn, IsFileKept, chunks_of, chunks_of_files, lines_of_files, AddsColumns, kept_file, matched_expression}
+use Rattle.grep_session.proofs.Prelude.{◌≡◌, ◌+◌, ◌<◌, ◌≤◌, ◌∙◌, All, length, map, take, get_or, take_all, sym, refl, ap, subst, arith, [], AllZip, HasChanged, SearchesEach, FitsColumn, IsColumn, IsFileKept, chunks_of, chunks_of_files, lines_of_files, AddsColumns, kept_file, matched_expression}
 use Rattle.re_search.proofs.lemmas.KeptMatchers.{none_asked, same_over, still_alike}
 use Rattle.grep_core.proofs.lemmas.CostLaws.{same_length}
 use Rattle.grep_session.proofs.lemmas.FoundLemmas.{adds_columns, adds_no_column, chunks_on, files_by_chunk, no_chunks, its_chunks, its_lines, was_kept}
@@ -14,30 +14,27 @@ there c =
     (less, rw c.deref-file-items.ensures.value at c.file-item.is)
 
 -- its lines were searched
-spent : (c : After-find_in_lines) → let es = map matched_expression c.args.matchers.now.items in let options = c.args.options.now in let x = c.file-item.result in (before changed : List Expression) → HasChanged c.args.change es before changed options
-    → WasFileKept c.args.change before options x → SearchesEach c.args.change changed es options (kept_file x).lines c.loop-file.meter c.find_in_lines.new.meter
-spent c = λ before changed h k.
+spent : (c : After-find_in_lines) → let es = map matched_expression c.args.matchers.now.items in let options = c.args.options.now in let x = c.file-item.result in (h : HasChanged c.args.change es options)
+    → IsFileKept h.before h.was x → SearchesEach c.args.change h.gone h.come es options (kept_file x).lines c.loop-file.meter c.find_in_lines.new.meter
+spent c = λ h k.
     let s = c.loop-file.invariant in
     let x = c.file-item.result in
     let one = rw s.same_matchers.same_expressions at c.find_in_lines.ensures.steps in
-    subst (λ ls. SearchesEach c.args.change changed (map matched_expression c.args.matchers.now.items) c.args.options.now ls c.loop-file.meter c.find_in_lines.new.meter) (sym (its_lines x c.in-Some.lines c.in-Some.is)) (one before changed h (was_kept x c.in-Some.lines c.in-Some.is c.args.change before c.args.options.now k))
+    subst (λ ls. SearchesEach c.args.change h.gone h.come (map matched_expression c.args.matchers.now.items) c.args.options.now ls c.loop-file.meter c.find_in_lines.new.meter) (sym (its_lines x c.in-Some.lines c.in-Some.is)) (one h (was_kept x c.in-Some.lines c.in-Some.is h.before h.was k))
 
 pub loop-file-init : goal.loop-file-init
 loop-file-init c = record {
   found = subst (AddsColumns c.args.change (map matched_expression c.args.matchers.now.items) c.args.options.now [] []) (sym c.new-found.ensures.items) (adds_no_column _ _ _ []);
   same_matchers = none_asked;
   room = refl;
-  steps = λ before changed h k. not_searched _ _ _ _ _ _;
+  steps = λ h k. not_searched _ _ _ _ _ _ _;
 }
 
 pub find_in_lines-requires-clause-whole : goal.find_in_lines-requires-clause-whole
 find_in_lines-requires-clause-whole c = still_alike c.loop-file.invariant.same_matchers c.requires.whole
 
-pub find_in_lines-requires-clause-few : goal.find_in_lines-requires-clause-few
-find_in_lines-requires-clause-few c = subst (λ n. n ≤ most_patterns) (sym (same_length matched_expression _ _ c.loop-file.invariant.same_matchers.same_expressions)) c.requires.few
-
 pub find_in_lines-requires-clause-within : goal.find_in_lines-requires-clause-within
-find_in_lines-requires-clause-within c = subst (IsWithin c.args.change) (sym (same_length matched_expression _ _ c.loop-file.invariant.same_matchers.same_expressions)) c.requires.within
+find_in_lines-requires-clause-within c = subst (λ n. c.args.change.first + c.args.change.come ≤ n) (sym (same_length matched_expression _ _ c.loop-file.invariant.same_matchers.same_expressions)) c.requires.within
 
 pub returns-in_err-find_in_lines-clause-same_matchers : goal.returns-in_err-find_in_lines-clause-same_matchers
 returns-in_err-find_in_lines-clause-same_matchers c = same_over c.find_in_lines.ensures.same_matchers c.loop-file.invariant.same_matchers
@@ -46,13 +43,13 @@ pub returns-in_err-find_in_lines-clause-room : goal.returns-in_err-find_in_lines
 returns-in_err-find_in_lines-clause-room c = c.find_in_lines.ensures.room ∙ c.loop-file.invariant.room
 
 pub returns-in_err-find_in_lines-clause-steps : goal.returns-in_err-find_in_lines-clause-steps
-returns-in_err-find_in_lines-clause-steps c = λ before changed h k.
+returns-in_err-find_in_lines-clause-steps c = λ h k.
     let files = c.args.files.now.items in
     let x = c.file-item.result in
     let i = c.loop-file.file-index in
     let at = there (goal.at.returns-in_err-find_in_lines-clause-steps c).After-file-item in
-    each_front _ _ _ _ _ _ _ _ _ (files_with_parts kept_file files i x at.0 at.1)
-    (each_both _ _ _ _ _ _ _ _ _ _ refl (c.loop-file.invariant.steps before changed h k) (spent (goal.at.returns-in_err-find_in_lines-clause-steps c).After-find_in_lines before changed h (kept_at (WasFileKept c.args.change before c.args.options.now) files i x at.0 at.1 k)))
+    each_front _ _ _ _ _ _ _ _ _ _ (files_with_parts kept_file files i x at.0 at.1)
+    (each_both _ _ _ _ _ _ _ _ _ _ _ refl (c.loop-file.invariant.steps h k) (spent (goal.at.returns-in_err-find_in_lines-clause-steps c).After-find_in_lines h (kept_at (IsFileKept h.before h.was) files i x at.0 at.1 k)))
 
 pub loop-file-preserved : goal.loop-file-preserved
 loop-file-preserved c =
@@ -69,7 +66,7 @@ loop-file-preserved c =
       found = adds_columns c.args.change es options (chunks_of_files (take i files)) (chunks_of x) _ _ _ _ (chunks_on files i x at.0 at.1) s.found more;
       same_matchers = same_over c.find_in_lines.ensures.same_matchers s.same_matchers;
       room = c.find_in_lines.ensures.room ∙ s.room;
-      steps = λ before changed h k. each_both _ _ _ _ _ _ _ _ _ _ (files_next kept_file files i x at.0 at.1) (s.steps before changed h k) (spent (goal.at.loop-file-preserved c).After-find_in_lines before changed h (kept_at (WasFileKept c.args.change before options) files i x at.0 at.1 k));
+      steps = λ h k. each_both _ _ _ _ _ _ _ _ _ _ _ (files_next kept_file files i x at.0 at.1) (s.steps h k) (spent (goal.at.loop-file-preserved c).After-find_in_lines h (kept_at (IsFileKept h.before h.was) files i x at.0 at.1 k));
     }
 
 pub loop-file-preserved-in_default : goal.loop-file-preserved-in_default
@@ -87,7 +84,7 @@ loop-file-preserved-in_default c =
       found = adds_columns c.args.change es options (chunks_of_files (take i files)) (chunks_of x) _ _ _ _ (chunks_on files i x at.0 at.1) s.found none;
       same_matchers = s.same_matchers;
       room = s.room;
-      steps = λ before changed h k. each_both _ _ _ _ _ _ _ _ _ _ (files_next kept_file files i x at.0 at.1) (s.steps before changed h k) (not_searched _ _ _ _ _ _);
+      steps = λ h k. each_both _ _ _ _ _ _ _ _ _ _ _ (files_next kept_file files i x at.0 at.1) (s.steps h k) (not_searched _ _ _ _ _ _ _);
     }
 
 pub put_columns-requires : goal.put_columns-requires
@@ -98,18 +95,18 @@ put_columns-requires c =
     subst (AllZip FitsColumn (chunks_of_files files)) (sym a.added) a.fit
 
 pub returns-clause-ok : goal.returns-clause-ok
-returns-clause-ok c = λ before changed h k.
+returns-clause-ok c = λ h k.
     let s = c.loop-file.invariant in
     let es = map matched_expression c.args.matchers.now.items in
     let options = c.args.options.now in
     let files = c.args.files.now.items in
     let all : take c.loop-file.file-index files ≡ files = take_all _ _ (omega (arith, c.loop-file-test.false, ap length c.deref-file-items.ensures.value)) in
     let a = subst (λ fs. AddsColumns c.args.change es options (chunks_of_files fs) [] c.loop-file.found.items) all s.found in
-    let right = subst (AllZip (IsColumn es options) (chunks_of_files files)) (sym a.added) (a.are_right before changed h (files_by_chunk c.args.change before options files k)) in
+    let right = subst (AllZip (IsColumn es options) (chunks_of_files files)) (sym a.added) (a.are_right h (files_by_chunk h.before h.was files k)) in
     subst (λ fs. All (IsFileKept fs options) c.put_columns.new.files.items) (sym s.same_matchers.same_expressions) (c.put_columns.ensures.right es options right)
 
 pub returns-clause-steps : goal.returns-clause-steps
-returns-clause-steps c = λ before changed h k.
+returns-clause-steps c = λ h k.
     let files = c.args.files.now.items in
     let all : take c.loop-file.file-index files ≡ files = take_all _ _ (omega (arith, c.loop-file-test.false, ap length c.deref-file-items.ensures.value)) in
-    subst (λ fs. SearchesEach c.args.change changed (map matched_expression c.args.matchers.now.items) c.args.options.now (lines_of_files (map kept_file fs)) c.args.meter.now c.loop-file.meter) all (c.loop-file.invariant.steps before changed h k)
+    subst (λ fs. SearchesEach c.args.change h.gone h.come (map matched_expression c.args.matchers.now.items) c.args.options.now (lines_of_files (map kept_file fs)) c.args.meter.now c.loop-file.meter) all (c.loop-file.invariant.steps h k)

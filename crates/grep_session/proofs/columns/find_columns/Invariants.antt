@@ -1,5 +1,5 @@
 use Rattle.std.specs.Prelude.{vec_capacity}
-use Rattle.grep_session.proofs.Prelude.{◌≡◌, map, take, All, List, [], Expression, AreSame, HasChanged, SearchesEach, WasFileKept, AddsColumns, chunks_of_files, lines_of_files, kept_file, matched_expression}
+use Rattle.grep_session.proofs.Prelude.{◌≡◌, map, take, All, [], AreSame, HasChanged, IsFileKept, SearchesEach, AddsColumns, chunks_of_files, lines_of_files, kept_file, matched_expression}
 use Rattle.grep_session.proofs.columns.find_columns.Given as goal
 
 -- the first files were searched
@@ -8,6 +8,6 @@ invariant-loop-file l = record {
   found : AddsColumns l.change (map matched_expression l.fn.matchers.items) l.search.options (chunks_of_files (take l.file-index l.fn.files.items)) [] l.found.items;
   same_matchers : AreSame l.fn.matchers.items l.matchers.items;
   room : vec_capacity l.matchers ≡ vec_capacity l.fn.matchers;
-  steps : (before changed : List Expression) → HasChanged l.change (map matched_expression l.fn.matchers.items) before changed l.search.options → All (WasFileKept l.change before l.search.options) l.fn.files.items
-      → SearchesEach l.change changed (map matched_expression l.fn.matchers.items) l.search.options (lines_of_files (map kept_file (take l.file-index l.fn.files.items))) l.fn.meter l.meter;
+  steps : (h : HasChanged l.change (map matched_expression l.fn.matchers.items) l.search.options) → All (IsFileKept h.before h.was) l.fn.files.items
+      → SearchesEach l.change h.gone h.come (map matched_expression l.fn.matchers.items) l.search.options (lines_of_files (map kept_file (take l.file-index l.fn.files.items))) l.fn.meter l.meter;
 }

@@ -1,4 +1,4 @@
-use Rattle.grep_session.proofs.Prelude.{◌≡◌, ◌+◌, ◌<◌, ◌≤◌, [], ◌∷◌, ◌++◌, All, length, map, take, get_or, sym, ap, subst, ◌∙◌, arith, take_all, most_patterns, all_of, line_text, IsWithin, SearchesEach, WasKept, AddsColumns, HasChanged, Expression, List, AreSame, drop, refl, matched_expression}
+use Rattle.grep_session.proofs.Prelude.{◌≡◌, ◌+◌, ◌<◌, ◌≤◌, [], ◌∷◌, ◌++◌, All, length, map, take, get_or, sym, ap, subst, ◌∙◌, arith, take_all, all_of, line_text, IsKept, SearchesEach, AddsColumns, HasChanged, AreSame, drop, refl, matched_expression}
 use Rattle.grep_core.proofs.lemmas.CostLaws.{same_length}
 use Rattle.grep_session.proofs.lemmas.AddingLemmas.{all_back}
 use Rattle.grep_session.proofs.lemmas.FoundLemmas.{adds_no_column, adds_columns, adds_column, all_by_chunk, chunks_next, texts_next, texts_rest}
@@ -12,17 +12,14 @@ loop-i-init c = record {
   found = adds_no_column _ _ _ _;
   same_matchers = none_asked;
   room = refl;
-  steps = λ before changed h k. not_searched _ _ _ _ _ _;
+  steps = λ h k. not_searched _ _ _ _ _ _ _;
 }
 
 pub find_in_chunk-requires-clause-whole : goal.find_in_chunk-requires-clause-whole
 find_in_chunk-requires-clause-whole c = rw c.deref_mut.ensures.value (still_alike c.loop-i.invariant.same_matchers c.requires.whole)
 
-pub find_in_chunk-requires-clause-few : goal.find_in_chunk-requires-clause-few
-find_in_chunk-requires-clause-few c = rw c.deref_mut.ensures.value (subst (λ n. n ≤ most_patterns) (sym (same_length matched_expression _ _ c.loop-i.invariant.same_matchers.same_expressions)) c.requires.few)
-
 pub find_in_chunk-requires-clause-within : goal.find_in_chunk-requires-clause-within
-find_in_chunk-requires-clause-within c = rw c.deref_mut.ensures.value (subst (IsWithin c.args.change) (sym (same_length matched_expression _ _ c.loop-i.invariant.same_matchers.same_expressions)) c.requires.within)
+find_in_chunk-requires-clause-within c = rw c.deref_mut.ensures.value (subst (λ n. c.args.change.first + c.args.change.come ≤ n) (sym (same_length matched_expression _ _ c.loop-i.invariant.same_matchers.same_expressions)) c.requires.within)
 
 -- the matchers are the same as before
 same : (c : After-find_in_chunk) → let now = c.find_in_chunk.new.matchers in AreSame c.args.matchers.now.items (take c.loop-i.matchers.len (now ++ drop (length now) c.loop-i.matchers.items))
@@ -31,25 +28,25 @@ same c =
     subst (AreSame c.args.matchers.now.items) (sym (all_back c.loop-i.matchers.len c.loop-i.matchers.items c.find_in_chunk.new.matchers c.loop-i.matchers.ok.0 (same_length matched_expression _ _ one.same_expressions))) (same_over one c.loop-i.invariant.same_matchers)
 
 -- the steps up to here
-spent : (c : After-find_in_chunk) → let es = map matched_expression c.args.matchers.now.items in let chunks = c.args.lines.now in let options = c.args.search.now.options in (before changed : List Expression) → HasChanged c.args.change es before changed options
-    → All (WasKept c.args.change before options) (all_of chunks) → SearchesEach c.args.change changed es options (map line_text (all_of (take (c.loop-i.i + 1) chunks))) c.args.meter.now c.find_in_chunk.new.meter
-spent c = λ before changed h k.
+spent : (c : After-find_in_chunk) → let es = map matched_expression c.args.matchers.now.items in let chunks = c.args.lines.now in let options = c.args.search.now.options in (h : HasChanged c.args.change es options)
+    → All (IsKept h.before h.was) (all_of chunks) → SearchesEach c.args.change h.gone h.come es options (map line_text (all_of (take (c.loop-i.i + 1) chunks))) c.args.meter.now c.find_in_chunk.new.meter
+spent c = λ h k.
     let s = c.loop-i.invariant in
     let i = c.loop-i.i in
     let chunks = c.args.lines.now in
     let inside : i < length chunks = omega (arith, c.loop-i-test.true, c.chunk_count-i-end.ensures) in
     let chunk : c.chunk.result.now ≡ get_or chunks i [] = c.chunk.ensures in
     let one = rw (c.deref_mut.ensures.value, s.same_matchers.same_expressions) at c.find_in_chunk.ensures.steps in
-    let kept : All (WasKept c.args.change before c.args.search.now.options) c.chunk.result.now = subst (All (WasKept c.args.change before c.args.search.now.options)) (sym chunk) (all_by_chunk (WasKept c.args.change before c.args.search.now.options) chunks k i [] inside) in
-    each_both _ _ _ _ _ _ _ _ _ _ (texts_next chunks i inside ∙ ap (λ ls. map line_text (all_of (take i chunks)) ++ map line_text ls) (sym chunk)) (s.steps before changed h k) (one before changed h kept)
+    let kept : All (IsKept h.before h.was) c.chunk.result.now = subst (All (IsKept h.before h.was)) (sym chunk) (all_by_chunk (IsKept h.before h.was) chunks k i [] inside) in
+    each_both _ _ _ _ _ _ _ _ _ _ _ (texts_next chunks i inside ∙ ap (λ ls. map line_text (all_of (take i chunks)) ++ map line_text ls) (sym chunk)) (s.steps h k) (one h kept)
 
 pub returns-in_err-one-clause-steps : goal.returns-in_err-one-clause-steps
-returns-in_err-one-clause-steps c = λ before changed h k.
-    each_front _ _ _ _ _ _ _ _ _ (texts_rest c.args.lines.now c.loop-i.i (omega (arith, c.loop-i-test.true, c.chunk_count-i-end.ensures))) (spent (goal.at.returns-in_err-one-clause-steps c).After-find_in_chunk before changed h k)
+returns-in_err-one-clause-steps c = λ h k.
+    each_front _ _ _ _ _ _ _ _ _ _ (texts_rest c.args.lines.now c.loop-i.i (omega (arith, c.loop-i-test.true, c.chunk_count-i-end.ensures))) (spent (goal.at.returns-in_err-one-clause-steps c).After-find_in_chunk h k)
 
 pub returns-in_err-push-clause-steps : goal.returns-in_err-push-clause-steps
-returns-in_err-push-clause-steps c = λ before changed h k.
-    each_front _ _ _ _ _ _ _ _ _ (texts_rest c.args.lines.now c.loop-i.i (omega (arith, c.loop-i-test.true, c.chunk_count-i-end.ensures))) (spent (goal.at.returns-in_err-push-clause-steps c).After-find_in_chunk before changed h k)
+returns-in_err-push-clause-steps c = λ h k.
+    each_front _ _ _ _ _ _ _ _ _ _ (texts_rest c.args.lines.now c.loop-i.i (omega (arith, c.loop-i-test.true, c.chunk_count-i-end.ensures))) (spent (goal.at.returns-in_err-push-clause-steps c).After-find_in_chunk h k)
 
 pub loop-i-preserved : goal.loop-i-preserved
 loop-i-preserved c =
@@ -74,9 +71,9 @@ returns-clause-ok c =
     subst (λ cs. AddsColumns c.args.change (map matched_expression c.args.matchers.now.items) c.args.search.now.options cs c.args.found.now.items c.loop-i.found.items) all c.loop-i.invariant.found
 
 pub returns-clause-steps : goal.returns-clause-steps
-returns-clause-steps c = λ before changed h k.
+returns-clause-steps c = λ h k.
     let all : take c.loop-i.i c.args.lines.now ≡ c.args.lines.now = take_all _ _ (omega (arith, c.loop-i-test.false, c.chunk_count-i-end.ensures)) in
-    subst (λ cs. SearchesEach c.args.change changed (map matched_expression c.args.matchers.now.items) c.args.search.now.options (map line_text (all_of cs)) c.args.meter.now c.loop-i.meter) all (c.loop-i.invariant.steps before changed h k)
+    subst (λ cs. SearchesEach c.args.change h.gone h.come (map matched_expression c.args.matchers.now.items) c.args.search.now.options (map line_text (all_of cs)) c.args.meter.now c.loop-i.meter) all (c.loop-i.invariant.steps h k)
 
 pub returns-in_err-one-clause-same_matchers : goal.returns-in_err-one-clause-same_matchers
 returns-in_err-one-clause-same_matchers c = same (goal.at.returns-in_err-one-clause-same_matchers c).After-find_in_chunk

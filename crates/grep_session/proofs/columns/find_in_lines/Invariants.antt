@@ -1,4 +1,4 @@
-use Rattle.grep_session.proofs.Prelude.{◌≡◌, map, take, All, List, Expression, all_of, line_text, AreSame, HasChanged, SearchesEach, WasKept, AddsColumns, matched_expression}
+use Rattle.grep_session.proofs.Prelude.{◌≡◌, map, take, All, IsKept, all_of, line_text, AreSame, HasChanged, SearchesEach, AddsColumns, matched_expression}
 use Rattle.std.specs.Prelude.{vec_capacity}
 use Rattle.grep_session.proofs.columns.find_in_lines.Given as goal
 
@@ -8,6 +8,6 @@ invariant-loop-i l = record {
   found : AddsColumns l.fn.change (map matched_expression l.fn.matchers.items) l.search.options (take l.i l.lines) l.fn.found.items l.found.items;
   same_matchers : AreSame l.fn.matchers.items l.matchers.items;
   room : vec_capacity l.matchers ≡ vec_capacity l.fn.matchers;
-  steps : (before changed : List Expression) → HasChanged l.fn.change (map matched_expression l.fn.matchers.items) before changed l.search.options → All (WasKept l.fn.change before l.search.options) (all_of l.lines)
-      → SearchesEach l.fn.change changed (map matched_expression l.fn.matchers.items) l.search.options (map line_text (all_of (take l.i l.lines))) l.fn.meter l.meter;
+  steps : (h : HasChanged l.fn.change (map matched_expression l.fn.matchers.items) l.search.options) → All (IsKept h.before h.was) (all_of l.lines)
+      → SearchesEach l.fn.change h.gone h.come (map matched_expression l.fn.matchers.items) l.search.options (map line_text (all_of (take l.i l.lines))) l.fn.meter l.meter;
 }

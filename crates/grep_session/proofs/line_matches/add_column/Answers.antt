@@ -1,4 +1,4 @@
-use Rattle.grep_session.proofs.Prelude.{◌≡◌, ◌+◌, ◌≤◌, length, map, Some, sym, ap, subst, ◌∙◌, arith, refl, length-map, Matches, Text, terminated, AddsAtMost, line_text, IsNextLine, next_line_cost, matched_expression, wants_whole}
+use Rattle.grep_session.proofs.Prelude.{ℕ, true, [], get_or, ◌≡◌, ◌+◌, ◌<◌, ◌≤◌, length, map, Some, sym, ap, subst, ◌∙◌, arith, refl, length-map, Matches, Text, terminated, AddsAtMost, line_text, IsNextLine, next_line_cost, matched_expression, wants_whole}
 use Rattle.re_search.proofs.lemmas.SameLaws.{same_twice}
 use Rattle.re_runs.proofs.lemmas.NextLines.{block_lines}
 use Rattle.re_meter.proofs.lemmas.Adding.{adds_both, adds_within, adds_none}
@@ -17,7 +17,7 @@ found c =
 pub loop-from-init : goal.loop-from-init
 loop-from-init c = record {
   within = omega arith;
-  column = column_none (matched_expression c.args.matcher.now) (wants_whole c.args.matcher.now) c.args.number (map line_text c.args.chunk.now) c.args.matches.now;
+  column = column_none (λ k. true) (matched_expression c.args.matcher.now) (wants_whole c.args.matcher.now) c.args.number (map line_text c.args.chunk.now) c.args.matches.now;
   same = record { same_expression = refl; same_whole = refl; same_room = refl };
   steps = adds_none _ _ _;
 }
@@ -33,8 +33,9 @@ pub returns-in_default-clause-ok : goal.returns-in_default-clause-ok
 returns-in_default-clause-ok c =
     let i = c.loop-from.invariant in
     let P = λ (line : Text). Matches (matched_expression c.loop-from.matcher) line (wants_whole c.loop-from.matcher) in
-    column_done (matched_expression c.args.matcher.now) (wants_whole c.args.matcher.now) c.args.number (map line_text c.args.chunk.now) c.loop-from.from _ _
-    (rw (← i.same.same_expression, ← i.same.same_whole) (none_from P (map line_text c.args.chunk.now) c.loop-from.from _ c.text_from.ensures.lines c.in_default.ensures.reported)) i.column
+    let texts = map line_text c.args.chunk.now in
+    let none : (k : ℕ) → c.loop-from.from ≤ k → k < length texts → ¬ Matches (matched_expression c.args.matcher.now) (get_or texts k []) (wants_whole c.args.matcher.now) = rw (← i.same.same_expression, ← i.same.same_whole) (none_from P texts c.loop-from.from _ c.text_from.ensures.lines c.in_default.ensures.reported) in
+    column_done (λ k. true) _ _ _ _ c.loop-from.from _ _ (λ k low high passed. none k low high) i.column
 
 pub returns-in_default-clause-same : goal.returns-in_default-clause-same
 returns-in_default-clause-same c = same_twice c.next_matched.ensures.same c.loop-from.invariant.same
@@ -81,7 +82,7 @@ loop-from-preserved c =
     let spent = subst (λ n. AddsAtMost n c.loop-from.meter c.next_matched.new.meter) there.1 c.in-Some.ensures.steps in
     record {
       within = omega (arith, next.1, length-map c.args.chunk.now line_text);
-      column = column_next (matched_expression c.args.matcher.now) (wants_whole c.args.matcher.now) c.args.number texts from k _ _ _ next c.in_ok-note.ensures.ok i.column;
+      column = column_next (λ k. true) (matched_expression c.args.matcher.now) (wants_whole c.args.matcher.now) c.args.number texts from k _ _ _ next c.in_ok-note.ensures.ok i.column;
       same = same_twice c.next_matched.ensures.same i.same;
       steps = subst (λ n. AddsAtMost n c.args.meter.now c.next_matched.new.meter) (bytes_up_to texts from (k + 1) (omega (arith, next.0))) (adds_both _ _ _ _ _ _ _ i.steps spent);
     }
@@ -89,8 +90,8 @@ loop-from-preserved c =
 pub returns-clause-ok : goal.returns-clause-ok
 returns-clause-ok c =
     let i = c.loop-from.invariant in
-    column_done (matched_expression c.args.matcher.now) (wants_whole c.args.matcher.now) c.args.number (map line_text c.args.chunk.now) c.loop-from.from _ _
-    (λ k low high. absurd (let no : ⊥ = omega (arith, low, high, length-map c.args.chunk.now line_text, c.loop-from-test.false) in no)) i.column
+    column_done (λ k. true) (matched_expression c.args.matcher.now) (wants_whole c.args.matcher.now) c.args.number (map line_text c.args.chunk.now) c.loop-from.from _ _
+    (λ k low high passed. absurd (let no : ⊥ = omega (arith, low, high, length-map c.args.chunk.now line_text, c.loop-from-test.false) in no)) i.column
 
 pub returns-clause-steps : goal.returns-clause-steps
 returns-clause-steps c =

@@ -1,20 +1,19 @@
-use Rattle.grep_session.proofs.Prelude.{◌≡◌, ◌+◌, ◌<◌, ◌↔◌, true, false, IsTrue, [], length, map, get_or, get_or_default, nil_from_length, refl, sym, subst, ◌∙◌, arith, length-map, false≢true, Some, Matches, AddsAtMost, IsNextLine, has_number, has_pair, marked_cost, line_text, no_line, numbers_at, matched_expression, wants_whole}
+use Rattle.grep_session.proofs.Prelude.{◌≡◌, ◌+◌, ◌<◌, ◌↔◌, true, false, IsTrue, [], length, map, get_or, get_or_default, nil_from_length, refl, sym, ap, subst, ◌∙◌, arith, length-map, false≢true, Some, Matches, AddsAtMost, IsNextLine, had_gone, marked_cost, line_text, no_line, matched_expression, wants_whole}
 use Rattle.std.proofs.Math.ListN.{get_or-map}
 use Rattle.re_search.proofs.lemmas.SameLaws.{same_twice}
 use Rattle.re_meter.proofs.lemmas.Adding.{adds_none}
-use Rattle.grep_session.proofs.lemmas.ColumnLoops.{column_done, column_next, column_none, column_pass, pairs_next, pairs_none}
+use Rattle.grep_session.proofs.lemmas.ColumnLoops.{column_done, column_next, column_none, column_pass}
 use Rattle.grep_session.proofs.lemmas.MarkedLemmas.{marked_front, searched_next}
-use Rattle.grep_session.proofs.lemmas.NarrowLoops.{none_among, pass_unpaired}
 use Rattle.grep_session.proofs.line_matches.narrow_column.Goals as goal
-use Rattle.grep_session.proofs.line_matches.narrow_column.Goals.{After-is_match}
+use Rattle.grep_session.proofs.line_matches.narrow_column.Goals.{After-index, After-is_match}
 
 pub returns-in_err-marks-clause-steps : goal.returns-in_err-marks-clause-steps
 returns-in_err-marks-clause-steps c = adds_none _ _ _
 
 pub returns-then-len-eq0-clause-ok : goal.returns-then-len-eq0-clause-ok
-returns-then-len-eq0-clause-ok c = λ among.
+returns-then-len-eq0-clause-ok c =
     let none : c.args.old.now ≡ [] = nil_from_length c.args.old.now (sym c.len.ensures ∙ c.if-len-eq0.true) in
-    none_among (matched_expression c.args.matcher.now) (wants_whole c.args.matcher.now) (map line_text c.args.chunk.now) c.args.number c.args.old.now c.args.matches.now none among
+    column_done (had_gone c.args.change c.args.old.now) _ _ _ _ 0 _ _ (λ k low high passed. passed (ap (λ pairs. had_gone c.args.change pairs k) none)) (column_none _ _ _ _ _ _)
 
 pub returns-then-len-eq0-clause-steps : goal.returns-then-len-eq0-clause-steps
 returns-then-len-eq0-clause-steps c = adds_none _ _ _
@@ -22,57 +21,52 @@ returns-then-len-eq0-clause-steps c = adds_none _ _ _
 pub loop-k-init : goal.loop-k-init
 loop-k-init c = record {
   high = omega arith;
-  pairs = pairs_none _ _;
-  column = λ among. column_none _ _ _ _ _;
+  column = column_none _ _ _ _ _ _;
   same = record { same_expression = refl; same_whole = refl; same_room = refl };
   steps = adds_none _ _ _;
 }
+
+-- what the mark of the line says
+mark : (c : After-index) → c.index.result.now ≡ had_gone c.args.change c.args.old.now c.loop-k.k
+mark c =
+    let k = c.loop-k.k in
+    let here : k < c.len-2.result = omega (arith, c.loop-k-test.true, c.len-k-end.ensures, c.len-2.ensures) in
+    c.index.ensures ∙ get_or_default c.in_ok-marks.marks.items k c.index.result.now false (omega (arith, here, c.in_ok-marks.ensures.size)) ∙ c.in_ok-marks.ensures.marks k here
 
 pub loop-k-preserved-then-not-index : goal.loop-k-preserved-then-not-index
 loop-k-preserved-then-not-index c =
     let s = c.loop-k.invariant in
     let k = c.loop-k.k in
-    let number = c.args.number in
-    let kept = c.args.old.now in
-    let here : k < c.len-2.result = omega (arith, c.loop-k-test.true, c.len-k-end.ensures, c.len-2.ensures) in
-    let is : c.index.result.now ≡ has_number number (numbers_at k kept) = c.index.ensures ∙ get_or_default c.in_ok-marks.marks.items k c.index.result.now false (omega (arith, here, c.in_ok-marks.ensures.size)) ∙ c.in_ok-marks.ensures.marks k here in
+    let off = sym (mark (goal.at.loop-k-preserved-then-not-index c).After-index) ∙ c.if-not-index.true in
     record {
-      high = omega (arith, here, c.len-2.ensures);
-      pairs = s.pairs;
-      column = λ among. pass_unpaired (matched_expression c.args.matcher.now) (wants_whole c.args.matcher.now) (map line_text c.args.chunk.now) number kept k c.args.matches.now c.loop-k.matches (sym is ∙ c.if-not-index.true) among (s.column among);
+      high = omega (arith, c.loop-k-test.true, c.len-k-end.ensures);
+      column = column_pass _ _ _ _ _ k _ _ (λ h passed. passed off) s.column;
       same = s.same;
-      steps = marked_front (has_pair number kept) 1 (map line_text c.args.chunk.now) k (k + 1) _ _ (omega arith) s.steps;
+      steps = marked_front (had_gone c.args.change c.args.old.now) 1 (map line_text c.args.chunk.now) k (k + 1) _ _ (omega arith) s.steps;
     }
 
 -- whether the line is matched, and the steps up to here
-asked : (c : After-is_match) → let texts = map line_text c.args.chunk.now in (IsTrue c.is_match.result ↔ Matches (matched_expression c.args.matcher.now) (get_or texts c.loop-k.k []) (wants_whole c.args.matcher.now))
-    × AddsAtMost (marked_cost (has_pair c.args.number c.args.old.now) 1 texts (c.loop-k.k + 1)) c.args.meter.now c.is_match.new.meter
-asked c =
+asked : (c : After-is_match) → had_gone c.args.change c.args.old.now c.loop-k.k ≡ true → let texts = map line_text c.args.chunk.now in (IsTrue c.is_match.result ↔ Matches (matched_expression c.args.matcher.now) (get_or texts c.loop-k.k []) (wants_whole c.args.matcher.now))
+    × AddsAtMost (marked_cost (had_gone c.args.change c.args.old.now) 1 texts (c.loop-k.k + 1)) c.args.meter.now c.is_match.new.meter
+asked c on =
     let s = c.loop-k.invariant in
     let k = c.loop-k.k in
     let lines = c.args.chunk.now in
     let texts = map line_text lines in
-    let number = c.args.number in
-    let kept = c.args.old.now in
-    let here : k < c.len-2.result = omega (arith, c.loop-k-test.true, c.len-k-end.ensures, c.len-2.ensures) in
     let text : get_or texts k [] ≡ line_text (get_or lines k no_line) = get_or-map line_text lines k no_line in
-    let is : c.index.result.now ≡ has_number number (numbers_at k kept) = c.index.ensures ∙ get_or_default c.in_ok-marks.marks.items k c.index.result.now false (omega (arith, here, c.in_ok-marks.ensures.size)) ∙ c.in_ok-marks.ensures.marks k here in
-    let on : has_number number (numbers_at k kept) ≡ true = sym is ∙ c.if-not-index.false in
     let m = c.loop-k.matcher in
     let reported = subst (λ x. IsTrue c.is_match.result ↔ Matches x (get_or texts k []) (wants_whole c.args.matcher.now)) s.same.same_expression (subst (λ w. IsTrue c.is_match.result ↔ Matches (matched_expression m) (get_or texts k []) w) s.same.same_whole
     (subst (λ t. IsTrue c.is_match.result ↔ Matches (matched_expression m) t (wants_whole m)) (c.line.ensures.line ∙ sym text) c.is_match.ensures.reported)) in
     let spent = subst (λ t. AddsAtMost (length t + 1) c.loop-k.meter c.is_match.new.meter) c.line.ensures.line c.is_match.ensures.steps in
-    (reported, searched_next (has_pair number kept) texts k _ _ _ _ on text s.steps spent)
+    (reported, searched_next (had_gone c.args.change c.args.old.now) texts k _ _ _ _ on text s.steps spent)
 
 pub loop-k-preserved-then-not-is_match : goal.loop-k-preserved-then-not-is_match
 loop-k-preserved-then-not-is_match c =
     let s = c.loop-k.invariant in
-    let k = c.loop-k.k in
-    let a = asked (goal.at.loop-k-preserved-then-not-is_match c).After-is_match in
+    let a = asked (goal.at.loop-k-preserved-then-not-is_match c).After-is_match (sym (mark (goal.at.loop-k-preserved-then-not-is_match c).After-index) ∙ c.if-not-index.false) in
     record {
       high = omega (arith, c.loop-k-test.true, c.len-k-end.ensures);
-      pairs = s.pairs;
-      column = λ among. column_pass (matched_expression c.args.matcher.now) (wants_whole c.args.matcher.now) c.args.number (map line_text c.args.chunk.now) k c.args.matches.now c.loop-k.matches (λ h matched. false≢true (sym c.if-not-is_match.true ∙ a.0.1 matched)) (s.column among);
+      column = column_pass _ _ _ _ _ c.loop-k.k _ _ (λ h passed matched. false≢true (sym c.if-not-is_match.true ∙ a.0.1 matched)) s.column;
       same = same_twice c.is_match.ensures.same s.same;
       steps = a.1;
     }
@@ -83,13 +77,12 @@ loop-k-preserved c =
     let k = c.loop-k.k in
     let lines = c.args.chunk.now in
     let texts = map line_text lines in
-    let a = asked (goal.at.loop-k-preserved c).After-is_match in
+    let a = asked (goal.at.loop-k-preserved c).After-is_match (sym (mark (goal.at.loop-k-preserved c).After-index) ∙ c.if-not-index.false) in
     let one : k < length texts = omega (arith, c.loop-k-test.true, c.len-k-end.ensures, length-map lines line_text) in
     let next : IsNextLine (matched_expression c.args.matcher.now) (wants_whole c.args.matcher.now) texts k (Some k) = (omega arith, one, a.0.0 c.if-not-is_match.false, λ j low high. absurd (let wrong : ⊥ = omega (arith, low, high) in wrong)) in
     record {
       high = omega (arith, c.loop-k-test.true, c.len-k-end.ensures);
-      pairs = pairs_next (length texts) k c.args.number c.args.matches.now c.loop-k.matches _ one c.in_ok-note.ensures.ok s.pairs;
-      column = λ among. column_next (matched_expression c.args.matcher.now) (wants_whole c.args.matcher.now) c.args.number texts k k c.args.matches.now c.loop-k.matches _ next c.in_ok-note.ensures.ok (s.column among);
+      column = column_next _ _ _ _ _ k k _ _ _ next c.in_ok-note.ensures.ok s.column;
       same = same_twice c.is_match.ensures.same s.same;
       steps = a.1;
     }
@@ -100,12 +93,11 @@ returns-in_err-note-clause-same c = same_twice c.is_match.ensures.same c.loop-k.
 pub returns-in_err-note-clause-steps : goal.returns-in_err-note-clause-steps
 returns-in_err-note-clause-steps c =
     let lines = c.args.chunk.now in
-    marked_front (has_pair c.args.number c.args.old.now) 1 (map line_text lines) (c.loop-k.k + 1) (length lines) _ _ (omega (arith, c.loop-k-test.true, c.len-k-end.ensures)) (asked (goal.at.returns-in_err-note-clause-steps c).After-is_match).1
+    marked_front _ 1 (map line_text lines) (c.loop-k.k + 1) (length lines) _ _ (omega (arith, c.loop-k-test.true, c.len-k-end.ensures)) (asked (goal.at.returns-in_err-note-clause-steps c).After-is_match (sym (mark (goal.at.returns-in_err-note-clause-steps c).After-index) ∙ c.if-not-index.false)).1
 
 pub returns-clause-ok : goal.returns-clause-ok
-returns-clause-ok c = λ among.
-    column_done (matched_expression c.args.matcher.now) (wants_whole c.args.matcher.now) c.args.number (map line_text c.args.chunk.now) c.loop-k.k c.args.matches.now c.loop-k.matches
-    (λ j low high. absurd (let wrong : ⊥ = omega (arith, low, high, length-map c.args.chunk.now line_text, c.loop-k-test.false, c.len-k-end.ensures) in wrong)) (c.loop-k.invariant.column among)
+returns-clause-ok c =
+    column_done _ _ _ _ _ c.loop-k.k _ _ (λ j low high passed. absurd (let wrong : ⊥ = omega (arith, low, high, length-map c.args.chunk.now line_text, c.loop-k-test.false, c.len-k-end.ensures) in wrong)) c.loop-k.invariant.column
 
 pub returns-clause-steps : goal.returns-clause-steps
-returns-clause-steps c = marked_front (has_pair c.args.number c.args.old.now) 1 (map line_text c.args.chunk.now) c.loop-k.k _ _ _ c.loop-k.invariant.high c.loop-k.invariant.steps
+returns-clause-steps c = marked_front _ 1 (map line_text c.args.chunk.now) c.loop-k.k _ _ _ c.loop-k.invariant.high c.loop-k.invariant.steps

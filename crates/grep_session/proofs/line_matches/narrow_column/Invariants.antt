@@ -1,4 +1,4 @@
-use Rattle.grep_session.proofs.Prelude.{◌≤◌, length, map, line_text, AddsAtMost, AddsPairs, IsAmong, has_pair, marked_cost, matched_expression, wants_whole, IsSame}
+use Rattle.grep_session.proofs.Prelude.{◌≤◌, length, map, line_text, AddsAtMost, had_gone, marked_cost, matched_expression, wants_whole, IsSame}
 use Rattle.grep_session.proofs.lemmas.ColumnLoops.{ColumnSoFar}
 use Rattle.grep_session.proofs.line_matches.narrow_column.Given as goal
 
@@ -6,9 +6,7 @@ use Rattle.grep_session.proofs.line_matches.narrow_column.Given as goal
 abbrev pub invariant-loop-k : goal.invariant-loop-k
 invariant-loop-k l = record {
   high : l.k ≤ length l.chunk;
-  pairs : AddsPairs (length (map line_text l.chunk)) l.fn.matches l.matches;
-  column : IsAmong (matched_expression l.fn.matcher) (wants_whole l.fn.matcher) (map line_text l.chunk) l.number l.old
-      → ColumnSoFar (matched_expression l.fn.matcher) (wants_whole l.fn.matcher) l.number (map line_text l.chunk) l.k l.fn.matches l.matches;
+  column : ColumnSoFar (had_gone l.fn.change l.old) (matched_expression l.fn.matcher) (wants_whole l.fn.matcher) l.number (map line_text l.chunk) l.k l.fn.matches l.matches;
   same : IsSame l.fn.matcher l.matcher;
-  steps : AddsAtMost (marked_cost (has_pair l.number l.old) 1 (map line_text l.chunk) l.k) l.fn.meter l.meter;
+  steps : AddsAtMost (marked_cost (had_gone l.fn.change l.old) 1 (map line_text l.chunk) l.k) l.fn.meter l.meter;
 }

@@ -1,4 +1,4 @@
-use Rattle.grep_session.proofs.Prelude.{◌≡◌, ◌+◌, ◌<◌, ◌≤◌, true, false, length, map, get_or, ap, ◌∙◌, arith, get_or_default, line_text, no_line, is_paired, is_parted, numbers_at, parting, has_new_parts, marked_cost, AddsAtMost, matched_expression}
+use Rattle.grep_session.proofs.Prelude.{ArePartsAgain, ◌≡◌, ◌+◌, ◌<◌, ◌≤◌, ◌||◌, false, has_own, length, map, get_or, ap, ◌∙◌, arith, get_or_default, line_text, no_line, is_paired, is_parted, numbers_at, parting, has_new_parts, marked_cost, AddsAtMost, matched_expression}
 use Rattle.re_meter.proofs.lemmas.Adding.{adds_none}
 use Rattle.re_search.proofs.lemmas.KeptMatchers.{none_asked, same_over}
 use Rattle.grep_session.proofs.lemmas.MarkedLemmas.{marked_front, marked_next}
@@ -22,13 +22,19 @@ loop-k-init c = record {
 }
 
 -- what the marks of the line stand for
-marks : (c : After-put_parts) → (c.index.result.now ≡ is_paired c.loop-k.k c.args.new.now) × (is_paired c.loop-k.k c.args.new.now ≡ true → c.index-in-loop-k.result.now ≡ has_new_parts c.args.change (numbers_at c.loop-k.k c.args.old.now) (numbers_at c.loop-k.k c.args.new.now))
-marks c =
+matched_is : (c : After-put_parts) → c.index-in-loop-k.result.now ≡ is_paired c.loop-k.k c.args.new.now
+matched_is c =
     let k = c.loop-k.k in
-    let here : k < c.len-size.result = omega (arith, c.loop-k-test.true) in (
-      c.index.ensures ∙ get_or_default c.in_ok-matched.matched.items k c.index.result.now false (omega (arith, here, c.in_ok-matched.ensures.size)) ∙ c.in_ok-matched.ensures.marks k here,
-      λ paired. c.index-in-loop-k.ensures ∙ get_or_default c.in_ok-anew.anew.items k c.index-in-loop-k.result.now false (omega (arith, here, c.in_ok-anew.ensures.size)) ∙ c.in_ok-anew.ensures.marks k here paired,
-    )
+    let here : k < c.len-size.result = omega (arith, c.loop-k-test.true) in
+    c.index-in-loop-k.ensures ∙ get_or_default c.in_ok-matched.matched.items k c.index-in-loop-k.result.now false (omega (arith, here, c.in_ok-matched.ensures.size)) ∙ c.in_ok-matched.ensures.marks k here
+
+again_is : (c : After-put_parts) → (c.args.change.all_parts || c.index.result.now) ≡ has_new_parts c.args.change (numbers_at c.loop-k.k c.args.old.now) (numbers_at c.loop-k.k c.args.new.now)
+again_is c =
+    let k = c.loop-k.k in
+    let here : k < c.len-size.result = omega (arith, c.loop-k-test.true) in
+    let marks = c.add_marks_of.new.marks.items in
+    let one = c.index.ensures ∙ get_or_default marks k c.index.result.now false (omega (arith, here, c.in_ok-anew.ensures.size, c.add_marks_of.ensures.size)) ∙ c.add_marks_of.ensures.marks k in
+    ap (λ b. c.args.change.all_parts || b) (one ∙ ap (λ b. b || has_own c.args.change.first c.args.change.come (numbers_at k c.args.new.now)) (c.in_ok-anew.ensures.marks k here))
 
 -- the steps up to here
 spent : (c : After-put_parts) → AddsAtMost (marked_cost (is_parted c.args.change c.args.old.now c.args.new.now) (parting (map matched_expression c.args.matchers.now) c.args.search.now.options) (map line_text c.args.chunk.now) (c.loop-k.k + 1)) c.args.meter.now c.put_parts.new.meter
@@ -37,7 +43,7 @@ spent c =
     let lines = c.args.chunk.now in
     let many = parting (map matched_expression c.args.matchers.now) c.args.search.now.options in
     let last = rw s.same_matchers.same_expressions at c.put_parts.ensures.steps in
-    marked_next (is_parted c.args.change c.args.old.now c.args.new.now) many (map line_text lines) c.loop-k.k _ _ _ _ (line_cost c.index.result.now _ c.index-in-loop-k.result.now _ many lines c.loop-k.k (marks c).0 (marks c).1) s.steps last
+    marked_next (is_parted c.args.change c.args.old.now c.args.new.now) many (map line_text lines) c.loop-k.k _ _ _ _ (line_cost (matched_is c) (again_is c) many lines c.loop-k.k) s.steps last
 
 pub loop-k-preserved : goal.loop-k-preserved
 loop-k-preserved c =
@@ -51,7 +57,7 @@ loop-k-preserved c =
     record {
       high = omega (arith, c.loop-k-test.true, c.len-size.ensures);
       few = c.in_ok-put_parts.ensures.few;
-      found = parts_next c.args.change c.args.old.now c.args.new.now es options lines k c.loop-k.parts c.put_parts.new.parts s.found c.in_ok-put_parts.ensures.others (parts_by c.index.result.now _ c.index-in-loop-k.result.now _ es options (get_or lines k no_line) _ (marks here).0 (marks here).1 put);
+      found = parts_next (λ i. ArePartsAgain (is_paired i c.args.new.now) (has_new_parts c.args.change (numbers_at i c.args.old.now) (numbers_at i c.args.new.now)) es options (get_or lines i no_line)) k c.loop-k.parts c.put_parts.new.parts s.found c.in_ok-put_parts.ensures.others (parts_by (matched_is here) (again_is here) es options (get_or lines k no_line) _ put);
       same_matchers = same_over c.put_parts.ensures.same_matchers s.same_matchers;
       steps = spent here;
     }

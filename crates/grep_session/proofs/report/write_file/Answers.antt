@@ -1,22 +1,37 @@
-use Rattle.grep_session.proofs.Prelude.{nat_lt, Ok, Err, ◌∙◌, sym, ap, option_map, all_of, has_selected_in}
-use Rattle.grep_session.proofs.lemmas.FileSteps.{counted_some, file_written}
-use Rattle.grep_session.proofs.lemmas.Writing.{writes_err}
+use Rattle.grep_session.proofs.Prelude.{Ok, ap, refl, all_of, option_map}
+use Rattle.grep_session.proofs.lemmas.FileLemmas.{file_missing, file_written, file_stopped}
+use Rattle.grep_session.proofs.lemmas.GroupsWritten.{Reporting}
+use Rattle.grep_session.proofs.lemmas.Writing.{if_ok, writes_err}
 use Rattle.grep_session.proofs.report.write_file.Goals as goal
 
-pub returns-clause-rows : goal.returns-clause-rows
-returns-clause-rows g c =
+pub returns-in_default : goal.returns-in_default
+returns-in_default g c = λ es kept.
     let w = c.args.layout.now.request in
-    file_written g.W.CountedWrite.contents g.W.CountedWrite.failures c.args.layout.now.margin.now w.options w.many w.name.now c.args.some _ {T = Unit {0}} {E = Unit {0}} c.args.out.now c.write_lines.new.out c.write_summary-2.new.out (Ok tt) (all_of c.in-Some.lines) _
-    (ap (option_map all_of) c.in-Some.is) c.in_ok-selected.ensures.reported c.in_ok-selected.ensures.rows c.in_ok-write_summary-2.ensures
+    let p : Reporting g.row.W.Denot = record { contents = g.W.CountedWrite.contents; failures = g.W.CountedWrite.failures; margin = c.args.layout.now.margin.now; es = es; options = w.options; many = w.many } in
+    file_missing p w.name.now (Ok c.args.some) (ap (option_map all_of) c.in_default.is) refl c.in_ok-write_summary.ensures
 
-pub returns-clause-reported : goal.returns-clause-reported
-returns-clause-reported g c =
+pub returns-in_err-write_summary : goal.returns-in_err-write_summary
+returns-in_err-write_summary g c = λ es kept.
     let w = c.args.layout.now.request in
-    ap (nat_lt 0) c.in_ok-selected.ensures.reported ∙ counted_some w.options (all_of c.in-Some.lines) ∙ sym (ap (λ kept. has_selected_in w.options (option_map all_of kept)) c.in-Some.is)
+    let p : Reporting g.row.W.Denot = record { contents = g.W.CountedWrite.contents; failures = g.W.CountedWrite.failures; margin = c.args.layout.now.margin.now; es = es; options = w.options; many = w.many } in
+    file_missing p w.name.now c.from_residual.result (ap (option_map all_of) c.in_default.is) (if_ok _ c.from_residual.result c.from_residual.ensures.0)
+    (writes_err g.W.CountedWrite.contents g.W.CountedWrite.failures c.args.layout.now.margin.now _ _ _ c.from_residual.result c.from_residual.ensures.0 c.in_err-write_summary.ensures)
 
-pub returns-in_err-write_summary-2-clause-rows : goal.returns-in_err-write_summary-2-clause-rows
-returns-in_err-write_summary-2-clause-rows g c =
+pub returns-in_err-now : goal.returns-in_err-now
+returns-in_err-now g c = λ es kept.
     let w = c.args.layout.now.request in
-    writes_err g.W.CountedWrite.contents g.W.CountedWrite.failures c.args.layout.now.margin.now _ _ _ c.from_residual-in_err-write_summary-2.result c.from_residual-in_err-write_summary-2.ensures.0
-    (file_written g.W.CountedWrite.contents g.W.CountedWrite.failures c.args.layout.now.margin.now w.options w.many w.name.now c.args.some _ {T = Unit {0}} {E = Unit {0}} c.args.out.now c.write_lines.new.out c.write_summary-2.new.out (Err tt) (all_of c.in-Some.lines) _
-    (ap (option_map all_of) c.in-Some.is) c.in_ok-selected.ensures.reported c.in_ok-selected.ensures.rows c.in_err-write_summary-2.ensures)
+    let p : Reporting g.row.W.Denot = record { contents = g.W.CountedWrite.contents; failures = g.W.CountedWrite.failures; margin = c.args.layout.now.margin.now; es = es; options = w.options; many = w.many } in
+    file_stopped p w.name.now (ap (option_map all_of) c.in-Some.is) kept refl c.from_residual-in_err-now.ensures.0 (c.in_err-now.ensures es)
+
+pub returns : goal.returns
+returns g c = λ es kept.
+    let w = c.args.layout.now.request in
+    let p : Reporting g.row.W.Denot = record { contents = g.W.CountedWrite.contents; failures = g.W.CountedWrite.failures; margin = c.args.layout.now.margin.now; es = es; options = w.options; many = w.many } in
+    file_written p w.name.now (ap (option_map all_of) c.in-Some.is) kept (Ok c.in_ok-now.now) c.count_all-selected.ensures (c.in_ok-now.ensures es) refl c.in_ok-write_summary-2.ensures
+
+pub returns-in_err-write_summary-2 : goal.returns-in_err-write_summary-2
+returns-in_err-write_summary-2 g c = λ es kept.
+    let w = c.args.layout.now.request in
+    let p : Reporting g.row.W.Denot = record { contents = g.W.CountedWrite.contents; failures = g.W.CountedWrite.failures; margin = c.args.layout.now.margin.now; es = es; options = w.options; many = w.many } in
+    file_written p w.name.now (ap (option_map all_of) c.in-Some.is) kept c.from_residual-in_err-write_summary-2.result c.count_all-selected.ensures (c.in_ok-now.ensures es) (if_ok _ c.from_residual-in_err-write_summary-2.result c.from_residual-in_err-write_summary-2.ensures.0)
+    (writes_err g.W.CountedWrite.contents g.W.CountedWrite.failures c.args.layout.now.margin.now _ _ _ c.from_residual-in_err-write_summary-2.result c.from_residual-in_err-write_summary-2.ensures.0 c.in_err-write_summary-2.ensures)

@@ -1,25 +1,23 @@
-use Rattle.grep_session.proofs.Prelude.{nat_le, length, map, sym, subst, StatusOf, kept_file, report_rows}
+use Rattle.grep_session.proofs.Prelude.{map, sym, subst, arith, refl, drop, StatusOf, All-get_or, kept_file, IsFileKept}
 use Rattle.grep_session.proofs.lemmas.KeptLaws.{kept_status}
-use Rattle.grep_session.proofs.lemmas.KeptOutput.{kept_output}
-use Rattle.grep_session.proofs.lemmas.Writing.{writes_err, if_ok}
+use Rattle.grep_session.proofs.lemmas.FileLemmas.{files_none, files_on, files_all, files_stop}
 use Rattle.grep_session.proofs.report.write_report.Goals as goal
 
-pub returns-in_err-write_files : goal.returns-in_err-write_files
-returns-in_err-write_files g c = λ es kept.
-    let options = c.args.options.now in
-    record {
-      out = report_rows options (nat_le 2 (length c.args.files.now)) c.args.files.now;
-      is_output = kept_output es options c.args.files.now kept;
-      wrote = writes_err g.W.CountedWrite.contents g.W.CountedWrite.failures c.args.margin.now _ _ _ c.from_residual.result c.from_residual.ensures.0 c.in_err-write_files.ensures;
-      is_status = if_ok (StatusOf es options (map kept_file c.args.files.now)) c.from_residual.result c.from_residual.ensures.0;
-    }
+pub loop-file-init : goal.loop-file-init
+loop-file-init g c = λ es kept. files_none _ c.args.files.now c.args.out.now
+
+pub returns-in_err-some : goal.returns-in_err-some
+returns-in_err-some g c = λ es kept.
+    let here = subst (λ f. IsFileKept es c.args.options.now f) (sym c.file-item.is) (All-get_or (IsFileKept es c.args.options.now) c.args.files.now c.loop-file.file-index c.file-item.result c.loop-file-test.true kept) in
+    let broke = rw c.deref.ensures.value at c.in_err-some.ensures in
+    files_stop _ c.args.files.now (c.loop-file.invariant es kept) refl c.from_residual.result c.loop-file-test.true c.file-item.is refl (broke es here) c.from_residual.ensures.0
+
+pub loop-file-preserved : goal.loop-file-preserved
+loop-file-preserved g c = λ es kept.
+    let here = subst (λ f. IsFileKept es c.args.options.now f) (sym c.file-item.is) (All-get_or (IsFileKept es c.args.options.now) c.args.files.now c.loop-file.file-index c.file-item.result c.loop-file-test.true kept) in
+    let went = rw c.deref.ensures.value at c.in_ok-some.ensures in
+    files_on _ c.args.files.now (c.loop-file.invariant es kept) c.loop-file-test.true c.file-item.is (went es here)
 
 pub returns : goal.returns
 returns g c = λ es kept.
-    let options = c.args.options.now in
-    record {
-      out = report_rows options (nat_le 2 (length c.args.files.now)) c.args.files.now;
-      is_output = kept_output es options c.args.files.now kept;
-      wrote = c.in_ok-write_files.ensures;
-      is_status = subst (StatusOf es options (map kept_file c.args.files.now)) (sym c.status.ensures) (kept_status es options c.args.files.now kept);
-    }
+    files_all _ c.args.files.now (c.loop-file.invariant es kept) refl (omega (arith, c.loop-file-test.false)) (subst (StatusOf es c.args.options.now (map kept_file c.args.files.now)) (sym c.status.ensures) (kept_status es c.args.options.now c.args.files.now kept))

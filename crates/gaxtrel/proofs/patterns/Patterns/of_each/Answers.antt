@@ -8,15 +8,17 @@ use Rattle.gaxtrel.proofs.ServedLemmas.{serves_itself}
 use Rattle.gaxtrel.proofs.patterns.Patterns.of_each.Goals as goal
 
 pub invariant_of-result : goal.invariant_of-result
-invariant_of-result c = (subst (λ w. AreAlike w c.in-Ok.matchers.items) c.reading-options.ensures.whole c.in-Ok.ensures.made.wholes, c.in-Ok.ensures.rooms)
+invariant_of-result c = (subst (λ w. AreAlike w c.in-Ok.matchers.items) c.reading-reading.ensures.whole c.in-Ok.ensures.made.wholes, c.in-Ok.ensures.rooms)
 
 pub returns-clause-made : goal.returns-clause-made
 returns-clause-made c =
     let made = c.in-Ok.ensures.made in
-    let es = expressions_of c.in-Ok.matchers.items in (
-      es,
-      subst (λ f. AllZip (λ text e. IsMeant c.args.syntax f text e) (lines_of c.args.texts.now) es) c.reading-options.ensures.fold made.meant,
-      subst (λ f. All (IsReadable c.args.syntax f) (lines_of c.args.texts.now)) c.reading-options.ensures.fold made.readable,
-      refl,
-      serves_itself _ _ _ refl,
-    )
+    let es = expressions_of c.in-Ok.matchers.items in
+    record {
+      es = es;
+      meant = subst (λ f. AllZip (λ text e. IsMeant c.args.syntax f text e) (lines_of c.args.texts.now) es) c.reading-reading.ensures.fold made.meant;
+      readable = subst (λ f. All (IsReadable c.args.syntax f) (lines_of c.args.texts.now)) c.reading-reading.ensures.fold made.readable;
+      is_apart = refl;
+      is_limited = refl;
+      serves = serves_itself _ _ _ refl;
+    }

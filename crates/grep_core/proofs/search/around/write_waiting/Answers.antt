@@ -7,8 +7,8 @@ loop-k-init g c =
     let w = c.args.request.now in
     rows_none_out g.W.CountedWrite.contents g.W.CountedWrite.failures c.args.out.now (rows_around w.options w.many w.name.now (c.args.number - length c.args.recent.now.lines) c.args.recent.now.lines)
 
-pub returns-in_err-write_around : goal.returns-in_err-write_around
-returns-in_err-write_around g c =
+pub returns-in_err-write_shown : goal.returns-in_err-write_shown
+returns-in_err-write_shown g c =
     let w = c.args.request.now in
     let recent = c.args.recent.now.lines in
     let first = c.args.number - length recent in
@@ -17,8 +17,8 @@ returns-in_err-write_around g c =
     let place : first + c.loop-k.k ≡ c.args.number - (c.len-count.result - c.loop-k.k) = omega (arith, inside, c.len-count.ensures, c.requires) in
     let row = row_at w.options w.many w.name.now first recent c.loop-k.k inside ∙ ap (λ n. row_with w.options w.many w.name.now hyphen n (get_or recent c.loop-k.k [])) place
     ∙ ap (λ l. row_with w.options w.many w.name.now hyphen (c.args.number - (c.len-count.result - c.loop-k.k)) l) (sym c.line.ensures) in
-    stops_err g.W.CountedWrite.contents g.W.CountedWrite.failures c.args.out.now c.write_around.new.out _ c.from_residual.result c.from_residual.ensures.0
-    (row_stops g.W.CountedWrite.contents g.W.CountedWrite.failures c.args.out.now c.loop-k.out c.write_around.new.out (rows_around w.options w.many w.name.now first recent) c.loop-k.k within _ row c.loop-k.invariant c.in_err-write_around.ensures)
+    stops_err g.W.CountedWrite.contents g.W.CountedWrite.failures c.args.out.now c.write_shown.new.out _ c.from_residual.result c.from_residual.ensures.0
+    (row_stops g.W.CountedWrite.contents g.W.CountedWrite.failures c.args.out.now c.loop-k.out c.write_shown.new.out (rows_around w.options w.many w.name.now first recent) c.loop-k.k within _ row c.loop-k.invariant c.in_err-write_shown.ensures)
 
 pub loop-k-preserved : goal.loop-k-preserved
 loop-k-preserved g c =
@@ -30,7 +30,7 @@ loop-k-preserved g c =
     let place : first + c.loop-k.k ≡ c.args.number - (c.len-count.result - c.loop-k.k) = omega (arith, inside, c.len-count.ensures, c.requires) in
     let row = row_at w.options w.many w.name.now first recent c.loop-k.k inside ∙ ap (λ n. row_with w.options w.many w.name.now hyphen n (get_or recent c.loop-k.k [])) place
     ∙ ap (λ l. row_with w.options w.many w.name.now hyphen (c.args.number - (c.len-count.result - c.loop-k.k)) l) (sym c.line.ensures) in
-    row_out g.W.CountedWrite.contents g.W.CountedWrite.failures c.args.out.now c.loop-k.out c.write_around.new.out (rows_around w.options w.many w.name.now first recent) c.loop-k.k within _ row c.loop-k.invariant c.in_ok-write_around.ensures
+    row_out g.W.CountedWrite.contents g.W.CountedWrite.failures c.args.out.now c.loop-k.out c.write_shown.new.out (rows_around w.options w.many w.name.now first recent) c.loop-k.k within _ row c.loop-k.invariant c.in_ok-write_shown.ensures
 
 pub returns : goal.returns
 returns g c =

@@ -1,23 +1,53 @@
-use Rattle.grep_session.proofs.Prelude.{◌≡◌, ◌+◌, ◌≤◌, ◌<◌, ◌++◌, Ok, Err, length, map, inl, inr, refl, sym, ap, subst, ◌∙◌, arith, All, length-map, map-append, list_of, IsReadable, matched_expression, AddPatterns, EditGives, with_patterns, most_patterns, RefusesFirst, AreSame, inputs_of}
-use Rattle.grep_session.proofs.lemmas.EditLemmas.{left_session, searched_session}
-use Rattle.grep_session.proofs.lemmas.NewPatternLemmas.{AreAdded, are_added, bounded_off, not_too_many, refuses_new, takes_new}
+use Rattle.grep_session.proofs.Prelude.{◌≡◌, ◌+◌, ◌≤◌, ◌<◌, ◌++◌, [], Ok, Err, Bool, false, false≢true, length, map, inl, inr, refl, sym, ap, subst, ◌∙◌, arith, All, All-append, length-append, length-map, map-append, list_of, IsReadable, matched_expression, wants_whole, AddPatterns, EditGives, with_patterns, most_patterns, RefusesFirst, AreMatchers, AreSame, Change, HasChanged, exchanged, TakesSteps, all_lines, pairs_cost, inputs_of}
+use Rattle.std.specs.Bool.{⊤}
+use Rattle.grep_core.proofs.lemmas.CostLaws.{same_length}
+use Rattle.grep_session.proofs.lemmas.EditLemmas.{left_session}
+use Rattle.grep_session.proofs.lemmas.SplicedLists.{IsSpliced, added, cut_off, list_changed, mapped}
+use Rattle.grep_session.proofs.lemmas.SplicingLemmas.{are_matchers, refuses, restored, spliced_session}
+use Rattle.grep_session.proofs.lemmas.StepLemmas.{chosen_all, takes_touched}
 use Rattle.re_search.proofs.lemmas.KeptMatchers.{none_asked}
-use Rattle.grep_session.proofs.lemmas.RoomLemmas.{keep_both}
 use Rattle.grep_session.proofs.lemmas.SessionLemmas.{inputs_are}
 use Rattle.grep_session.proofs.session.Session.add_patterns.Goals as goal
-use Rattle.grep_session.proofs.session.Session.add_patterns.Goals.{Else-too_many, In-Ok-append, After-add_texts}
+use Rattle.grep_session.proofs.session.Session.add_patterns.Goals.{Else-too_many, After-find_columns, After-add_texts}
 
 -- the patterns are not too many
 not_many : (c : Else-too_many) → most_patterns < length (inputs_of c.self.inside).patterns + length (list_of c.args.list.now) → ⊥
 not_many c =
     let s = c.self.inside in
-    not_too_many s c.args.list.now c.self.invariant c.len.result (omega (arith, c.len.ensures, s.matchers.ok.0)) c.if-too_many.ensures
+    λ many. (let no : ⊥ = omega (arith, c.if-too_many.ensures, c.len.ensures, s.matchers.ok.0, c.self.invariant.matchers.counted, many) in no)
 
--- what is known of all matchers after the new ones were added
-added : (c : In-Ok-append) → AreAdded c.self.inside c.args.list.now c.len-first.result c.in-Ok-read_matchers.matchers.items c.append.new.self.items
-added c =
-    let s = c.self.inside in
-    are_added s c.args.list.now c.self.invariant c.len-first.result (omega (arith, c.len-first.ensures, s.matchers.ok.0)) (omega (arith, c.if-too_many.ensures, c.len.ensures, c.len-first.ensures)) _ c.in-Ok-read_matchers.matchers.items c.append.new.self.items c.in-Ok.ensures (rw c.deref.ensures.value at c.in-Ok-read_matchers.ensures.ok) c.in-Ok-append.ensures.items
+-- the new matchers and their patterns were added
+new : (c : After-find_columns) → AreMatchers c.self.inside.syntax c.self.inside.options (list_of c.args.list.now) c.in-Ok-read_matchers.matchers.items
+new c = subst (λ ts. AreMatchers c.self.inside.syntax c.self.inside.options ts c.in-Ok-read_matchers.matchers.items) c.in-Ok.ensures (rw c.deref.ensures.value at c.in-Ok-read_matchers.ensures.ok)
+
+count : (c : After-find_columns) → c.len-3.result ≡ length (list_of c.args.list.now)
+count c = omega (arith, c.len-3.ensures, c.in-Ok.texts.ok.0, ap length c.in-Ok.ensures, length-map c.in-Ok.texts.items (λ text. text.items))
+
+first : (c : After-find_columns) → c.len-first.result ≡ length c.self.inside.matchers.items
+first c = omega (arith, c.len-first.ensures, c.self.inside.matchers.ok.0)
+
+abbrev matchers : (c : After-find_columns) → IsSpliced c.len-first.result 0 c.len-3.result c.self.inside.matchers.items c.append.new.self.items
+matchers c = added _ _ c.self.inside.matchers.items c.in-Ok-read_matchers.matchers.items _ (first c) (count c ∙ sym (new c).counted) c.in-Ok-append.ensures.items
+
+abbrev patterns : (c : After-find_columns) → IsSpliced c.len-first.result 0 c.len-3.result (inputs_of c.self.inside).patterns ((inputs_of c.self.inside).patterns ++ list_of c.args.list.now)
+patterns c = added _ _ (inputs_of c.self.inside).patterns (list_of c.args.list.now) _ (first c ∙ c.self.invariant.matchers.counted) (count c) refl
+
+all : (c : After-find_columns) → AreMatchers c.self.inside.syntax c.self.inside.options ((inputs_of c.self.inside).patterns ++ list_of c.args.list.now) c.append.new.self.items
+all c = are_matchers c.self.invariant (matchers c) (patterns c) (new c)
+
+many : (c : After-find_columns) → length c.append.new.self.items ≡ c.len-first.result + c.len-3.result
+many c = omega (arith, ap length c.in-Ok-append.ensures.items, length-append c.self.inside.matchers.items c.in-Ok-read_matchers.matchers.items, first c, count c, (new c).counted)
+
+abbrev changed : (c : After-find_columns) → HasChanged (exchanged c.len-first.result 0 c.len-3.result false) (map matched_expression c.append.new.self.items) c.self.inside.options
+changed c = list_changed (mapped matched_expression (matchers c)) c.self.inside.options false (inr refl) (λ on. absurd (false≢true on))
+
+-- the steps that this took
+taken : (c : After-find_columns) → (most_patterns < length (inputs_of c.self.inside).patterns + length (list_of c.args.list.now) → ⊥) → TakesSteps (AddPatterns c.args.list.now) (inputs_of c.self.inside) c.args.meter.now c.find_columns.new.meter
+taken c few =
+    let old = inputs_of c.self.inside in
+    let steps = rw c.new-change.ensures at c.find_columns.ensures.steps in
+    takes_touched (AddPatterns c.args.list.now) old (with_patterns (old.patterns ++ list_of c.args.list.now) old) _ [] _ _ (all_lines old) _ _ (inr (few, inl ((new c).readable, refl))) (all c).meant (steps (changed c) c.self.invariant.kept) (λ paired parted p q.
+    (record { patterns = length (list_of c.args.list.now); paired = all_lines old; lines = parted }, (_, (new c).meant, parted, q, refl), refl, (λ i. pairs_cost (sym (count c) i) (sym (chosen_all (λ line. ⊤) (all_lines old) paired (λ line. tt) p) i))))
 
 all_texts : (c : After-add_texts) → map (λ text. text.items) c.add_texts.new.texts.items ≡ map (λ text. text.items) c.self.inside.texts.items ++ list_of c.args.list.now
 all_texts c =
@@ -30,35 +60,26 @@ returns-in-Err-read_matchers-clause-gives c =
     let list = c.args.list.now in
     let refused = rw c.deref.ensures.value at c.in-Err-read_matchers.ensures.err in
     let reported = subst (λ ts. RefusesFirst s.syntax s.options.ignore_case ts c.in-Err-read_matchers.fault) c.in-Ok.ensures refused in
-    subst (λ old. EditGives {T = Unit {0}} (AddPatterns list) old old (Err c.in-Err-read_matchers.fault)) (inputs_are c.self.view_is) (refuses_new list (inputs_of s) (not_many (goal.at.returns-in-Err-read_matchers-clause-gives c).Else-too_many) (Unit {0}) c.in-Err-read_matchers.fault reported)
+    let few = not_many (goal.at.returns-in-Err-read_matchers-clause-gives c).Else-too_many in
+    subst (λ old. EditGives {T = Unit {0}} (AddPatterns list) old old (Err c.in-Err-read_matchers.fault)) (inputs_are c.self.view_is) (refuses (Unit {0}) (AddPatterns list) (inputs_of s) _ (list_of list) c.in-Err-read_matchers.fault (λ o read. inr (few, read)) reported)
 
 pub invariant_of-self-in-Err-find_columns : goal.invariant_of-self-in-Err-find_columns
 invariant_of-self-in-Err-find_columns c =
-    let s = c.self.inside in
-    let at : c.len-first.result ≡ length s.matchers.items = omega (arith, c.len-first.ensures, s.matchers.ok.0) in
-    let room : c.len-first.result + length (list_of c.args.list.now) ≤ most_patterns = omega (arith, c.if-too_many.ensures, c.len.ensures, c.len-first.ensures) in
-    left_session s _ refl c.try_reserve.ensures.items c.self.invariant (bounded_off s c.args.list.now c.self.invariant c.len-first.result at room _ c.append.new.self.items c.find_columns.new.matchers.items _ c.in-Ok-append.ensures.items c.find_columns.ensures.same_matchers c.truncate.ensures.items) c.in-Err-find_columns.ensures.err refl
+    let at = (goal.at.invariant_of-self-in-Err-find_columns c).After-find_columns in
+    let now = same_length matched_expression _ _ c.find_columns.ensures.same_matchers.same_expressions in
+    left_session c.self.inside _ refl c.try_reserve.ensures.items c.self.invariant (restored (matchers at) (cut_off _ _ c.find_columns.new.matchers.items _ (sym (now ∙ many at)) c.truncate.ensures.items) refl c.find_columns.ensures.same_matchers) c.in-Err-find_columns.ensures.err refl
 
 pub returns-in-Err-find_columns-clause-steps : goal.returns-in-Err-find_columns-clause-steps
-returns-in-Err-find_columns-clause-steps c =
-    let s = c.self.inside in
-    let new = added (goal.at.returns-in-Err-find_columns-clause-steps c).In-Ok-append in
-    rw (← c.self.view_is) (takes_new c.args.list.now (inputs_of s) (not_many (goal.at.returns-in-Err-find_columns-clause-steps c).Else-too_many) c.len-first.result (map matched_expression c.append.new.self.items) (map matched_expression c.in-Ok-read_matchers.matchers.items) _ _ new.are_new.readable new.are_matchers.meant new.are_new.meant new.as_many
-    (c.find_columns.ensures.steps _ _ new.changed c.self.invariant.kept))
+returns-in-Err-find_columns-clause-steps c = rw (← c.self.view_is) (taken (goal.at.returns-in-Err-find_columns-clause-steps c).After-find_columns (not_many (goal.at.returns-in-Err-find_columns-clause-steps c).Else-too_many))
 
 pub returns-clause-steps : goal.returns-clause-steps
-returns-clause-steps c =
-    let s = c.self.inside in
-    let new = added (goal.at.returns-clause-steps c).In-Ok-append in
-    rw (← c.self.view_is) (takes_new c.args.list.now (inputs_of s) (not_many (goal.at.returns-clause-steps c).Else-too_many) c.len-first.result (map matched_expression c.append.new.self.items) (map matched_expression c.in-Ok-read_matchers.matchers.items) _ _ new.are_new.readable new.are_matchers.meant new.are_new.meant new.as_many
-    (c.find_columns.ensures.steps _ _ new.changed c.self.invariant.kept))
+returns-clause-steps c = rw (← c.self.view_is) (taken (goal.at.returns-clause-steps c).After-find_columns (not_many (goal.at.returns-clause-steps c).Else-too_many))
 
 pub invariant_of-self-2 : goal.invariant_of-self-2
 invariant_of-self-2 c =
-    let s = c.self.inside in
-    let all = c.append.new.self.items in
-    let new = added (goal.at.invariant_of-self-2 c).In-Ok-append in
-    searched_session s _ s.syntax s.options _ all refl (all_texts (goal.at.invariant_of-self-2 c).After-add_texts) c.self.invariant new.are_matchers new.few (keep_both s.states s.matchers.items c.in-Ok-read_matchers.matchers.items all c.in-Ok-append.ensures.items c.self.invariant.rooms c.in-Ok-read_matchers.ensures.rooms) c.find_columns.ensures.same_matchers (c.in-Ok-find_columns.ensures.ok _ _ new.changed c.self.invariant.kept) c.find_columns.ensures.same c.lose_all.ensures
+    let at = (goal.at.invariant_of-self-2 c).After-find_columns in
+    let few : length c.append.new.self.items ≤ most_patterns = omega (arith, many at, first at, count at, c.self.invariant.matchers.counted, c.if-too_many.ensures, c.len.ensures, c.self.inside.matchers.ok.0) in
+    spliced_session c.self.invariant (matchers at) (patterns at) (new at) _ refl (all_texts (goal.at.invariant_of-self-2 c).After-add_texts) few c.in-Ok-read_matchers.ensures.rooms c.find_columns.ensures.same_matchers ((rw c.new-change.ensures at c.in-Ok-find_columns.ensures.ok) (changed at) c.self.invariant.kept) c.find_columns.ensures.same c.lose_all.ensures
 
 pub returns-clause-gives : goal.returns-clause-gives
 returns-clause-gives c =
@@ -69,18 +90,15 @@ returns-clause-gives c =
 
 pub find_columns-requires-clause-whole : goal.find_columns-requires-clause-whole
 find_columns-requires-clause-whole c =
-    let new = added (goal.at.find_columns-requires-clause-whole c).In-Ok-append in
-    new.are_matchers.wholes
-
-pub find_columns-requires-clause-few : goal.find_columns-requires-clause-few
-find_columns-requires-clause-few c =
-    let new = added (goal.at.find_columns-requires-clause-few c).In-Ok-append in
-    new.few
+    let Whole : Bool → Type 0 = λ w. w ≡ c.self.inside.options.line_regexp in
+    let made = rw c.deref.ensures.value at c.in-Ok-read_matchers.ensures.ok in
+    subst (All Whole) (sym (ap (map wants_whole) c.in-Ok-append.ensures.items ∙ map-append wants_whole c.self.inside.matchers.items c.in-Ok-read_matchers.matchers.items)) (All-append Whole (map wants_whole c.self.inside.matchers.items) _ c.self.invariant.matchers.wholes made.wholes)
 
 pub find_columns-requires-clause-within : goal.find_columns-requires-clause-within
 find_columns-requires-clause-within c =
-    let new = added (goal.at.find_columns-requires-clause-within c).In-Ok-append in
-    new.within
+    let made = rw c.deref.ensures.value at c.in-Ok-read_matchers.ensures.ok in
+    let within : c.len-first.result + c.len-3.result ≤ length c.append.new.self.items = omega (arith, ap length c.in-Ok-append.ensures.items, length-append c.self.inside.matchers.items c.in-Ok-read_matchers.matchers.items, c.len-first.ensures, c.self.inside.matchers.ok.0, c.len-3.ensures, c.in-Ok.texts.ok.0, made.counted, length-map c.in-Ok.texts.items (λ text. text.items)) in
+    subst (λ (change : Change). change.first + change.come ≤ length c.append.new.self.items) (sym c.new-change.ensures) within
 
 pub returns-in-Err-clause-memory : goal.returns-in-Err-clause-memory
 returns-in-Err-clause-memory c =

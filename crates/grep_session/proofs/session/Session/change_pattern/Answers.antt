@@ -1,12 +1,84 @@
-use Rattle.grep_session.proofs.Prelude.{◌≡◌, ◌<◌, ◌≤◌, Ok, Err, inl, inr, refl, map-set, MatchBool, Narrows, AreMatchers, most_patterns, matched_expression, length, sym, subst, ◌∙◌, arith, [], ◌∷◌, get_or, length-map, RefusesFirst, EditGives, ChangePattern, inputs_of}
-use Rattle.grep_session.proofs.lemmas.StepLemmas.{takes_none}
-use Rattle.grep_session.proofs.lemmas.SessionLemmas.{inputs_are}
+use Rattle.grep_session.proofs.Prelude.{◌≡◌, ℕ, ◌+◌, ◌<◌, ◌≤◌, Bool, true, false, List, Ok, Err, All-cons, All-nil, inl, inr, refl, map, map-set, set, slice_set, MatchBool, Narrows, Change, HasChanged, exchanged, IsSought, SearchesEach, Chosen, IfHolds, AreMatchers, KeepAtMost, IsMeant, IsReadable, Matcher, matched_expression, Expression, Matches, Matched, Text, Steps, length, sym, ap, subst, ◌∙◌, arith, [], ◌∷◌, get_or, get_or_default, length-map, RefusesFirst, EditGives, ChangePattern, TakesSteps, with_patterns, all_lines, IsSession, Inside, inputs_of}
+use Rattle.std.specs.Bool.{⊤}
+use Rattle.std.proofs.lemmas.List.{get_or-map, length-set, set-get_or}
+use Rattle.re_syntax.proofs.lemmas.Decisions.{Any-first}
+use Rattle.re_syntax.proofs.lemmas.SomeOfJoined.{Any-single}
 use Rattle.grep_core.proofs.lemmas.CostLaws.{same_length}
 use Rattle.grep_session.proofs.lemmas.EditLemmas.{left_session}
-use Rattle.grep_session.proofs.lemmas.PatternLemmas.{has_matcher}
-use Rattle.grep_session.proofs.lemmas.PuttingLemmas.{text_at, puts_same, refuses_put, IsPut, NarrowsIf, has_place, has_put, are_put, many, put_session, takes_put, bounded_again}
+use Rattle.grep_session.proofs.lemmas.NarrowingLemmas.{narrower_string}
+use Rattle.grep_session.proofs.lemmas.SessionLemmas.{inputs_are}
+use Rattle.grep_session.proofs.lemmas.SplicedLists.{IsSpliced, list_changed, mapped, replaced}
+use Rattle.grep_session.proofs.lemmas.SplicingLemmas.{are_matchers, gone_meant, no_more, refuses, restored, spliced_session}
+use Rattle.grep_session.proofs.lemmas.StepLemmas.{chosen_all, chosen_one, takes_none, takes_touched}
 use Rattle.grep_session.proofs.session.Session.change_pattern.Goals as goal
 use Rattle.grep_session.proofs.session.Session.change_pattern.Goals.{After-exchange-gone}
+
+-- the text of the old pattern, and whether another one narrows it
+abbrev was : Inside → ℕ → Text
+was s p = get_or (inputs_of s).patterns p []
+
+abbrev NarrowsIf : Inside → ℕ → Text → Bool → Type 0
+NarrowsIf s p text narrower = MatchBool narrower (Narrows s.syntax s.options (was s p) text) (Narrows s.syntax s.options (was s p) text → ⊥)
+
+-- matcher and text of another pattern are put in its place
+record IsPut (s : Inside) (p : ℕ) (text : Text) (narrower : Bool) (matcher gone : Matcher) (all : List Matcher) : Type 0 where
+  pub old : IsSession s
+  pub inside : p < length (inputs_of s).patterns
+  pub other : text ≡ was s p → ⊥
+  pub narrows : NarrowsIf s p text narrower
+  pub new : AreMatchers s.syntax s.options (text ∷ []) (matcher ∷ [])
+  pub few : KeepAtMost s.states (matcher ∷ [])
+  pub at : gone ≡ get_or s.matchers.items p gone
+  pub put : all ≡ slice_set s.matchers.items p matcher
+
+module _ {s : Inside} {p : ℕ} {text : Text} {narrower : Bool} {matcher gone : Matcher} {all : List Matcher} (i : IsPut s p text narrower matcher gone all) where
+  has_matcher : p < length s.matchers.items
+  has_matcher = omega (arith, i.inside, i.old.matchers.counted)
+
+  abbrev patterns : IsSpliced p 1 1 (inputs_of s).patterns (slice_set (inputs_of s).patterns p text)
+  patterns = replaced p (inputs_of s).patterns (was s p) i.inside (get_or_default (inputs_of s).patterns p [] _ i.inside) _ text refl
+
+  abbrev matchers : IsSpliced p 1 1 s.matchers.items all
+  matchers = replaced p s.matchers.items gone has_matcher i.at all matcher i.put
+
+  made : AreMatchers s.syntax s.options (slice_set (inputs_of s).patterns p text) all
+  made = are_matchers i.old matchers patterns i.new
+
+  was_meant : IsMeant s.syntax s.options.ignore_case (was s p) (matched_expression gone)
+  was_meant = (gone_meant i.old matchers patterns i.new).0
+
+  many : length all ≡ length s.matchers.items
+  many = ap length i.put ∙ length-set s.matchers.items p matcher
+
+  narrow : narrower ≡ true → (line : Text) → Matched (matched_expression matcher ∷ []) s.options line → Matched (matched_expression gone ∷ []) s.options line
+  narrow on line some =
+      let P : Expression → Type 0 = λ e. Matches e line s.options.line_regexp in
+      let narrows = subst (NarrowsIf s p text) on i.narrows in
+      Any-first P (matched_expression gone) [] (narrower_string s.syntax s.options _ text _ _ narrows was_meant i.new.meant.0 line (Any-single P (matched_expression matcher) some))
+
+  abbrev changed : HasChanged (exchanged p 1 1 narrower) (map matched_expression all) s.options
+  changed = list_changed (mapped matched_expression matchers) s.options narrower (inl (omega arith)) narrow
+
+  -- the lines that were searched by the new pattern
+  paired_lines : (lines paired : List Text) → Chosen (IsSought (exchanged p 1 1 narrower) (matched_expression gone ∷ []) s.options) lines paired
+      → IfHolds (Narrows s.syntax s.options (was s p) text) (Chosen (λ line. Matches (matched_expression gone) line s.options.line_regexp) lines paired) (paired ≡ lines)
+  paired_lines lines paired = by_flag narrower i.narrows
+    where
+      by_flag : (n : Bool) → NarrowsIf s p text n → Chosen (IsSought (exchanged p 1 1 n) (matched_expression gone ∷ []) s.options) lines paired
+          → IfHolds (Narrows s.syntax s.options (was s p) text) (Chosen (λ line. Matches (matched_expression gone) line s.options.line_regexp) lines paired) (paired ≡ lines)
+      by_flag true narrows chosen = inl (narrows, chosen_one (matched_expression gone) s.options lines paired chosen)
+      by_flag false narrows chosen = inr (narrows, chosen_all (λ line. ⊤) lines paired (λ line. tt) chosen)
+
+  -- they were, and those that it or the old one matches for parts
+  taken : (begun ended : Steps) → SearchesEach (exchanged p 1 1 narrower) (matched_expression gone ∷ []) (matched_expression matcher ∷ []) (map matched_expression all) s.options (all_lines (inputs_of s)) begun ended → TakesSteps (ChangePattern p text) (inputs_of s) begun ended
+  taken begun ended steps =
+      let inputs = inputs_of s in
+      takes_touched (ChangePattern p text) inputs (with_patterns (slice_set inputs.patterns p text) inputs) _ _ _ _ (all_lines inputs) begun ended (inl (i.inside, inl (i.new.readable, refl))) made.meant steps (λ paired parted c d.
+      (record { patterns = 1; paired = paired; lines = parted }, inr (i.other, (_, was_meant, _, i.new.meant.0, paired, paired_lines (all_lines inputs) paired c, parted, d, refl)), refl, refl))
+
+-- the text of the pattern at a place
+text_at : {V : Type 0} (items : V → Text) (texts : List V) (p : ℕ) (here : V) → p < length texts → here ≡ get_or texts p here → items here ≡ get_or (map items texts) p []
+text_at items texts p here h is = ap items is ∙ sym (get_or-map items texts p here [] h)
 
 -- what is known of the new matcher
 is_put : (c : After-exchange-gone) → IsPut c.self.inside c.args.p c.args.text.items c.narrows-narrower.result c.in-Ok.matcher c.exchange-gone.result c.exchange-gone.new.matchers.items
@@ -16,13 +88,14 @@ is_put c =
     let texts = s.texts.items in
     let narrower = c.narrows-narrower.result in
     let here : p < length texts = omega arith in
-    let old : c.deref.result.now ≡ get_or (inputs_of s).patterns p [] = c.deref.ensures.value ∙ text_at (λ text. text.items) texts p c.index.result.now here c.index.ensures in
-    let old_again : c.deref-4.result.now ≡ get_or (inputs_of s).patterns p [] = c.deref-4.ensures.value ∙ text_at (λ text. text.items) texts p c.index-2.result.now here c.index-2.ensures in
+    let old : c.deref.result.now ≡ was s p = c.deref.ensures.value ∙ text_at (λ text. text.items) texts p c.index.result.now here c.index.ensures in
+    let old_again : c.deref-4.result.now ≡ was s p = c.deref-4.ensures.value ∙ text_at (λ text. text.items) texts p c.index-2.result.now here c.index-2.ensures in
     record {
       old = c.self.invariant;
       inside = omega (arith, here, length-map texts (λ text. text.items));
       other = λ same. c.if-is_text.ensures (c.deref-2.ensures.value ∙ same ∙ sym old);
-      narrows = subst (λ t. NarrowsIf s p t narrower) c.deref-5.ensures.value (subst (λ o. MatchBool narrower (Narrows s.syntax s.options o c.deref-5.result.now) (Narrows s.syntax s.options o c.deref-5.result.now → ⊥)) old_again c.narrows-narrower.ensures);
+      narrows = subst (λ t. NarrowsIf s p t narrower) c.deref-5.ensures.value
+          (subst (λ o. MatchBool narrower (Narrows s.syntax s.options o c.deref-5.result.now) (Narrows s.syntax s.options o c.deref-5.result.now → ⊥)) old_again c.narrows-narrower.ensures);
       new = subst (λ t. AreMatchers s.syntax s.options (t ∷ []) (c.in-Ok.matcher ∷ [])) c.deref-3.ensures.value c.in-Ok.ensures.ok;
       few = c.in-Ok.ensures.rooms;
       at = c.exchange-gone.ensures.gone;
@@ -41,8 +114,11 @@ returns-then-is_text-clause-gives c =
     let p = c.args.p in
     let here : p < length s.texts.items = omega arith in
     let inside : p < length (inputs_of s).patterns = omega (arith, here, length-map s.texts.items (λ text. text.items)) in
-    let same : c.args.text.items ≡ get_or (inputs_of s).patterns p [] = sym c.deref-2.ensures.value ∙ c.if-is_text.ensures ∙ c.deref.ensures.value ∙ text_at (λ text. text.items) s.texts.items p c.index.result.now here c.index.ensures in
-    rw (← c.self.view_is) (puts_same p c.args.text.items (inputs_of s) inside same c.self.invariant.matchers.readable)
+    let same : c.args.text.items ≡ was s p = sym c.deref-2.ensures.value ∙ c.if-is_text.ensures ∙ c.deref.ensures.value ∙ text_at (λ text. text.items) s.texts.items p c.index.result.now here c.index.ensures in
+    let patterns = (inputs_of s).patterns in
+    let Readable : Text → Type 0 = IsReadable s.syntax s.options.ignore_case in
+    let one : Readable c.args.text.items = subst Readable (sym same) (c.self.invariant.matchers.readable p [] inside) in
+    rw (← c.self.view_is) (inl (inside, inl (All-cons Readable c.args.text.items [] one (All-nil Readable), ap (λ l. Ok (with_patterns l (inputs_of s))) (sym (ap (set patterns p) same ∙ set-get_or patterns p [])))))
 
 pub returns-in-Err-clause-gives : goal.returns-in-Err-clause-gives
 returns-in-Err-clause-gives c =
@@ -52,50 +128,55 @@ returns-in-Err-clause-gives c =
     let here : p < length s.texts.items = omega arith in
     let inside : p < length (inputs_of s).patterns = omega (arith, here, length-map s.texts.items (λ text. text.items)) in
     let refused = subst (λ t. RefusesFirst s.syntax s.options.ignore_case (t ∷ []) c.in-Err.fault) c.deref-3.ensures.value c.in-Err.ensures.err in
-    subst (λ old. EditGives {T = Unit {0}} (ChangePattern p text) old old (Err c.in-Err.fault)) (inputs_are c.self.view_is) (refuses_put p text (inputs_of s) inside (Unit {0}) c.in-Err.fault refused)
+    subst (λ old. EditGives {T = Unit {0}} (ChangePattern p text) old old (Err c.in-Err.fault)) (inputs_are c.self.view_is) (refuses (Unit {0}) (ChangePattern p text) (inputs_of s) _ (text ∷ []) c.in-Err.fault (λ o read. inl (inside, read)) refused)
 
 pub returns-in-Err-clause-steps : goal.returns-in-Err-clause-steps
 returns-in-Err-clause-steps c = takes_none (ChangePattern c.args.p c.args.text.items) _ _
 
 pub exchange-gone-requires : goal.exchange-gone-requires
-exchange-gone-requires c = has_matcher c.self.inside c.args.p c.self.invariant (omega (arith, length-map c.self.inside.texts.items (λ text. text.items)))
+exchange-gone-requires c = omega (arith, length-map c.self.inside.texts.items (λ text. text.items), c.self.invariant.matchers.counted)
 
 pub find_columns-requires-clause-whole : goal.find_columns-requires-clause-whole
-find_columns-requires-clause-whole c = (are_put (is_put (goal.at.find_columns-requires-clause-whole c).After-exchange-gone)).wholes
-
-pub find_columns-requires-clause-few : goal.find_columns-requires-clause-few
-find_columns-requires-clause-few c = subst (λ n. n ≤ most_patterns) (sym (many (is_put (goal.at.find_columns-requires-clause-few c).After-exchange-gone))) c.self.invariant.few
+find_columns-requires-clause-whole c = (made (is_put (goal.at.find_columns-requires-clause-whole c).After-exchange-gone)).wholes
 
 pub find_columns-requires-clause-within : goal.find_columns-requires-clause-within
 find_columns-requires-clause-within c =
     let i = is_put (goal.at.find_columns-requires-clause-within c).After-exchange-gone in
-    omega (arith, many i, has_place i)
+    let within : c.args.p + 1 ≤ length c.exchange-gone.new.matchers.items = omega (arith, many i, has_matcher i) in
+    subst (λ (change : Change). change.first + change.come ≤ length c.exchange-gone.new.matchers.items) (sym c.new-change.ensures) within
 
 pub exchange-requires : goal.exchange-requires
 exchange-requires c =
     let i = is_put (goal.at.exchange-requires c).After-exchange-gone in
     let now : length c.find_columns.new.matchers.items ≡ length c.exchange-gone.new.matchers.items = same_length matched_expression _ _ c.find_columns.ensures.same_matchers.same_expressions in
-    omega (arith, now, many i, has_place i)
+    omega (arith, now, many i, has_matcher i)
 
 pub invariant_of-self : goal.invariant_of-self
 invariant_of-self c =
     let s = c.self.inside in
-    left_session s _ refl refl c.self.invariant (bounded_again (is_put (goal.at.invariant_of-self c).After-exchange-gone) c.find_columns.ensures.same_matchers c.exchange.ensures.items) c.in-Err-find_columns.ensures.err refl
+    let i = is_put (goal.at.invariant_of-self c).After-exchange-gone in
+    let now = c.find_columns.new.matchers.items in
+    let here : c.args.p < length now = omega (arith, same_length matched_expression _ _ c.find_columns.ensures.same_matchers.same_expressions, many i, has_matcher i) in
+    let one = get_or now c.args.p c.exchange-gone.result in
+    left_session s _ refl refl c.self.invariant (restored (matchers i) (replaced c.args.p now one here (get_or_default now c.args.p _ one here) _ c.exchange-gone.result c.exchange.ensures.items) refl c.find_columns.ensures.same_matchers) c.in-Err-find_columns.ensures.err refl
 
 pub returns-in-Err-find_columns-clause-steps : goal.returns-in-Err-find_columns-clause-steps
 returns-in-Err-find_columns-clause-steps c =
     let i = is_put (goal.at.returns-in-Err-find_columns-clause-steps c).After-exchange-gone in
-    rw (← c.self.view_is) (takes_put i _ _ (c.find_columns.ensures.steps _ _ (has_put i) c.self.invariant.kept))
+    let searched = rw c.new-change.ensures at c.find_columns.ensures.steps in
+    rw (← c.self.view_is) (taken i _ _ (searched (changed i) c.self.invariant.kept))
 
 pub returns-clause-steps : goal.returns-clause-steps
 returns-clause-steps c =
     let i = is_put (goal.at.returns-clause-steps c).After-exchange-gone in
-    rw (← c.self.view_is) (takes_put i _ _ (c.find_columns.ensures.steps _ _ (has_put i) c.self.invariant.kept))
+    let searched = rw c.new-change.ensures at c.find_columns.ensures.steps in
+    rw (← c.self.view_is) (taken i _ _ (searched (changed i) c.self.invariant.kept))
 
 pub invariant_of-self-2 : goal.invariant_of-self-2
 invariant_of-self-2 c =
     let i = is_put (goal.at.invariant_of-self-2 c).After-exchange-gone in
-    put_session i _ refl (map-set (λ text. text.items) c.self.inside.texts.items c.args.p c.args.text) c.find_columns.ensures.same_matchers (c.in-Ok-find_columns.ensures.ok _ _ (has_put i) c.self.invariant.kept) c.find_columns.ensures.same c.lose_all.ensures
+    let kept = rw c.new-change.ensures at c.in-Ok-find_columns.ensures.ok in
+    spliced_session i.old (matchers i) (patterns i) i.new _ refl (map-set (λ text. text.items) c.self.inside.texts.items c.args.p c.args.text) (no_more i.old (matchers i) (patterns i) i.new (omega arith)) i.few c.find_columns.ensures.same_matchers (kept (changed i) c.self.invariant.kept) c.find_columns.ensures.same c.lose_all.ensures
 
 pub returns-clause-gives : goal.returns-clause-gives
 returns-clause-gives c =

@@ -1,19 +1,7 @@
-use Rattle.grep_session.proofs.Prelude.{◌≡◌, List, map, All, ap, subst, ◌∙◌, length, get_or, ◌<◌, take, Expression, HoldsOfMany, matched_expression, File, Inputs, AreMeant, Selected, file_at, KeptFile, IsFileKept, inputs_of}
-use Rattle.grep_core.proofs.lemmas.LawsHold.{means_one}
-use Rattle.grep_session.proofs.lemmas.CountLemmas.{file_there, kept_there}
+use Rattle.grep_session.proofs.Prelude.{take, HoldsOfMany, File, Selected}
+use Rattle.grep_session.proofs.lemmas.CountLemmas.{of_file}
 use Rattle.grep_session.proofs.lemmas.SessionLemmas.{inputs_are}
 use Rattle.grep_session.proofs.session.Session.hits_before.Goals as goal
 
 pub returns : goal.returns
-returns c =
-    let s = c.self.inside in
-    let found = map matched_expression s.matchers.items in
-    let there = c.in-Some.ensures.lookup.3 in
-    let inside : c.args.k < length s.files.items = subst (λ (fs : List KeptFile). c.args.k < length fs) c.deref.ensures.value there.0 in
-    let at : c.in-Some.file.now ≡ get_or s.files.items c.args.k c.in-Some.file.now = there.1 c.in-Some.file.now ∙ ap (λ (fs : List KeptFile). get_or fs c.args.k c.in-Some.file.now) c.deref.ensures.value in
-    subst (λ (inputs : Inputs). (es : List Expression) → AreMeant inputs.syntax inputs.options inputs.patterns es → HoldsOfMany (Selected es inputs.options) (take c.args.place (file_at inputs.files c.args.k).lines) c.selected_before.result) (inputs_are c.self.view_is)
-    (λ es meant.
-    let same : found ≡ es = means_one s.syntax s.options (inputs_of s).patterns found es c.self.invariant.matchers.meant meant in
-    let all : All (IsFileKept es s.options) s.files.items = subst (λ es. All (IsFileKept es s.options) s.files.items) same c.self.invariant.kept in
-    subst (λ (f : File). HoldsOfMany (Selected es s.options) (take c.args.place f.lines) c.selected_before.result) (file_there s.files.items c.args.k c.in-Some.file.now inside at)
-    (c.selected_before.ensures es (kept_there es s.options s.files.items c.args.k c.in-Some.file.now inside at all)))
+returns c = of_file (λ es options (file : File). HoldsOfMany (Selected es options) (take c.args.place file.lines) c.selected_before.result) c.self.inside c.args.self.now.inputs c.args.k _ c.in-Some.file.now c.self.invariant (inputs_are c.self.view_is) c.deref.ensures.value c.in-Some.ensures.lookup.3.0 (c.in-Some.ensures.lookup.3.1 c.in-Some.file.now) c.selected_before.ensures

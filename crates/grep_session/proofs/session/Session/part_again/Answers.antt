@@ -1,7 +1,8 @@
 use Rattle.grep_session.proofs.Prelude.{◌≡◌, [], refl, Ok, map, inl, sym, ap, subst, ◌∙◌, matched_expression, AreMatchers, Inputs, Edit, Applies, Touches, TakesSteps, parts_alone, read_as, inputs_of, all_lines}
 use Rattle.re_search.specs.Working.Matchers.{AreAlike}
 use Rattle.grep_session.proofs.lemmas.EditLemmas.{left_session, searched_session}
-use Rattle.grep_session.proofs.lemmas.AllPatternsRead.{ready_files, AreMatchers-options}
+use Rattle.grep_session.proofs.lemmas.AllPatternsRead.{AreMatchers-options}
+use Rattle.grep_session.proofs.lemmas.ChangeLemmas.{parts_anew}
 use Rattle.grep_session.proofs.lemmas.StepLemmas.{takes_parts}
 use Rattle.grep_session.proofs.lemmas.SessionLemmas.{inputs_are}
 use Rattle.grep_session.proofs.session.Session.part_again.Goals as goal
@@ -21,7 +22,9 @@ steps : (c : After-find_columns) → let old = inputs_of c.self.inside in (edit 
 steps c = λ edit applies touches.
     let s = c.self.inside in
     let old = inputs_of s in
-    takes_parts edit old (read_as old.syntax c.args.options old) [] (map matched_expression s.matchers.items) (all_lines old) _ _ applies touches (made c).meant (c.find_columns.ensures.steps _ [] refl (ready_files (map matched_expression s.matchers.items) s.options c.args.options (same_whole c) s.files.items c.self.invariant.kept))
+    let es = map matched_expression s.matchers.items in
+    let searched = rw c.anew.ensures at c.find_columns.ensures.steps in
+    takes_parts edit old (read_as old.syntax c.args.options old) [] [] es (all_lines old) _ _ applies touches (made c).meant (searched (parts_anew es s.options c.args.options (same_whole c)) c.self.invariant.kept)
 
 pub find_columns-requires-clause-whole : goal.find_columns-requires-clause-whole
 find_columns-requires-clause-whole c =
@@ -39,7 +42,7 @@ pub invariant_of-self-2 : goal.invariant_of-self-2
 invariant_of-self-2 c =
     let s = c.self.inside in
     let at = (goal.at.invariant_of-self-2 c).After-find_columns in
-    searched_session s _ s.syntax c.args.options _ s.matchers.items refl refl c.self.invariant (made at) c.self.invariant.few c.self.invariant.rooms c.find_columns.ensures.same_matchers (c.in-Ok.ensures.ok _ [] refl (ready_files (map matched_expression s.matchers.items) s.options c.args.options (same_whole at) s.files.items c.self.invariant.kept)) c.find_columns.ensures.same c.lose_all.ensures
+    searched_session s _ s.syntax c.args.options _ s.matchers.items refl refl c.self.invariant (made at) c.self.invariant.few c.self.invariant.rooms c.find_columns.ensures.same_matchers ((rw c.anew.ensures at c.in-Ok.ensures.ok) (parts_anew (map matched_expression s.matchers.items) s.options c.args.options (same_whole at)) c.self.invariant.kept) c.find_columns.ensures.same c.lose_all.ensures
 
 pub returns-clause-gives : goal.returns-clause-gives
 returns-clause-gives c =

@@ -1,18 +1,28 @@
-use Rattle.grep_session.proofs.Prelude.{◌≤◌, Ok, Err, [], refl, length, map, inl, sym, ap, subst, ◌∙◌, Edit, Applies, Touches, TakesSteps, AreReadable, searched_by, ReadsAgain, read_as, most_patterns, inputs_of, all_lines}
+use Rattle.grep_session.proofs.Prelude.{◌≡◌, ◌≤◌, Ok, Err, refl, length, length-map, map, matched_expression, anew, arith, inl, sym, ap, subst, ◌∙◌, Edit, Applies, Touches, TakesSteps, AreReadable, searched_by, ReadsAgain, read_as, most_patterns, inputs_of, all_lines}
 use Rattle.grep_session.proofs.lemmas.EditLemmas.{left_session, searched_session}
 use Rattle.grep_session.proofs.lemmas.AllPatternsRead.{refuses_again}
-use Rattle.grep_session.proofs.lemmas.ChangeLemmas.{anew_files}
+use Rattle.grep_session.proofs.lemmas.ChangeLemmas.{all_anew}
 use Rattle.grep_session.proofs.lemmas.StepLemmas.{takes_lines, takes_none}
 use Rattle.re_search.proofs.lemmas.KeptMatchers.{none_asked}
 use Rattle.grep_session.proofs.lemmas.SessionLemmas.{inputs_are}
 use Rattle.grep_session.proofs.session.Session.read_again.Goals as goal
 use Rattle.grep_session.proofs.session.Session.read_again.Goals.{After-find_columns}
 
+-- all patterns went, and others came
+again : (c : After-find_columns) → c.anew-change.result ≡ anew (length (map matched_expression c.self.inside.matchers.items)) (length (map matched_expression c.in-Ok.matchers.items))
+again c =
+    let s = c.self.inside in
+    let old : c.len.result ≡ length (map matched_expression s.matchers.items) = omega (arith, c.len.ensures, s.matchers.ok.0, length-map s.matchers.items matched_expression) in
+    let new : c.len-2.result ≡ length (map matched_expression c.in-Ok.matchers.items) = omega (arith, c.len-2.ensures, c.in-Ok.matchers.ok.0, length-map c.in-Ok.matchers.items matched_expression) in
+    c.anew-change.ensures ∙ (λ i. anew (old i) (new i))
+
 steps : (c : After-find_columns) → let old = inputs_of c.self.inside in (edit : Edit) → (AreReadable c.args.syntax c.args.options old → Applies edit old (Ok (read_as c.args.syntax c.args.options old))) → Touches edit old (searched_by (length old.patterns) (all_lines old)) → TakesSteps edit old c.args.meter.now c.find_columns.new.meter
 steps c = λ edit applies touches.
-    let old = inputs_of c.self.inside in
+    let s = c.self.inside in
+    let old = inputs_of s in
     let made = rw c.deref.ensures.value at c.in-Ok.ensures.ok in
-    takes_lines edit old (read_as c.args.syntax c.args.options old) c.in-Ok.matchers.items (all_lines old) _ _ (applies made.readable) touches made refl (c.find_columns.ensures.steps [] _ refl (anew_files [] c.args.options c.self.inside.files.items))
+    let searched = rw (again c) at c.find_columns.ensures.steps in
+    takes_lines edit old (read_as c.args.syntax c.args.options old) _ _ c.in-Ok.matchers.items (all_lines old) _ _ (applies made.readable) touches made refl (searched (all_anew (map matched_expression s.matchers.items) _ s.options c.args.options) c.self.invariant.kept)
 
 pub returns-in-Err-clause-gives : goal.returns-in-Err-clause-gives
 returns-in-Err-clause-gives c =
@@ -29,7 +39,7 @@ pub invariant_of-self-2 : goal.invariant_of-self-2
 invariant_of-self-2 c =
     let s = c.self.inside in
     let made = rw c.deref.ensures.value at c.in-Ok.ensures.ok in
-    searched_session s _ c.args.syntax c.args.options _ c.in-Ok.matchers.items refl refl c.self.invariant made (subst (λ n. n ≤ most_patterns) (c.self.invariant.matchers.counted ∙ sym made.counted) c.self.invariant.few) c.in-Ok.ensures.rooms c.find_columns.ensures.same_matchers (c.in-Ok-find_columns.ensures.ok [] _ refl (anew_files [] c.args.options s.files.items)) c.find_columns.ensures.same c.lose_all.ensures
+    searched_session s _ c.args.syntax c.args.options _ c.in-Ok.matchers.items refl refl c.self.invariant made (subst (λ n. n ≤ most_patterns) (c.self.invariant.matchers.counted ∙ sym made.counted) c.self.invariant.few) c.in-Ok.ensures.rooms c.find_columns.ensures.same_matchers ((rw (again (goal.at.invariant_of-self-2 c).After-find_columns) at c.in-Ok-find_columns.ensures.ok) (all_anew (map matched_expression s.matchers.items) _ s.options c.args.options) c.self.invariant.kept) c.find_columns.ensures.same c.lose_all.ensures
 
 pub returns-clause-gives : goal.returns-clause-gives
 returns-clause-gives c =

@@ -6,9 +6,9 @@ pub returns-clause-at : goal.returns-clause-at
 returns-clause-at c =
     λ k h.
     ap (numbers_at k) c.matches.ensures.same ∙
-    ap (λ (finds : Finds). finds.numbers) (found_at c.args.self.now c.self.inside.block c.self.inside.found c.self.view_is k h)
+    ap (λ (finds : Finds). finds.numbers) (found_at _ _ c.self.view_is k h)
 
 pub returns-clause-within : goal.returns-clause-within
 returns-clause-within c =
     subst (λ (n : ℕ). AreBelow n c.matches.result.now)
-    (c.self.invariant ∙ as_many c.args.self.now c.self.inside.block c.self.inside.found c.self.view_is) c.matches.ensures.within
+    (c.self.invariant.1 ∙ as_many _ _ c.self.view_is) c.matches.ensures.within

@@ -1,15 +1,21 @@
-use Rattle.line_chunks.proofs.Prelude.{arith, ◌∙◌, ap, sym, length, take, terminated}
-use Rattle.line_chunks.proofs.lemmas.SeenLaws.{as_many, texts_are}
+use Rattle.line_chunks.proofs.Prelude.{arith, ◌∙◌, sym}
+use Rattle.line_chunks.proofs.lemmas.SeenLaws.{as_many}
+use Rattle.line_chunks.proofs.lemmas.EndedLemmas.{begins_at, not_yet, here_now}
 use Rattle.line_chunks.proofs.chunk.Chunk.number_at.Goals as goal
 
-pub number_at-requires : goal.number_at-requires
-number_at-requires c = omega (arith, c.requires, as_many c.args.self.now c.self.inside.block c.self.inside.found c.self.view_is)
+pub loop-number-preserved : goal.loop-number-preserved
+loop-number-preserved c = (
+  omega (arith, c.loop-number-test.true, c.len.ensures),
+  λ k from within at.
+      not_yet c.self.inside.lines c.loop-number.number k c.args.place
+      (omega (arith, c.start.ensures.start, c.if-place-start.false))
+      (at ∙ sym (begins_at _ _ c.self.view_is c.self.invariant.0 k)),
+)
 
-pub returns-clause-within : goal.returns-clause-within
-returns-clause-within c = omega (arith, c.number_at.ensures.within, as_many c.args.self.now c.self.inside.block c.self.inside.found c.self.view_is)
-
-pub returns-clause-at : goal.returns-clause-at
-returns-clause-at c =
+pub returns-then-place-start-clause-at : goal.returns-then-place-start-clause-at
+returns-then-place-start-clause-at c =
     λ k from within at.
-    c.number_at.ensures.at k from (omega (arith, within, as_many c.args.self.now c.self.inside.block c.self.inside.found c.self.view_is))
-    (at ∙ ap (λ xs. length (terminated (take k xs))) (sym (texts_are c.args.self.now c.self.inside.block c.self.inside.found c.self.view_is)))
+    here_now c.self.inside.lines c.loop-number.number k c.args.place c.self.invariant.0
+    (omega (arith, c.loop-number-test.true, c.len.ensures, as_many _ _ c.self.view_is))
+    (c.loop-number.invariant.1 k from within at) (omega (arith, c.start.ensures.start, c.if-place-start.true))
+    (at ∙ sym (begins_at _ _ c.self.view_is c.self.invariant.0 k))

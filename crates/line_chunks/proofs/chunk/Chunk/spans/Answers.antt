@@ -5,4 +5,4 @@ use Rattle.line_chunks.proofs.chunk.Chunk.spans.Goals as goal
 pub returns : goal.returns
 returns c =
     c.spans.ensures ∙
-    ap (λ (finds : Finds). finds.spans) (found_at c.args.self.now c.self.inside.block c.self.inside.found c.self.view_is c.args.k c.requires)
+    ap (λ (finds : Finds). finds.spans) (found_at _ _ c.self.view_is c.args.k c.requires)

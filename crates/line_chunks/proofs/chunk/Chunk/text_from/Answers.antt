@@ -1,10 +1,29 @@
-use Rattle.line_chunks.proofs.Prelude.{arith, ◌∙◌, ap, drop}
-use Rattle.line_chunks.proofs.lemmas.SeenLaws.{as_many, texts_are}
+use Rattle.line_chunks.proofs.Prelude.{arith, ◌≡◌, ◌∙◌, ap, length, drop, map, take_rest, All-drop, HasNoNewline, lines_of, line_text}
+use Rattle.re_trees.proofs.lemmas.LinesLaws.{lines_of-terminated}
+use Rattle.line_finds.proofs.lemmas.PieceLemmas.{begins_within}
+use Rattle.line_chunks.proofs.lemmas.EndedLemmas.{rest_is, free}
 use Rattle.line_chunks.proofs.chunk.Chunk.text_from.Goals as goal
 
-pub text_from-requires : goal.text_from-requires
-text_from-requires c = omega (arith, c.requires, as_many c.args.self.now c.self.inside.block c.self.inside.found c.self.view_is)
+pub slice_bounds-result-count : goal.slice_bounds-result-count
+slice_bounds-result-count c =
+    omega (arith, c.start-start.ensures.start, ap length c.all.ensures, begins_within c.self.inside.lines c.args.k)
+
+pub slice_bounds-result-start : goal.slice_bounds-result-start
+slice_bounds-result-start c =
+    omega (arith, c.start-start.ensures.start, ap length c.all.ensures, begins_within c.self.inside.lines c.args.k)
+
+pub returns-clause-block : goal.returns-clause-block
+returns-clause-block c = (
+  drop c.args.k (map line_text c.args.self.now),
+  All-drop HasNoNewline c.args.k _ (free _ _ c.self.view_is c.self.invariant.0),
+  take_rest c.all.result.now c.start-start.result ∙ (λ j. drop (c.start-start.ensures.start j) (c.all.ensures j)) ∙
+      rest_is _ _ c.self.view_is c.self.invariant.0 c.args.k,
+)
 
 pub returns-clause-lines : goal.returns-clause-lines
 returns-clause-lines c =
-    c.text_from.ensures.lines ∙ ap (drop c.args.k) (texts_are c.args.self.now c.self.inside.block c.self.inside.found c.self.view_is)
+    ap lines_of
+    (take_rest c.all.result.now c.start-start.result ∙ (λ j. drop (c.start-start.ensures.start j) (c.all.ensures j)) ∙
+    rest_is _ _ c.self.view_is c.self.invariant.0 c.args.k) ∙
+    lines_of-terminated (drop c.args.k (map line_text c.args.self.now))
+    (All-drop HasNoNewline c.args.k _ (free _ _ c.self.view_is c.self.invariant.0))

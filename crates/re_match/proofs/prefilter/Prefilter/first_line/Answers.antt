@@ -1,7 +1,6 @@
 use Rattle.re_match.proofs.Prelude.{◌≤◌, subst, inl, inr, IfSome, runs_of}
 use Rattle.re_needle.proofs.lemmas.NeededLines.{passes_unmatched_run}
-use Rattle.re_needle.proofs.lemmas.NeededLines.{passes_unmatched_begun}
-use Rattle.re_match.proofs.lemmas.SweptLines.{stops_seen, stops_matched, stops_at_head}
+use Rattle.re_match.proofs.lemmas.SweptLines.{stops_seen, stops_inside, stops_matched, stops_at_head}
 use Rattle.re_runs.proofs.lemmas.Looks.{look_within}
 use Rattle.re_match.proofs.lemmas.NeededStrings.{passes_needed}
 use Rattle.re_match.proofs.prefilter.Prefilter.first_line.Goals as goal
@@ -13,14 +12,18 @@ returns-in-Some-clause-passes c = λ e is.
 pub returns-in-Some-clause-stops : goal.returns-in-Some-clause-stops
 returns-in-Some-clause-stops c = λ e is. c.first_line.ensures.stops e c.args.whole
 
-pub returns-then-needle-clause-passes : goal.returns-then-needle-clause-passes
-returns-then-needle-clause-passes c = λ e is.
+pub returns-then-is_inside-clause-passes : goal.returns-then-is_inside-clause-passes
+returns-then-is_inside-clause-passes c = λ e is.
     let needle = rw c.in-Some-needle.is at is.needle in
-    rw (c.to.ensures, c.if-whole.true)
-    (passes_unmatched_begun e (runs_of c.in-Some-needle.needle.finder) (needle.first c.if-needle.true) c.args.block.now c.first_line_beginning_with-swept.result.start c.first_line_beginning_with-swept.ensures.passes)
+    rw c.to.ensures (passes_unmatched_run e (runs_of c.in-Some-needle.needle.finder) c.args.whole needle.needed c.args.block.now c.first_line_with_run-swept.result.start c.first_line_with_run-swept.ensures.passes)
 
-pub returns-then-needle-clause-stops : goal.returns-then-needle-clause-stops
-returns-then-needle-clause-stops c = λ e is. rw (c.to.ensures, c.bytes_over.ensures) (stops_seen e c.args.whole c.args.block.now c.first_line_beginning_with-swept.result.start _ (look_within _ _) c.first_line_beginning_with-swept.ensures.stops)
+pub returns-then-is_inside-clause-stops : goal.returns-then-is_inside-clause-stops
+returns-then-is_inside-clause-stops c = λ e is.
+    let needle = rw c.in-Some-needle.is at is.needle in
+    let of = c.first_line_with_run-swept.ensures in
+    let (at, place, before) = c.is_inside.ensures c.if-is_inside.true in
+    rw (c.to.ensures, c.bytes_over-reached.ensures, c.if-whole.true)
+    (stops_inside e (runs_of c.in-Some-needle.needle.finder) c.args.block.now c.first_line_with_run-swept.result at (needle.first c.if-needle.true) place of.found before of.stops)
 
 pub returns-then-has_run-clause-passes : goal.returns-then-has_run-clause-passes
 returns-then-has_run-clause-passes c = λ e is.

@@ -1,0 +1,6 @@
+use Rattle.line_finds.proofs.Prelude.{◌≡◌, ◌-◌}
+use Rattle.line_finds.proofs.lemmas.MappedLemmas.{mapped_to}
+use Rattle.line_finds.proofs.pieces.lower.Given as goal
+
+abbrev pub invariant-loop-start : goal.invariant-loop-start
+invariant-loop-start l = l.starts ≡ mapped_to (λ start. start - l.by) l.fn.starts l.start-index
