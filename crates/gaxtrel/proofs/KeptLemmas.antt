@@ -29,7 +29,7 @@ some_of zero not = absurd (not refl)
 some_of (suc n) not = omega arith
 
 pub less_of : (m n : ℕ) → m ≤ n → (m ≡ n → ⊥) → m < n
-less_of m n few not = elim (eq-or-lt_of_le few) [ | inl e ↦ absurd (not e) | inr less ↦ less ]
+less_of m n few not = elim (eq-or-lt_of_le few) [ inl e ↦ absurd (not e) | inr less ↦ less ]
 
 module _ (t : Terms) where
   pub fewer : (n m : ℕ) → m ≤ n → Allows t n → Allows t m

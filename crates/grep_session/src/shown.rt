@@ -58,7 +58,12 @@ pub fn next_shown(
     ensures shown { (es : List Expression) → All (IsKept es options.now) (all_of lines.now) →
         NextShown es options.now context (map line_text (all_of lines.now)) k result.1 }
 {
-    let near = find_near(lines, options, near, k.saturating_sub(context.after as usize));
+    let near = find_near(
+        lines,
+        options,
+        near,
+        k.saturating_sub(context.after as usize),
+    );
     if near == lines.len() {
         return (near, near);
     }

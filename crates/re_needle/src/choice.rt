@@ -76,7 +76,9 @@ impl Run {
         Run {
             start: self.start,
             length: self.length.saturating_add(1),
-            narrow: self.narrow.saturating_add(usize::from(mark.share <= NARROW)),
+            narrow: self
+                .narrow
+                .saturating_add(usize::from(mark.share <= NARROW)),
             rank: self.rank.min(mark.rank),
             stops: self.stops.saturating_mul(u64::from(mark.share)) / TEXT,
         }

@@ -114,8 +114,10 @@ module _ {W : Type 0} (p : Reporting W) where
 
     module _ {i : ℕ} {a b : W} {mid : Bool} (s : FilesTo i a b mid) where
       further : {E : Type 0} {file : KeptFile} {c : W} {r : Result Bool E} → i < length files → file ≡ get_or files i file → Gives (FilesDue (kept_file file ∷ [])) mid b c r → Gives (Leads (FilesFrom (i + 1)) AllFiles) false a c r
-      further {file = file} inside is g = groups_more s.wrote g (λ us vs l here. leads_on l (record { with_rest = λ rest h.
-          subst (λ fs. FilesDue (map kept_file fs) (vs ++ rest)) (sym (drop-item files i file inside is)) (GroupedAs-append es options many (form options) (kept_file file ∷ []) (map kept_file (drop (i + 1) files)) vs rest here h) }))
+      further {file = file} inside is g = groups_more s.wrote g (λ us vs l here. leads_on l (record {
+        with_rest = λ rest h.
+            subst (λ fs. FilesDue (map kept_file fs) (vs ++ rest)) (sym (drop-item files i file inside is)) (GroupedAs-append es options many (form options) (kept_file file ∷ []) (map kept_file (drop (i + 1) files)) vs rest here h);
+      }))
 
       pub files_on : {E : Type 0} {file : KeptFile} {c : W} {now : Bool} → i < length files → file ≡ get_or files i file → Gives {E = E} (FilesDue (kept_file file ∷ [])) mid b c (Ok now) → FilesTo (i + 1) a c now
       files_on inside is g = record { wrote = groups_are (further inside is g) (λ us l. l) }
