@@ -192,7 +192,7 @@ impl Chunk {
         ensures err { OnErr result (self.new ≡ self.old) }
     {
         let before = self.lines.len();
-        self.lines.push(line, b"\n")?;
+        self.lines.push(line, b'\n')?;
         if let Err(fault) = self.found.push_none() {
             self.lines.remove(before, self.lines.len());
             return Err(fault);

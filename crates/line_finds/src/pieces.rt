@@ -41,14 +41,14 @@ fn part<T>(items: &[T], start: usize, end: usize) -> &[T]
     &items[start..end]
 }
 
-/// Adds both lists.
-fn add_both<T: Copy>(items: &mut Vec<T>, first: &[T], rest: &[T]) -> Result<(), AllocError>
-    ensures ok { IfOk result (λ _. items.new.items ≡ items.old.items ++ (first.now ++ rest.now)) }
+/// Adds the first items and the last one.
+fn add_items<T: Copy>(items: &mut Vec<T>, first: &[T], last: T) -> Result<(), AllocError>
+    ensures ok { IfOk result (λ _. items.new.items ≡ items.old.items ++ (first.now ++ last ∷ [])) }
     ensures err { OnErr result (items.new.items ≡ items.old.items) }
 {
     let before = items.len();
     items.extend_from_slice(first)?;
-    if items.extend_from_slice(rest).is_err() {
+    if items.push(last).is_err() {
         items.truncate(before);
         return Err(AllocError);
     }
@@ -183,11 +183,11 @@ impl<T> Pieces<T> {
 }
 
 impl<T: Copy> Pieces<T> {
-    /// Adds empty lists until there are `k`, and then a list of the items of both. A list that would
-    /// begin at item 2^32 is refused as out of memory.
-    pub fn add(&mut self, k: usize, first: &[T], rest: &[T]) -> Result<(), AllocError>
+    /// Adds empty lists until there are `k`, and then this one. A list that would begin at item
+    /// 2^32 is refused as out of memory.
+    fn add(&mut self, k: usize, list: &[T]) -> Result<(), AllocError>
         requires { length self.old ≤ k }
-        ensures ok { IfOk result (λ _. self.new ≡ with_list k (first.now ++ rest.now) self.old) }
+        ensures ok { IfOk result (λ _. self.new ≡ with_list k list.now self.old) }
         ensures err { OnErr result (self.new ≡ self.old) }
     {
         let before = self.items.len();
@@ -197,7 +197,7 @@ impl<T: Copy> Pieces<T> {
         let Some(count) = k.checked_add(1) else {
             return Err(AllocError);
         };
-        add_both(&mut self.items, first, rest)?;
+        self.items.extend_from_slice(list)?;
         if self.starts.resize(count, start).is_err() {
             self.items.truncate(before);
             return Err(AllocError);
@@ -205,12 +205,21 @@ impl<T: Copy> Pieces<T> {
         Ok(())
     }
 
-    /// Adds a list of the items of both.
-    pub fn push(&mut self, first: &[T], rest: &[T]) -> Result<(), AllocError>
-        ensures ok { IfOk result (λ _. self.new ≡ self.old ++ (first.now ++ rest.now) ∷ []) }
+    /// Adds a list of the first items and the last one. A list that would begin at item 2^32 is
+    /// refused as out of memory.
+    pub fn push(&mut self, first: &[T], last: T) -> Result<(), AllocError>
+        ensures ok { IfOk result (λ _. self.new ≡ self.old ++ (first.now ++ last ∷ []) ∷ []) }
         ensures err { OnErr result (self.new ≡ self.old) }
     {
-        self.add(self.len(), first, rest)?;
+        let before = self.items.len();
+        let Ok(start) = u32::try_from(before) else {
+            return Err(AllocError);
+        };
+        add_items(&mut self.items, first, last)?;
+        if self.starts.push(start).is_err() {
+            self.items.truncate(before);
+            return Err(AllocError);
+        }
         Ok(())
     }
 
@@ -248,7 +257,7 @@ impl<T: Copy> Pieces<T> {
         if list.is_empty() {
             return Ok(());
         }
-        self.add(k, list, &[])?;
+        self.add(k, list)?;
         Ok(())
     }
 }

@@ -206,23 +206,27 @@ module _ {X : Type 0} {lists : List (List X)} {items : List X} {starts : List �
   -- ---- a list more
 
   pub are_more : {new_items : List X} {new_starts : List ℕ} → AreLists lists items starts
-      → (k n m at : ℕ) (list : List X) → length lists ≤ k → n ≡ k + 1 → m ≡ length starts → at ≡ length items
-      → new_items ≡ items ++ list → new_starts ≡ take n starts ++ replicate (n - m) at
-      → AreLists (with_list k list lists) new_items new_starts
-  are_more are k n m at list le n_is m_is place i s =
-      let more = replicate (k - length lists) [] ++ list ∷ [] in
-      let count : n - m ≡ suc (k - length lists) = omega (arith, many_starts are, le, n_is, m_is) in
+      → (n at : ℕ) (list : List X) → at ≡ length items → new_items ≡ items ++ list
+      → new_starts ≡ starts ++ replicate (suc n) at
+      → AreLists (lists ++ (replicate n [] ++ list ∷ [])) new_items new_starts
+  are_more are n at list place i s =
+      let more = replicate n [] ++ list ∷ [] in
       let here : at ≡ 0 + length (all_items lists) = omega (arith, place, ap length are.items_are) in
       record {
         items_are =
-            i ∙ (λ j. are.items_are j ++ sym (last_items (k - length lists) list) j) ∙ sym (items-append lists more);
+            i ∙ (λ j. are.items_are j ++ sym (last_items n list) j) ∙ sym (items-append lists more);
         starts_are =
-            s ∙
-            (λ j. (take_all n starts (omega (arith, many_starts are, le, n_is)) ∙ are.starts_are) j ++ replicate (count j) (here j)) ∙
-            ap (λ some. starts_from 0 lists ++ some)
-            (sym (last_starts (0 + length (all_items lists)) (k - length lists) list)) ∙
+            s ∙ (λ j. are.starts_are j ++ replicate (suc n) (here j)) ∙
+            ap (λ some. starts_from 0 lists ++ some) (sym (last_starts (0 + length (all_items lists)) n list)) ∙
             sym (starts-append 0 lists more);
       }
+
+  -- what `resize` leaves
+  pub resized : AreLists lists items starts → (k n m at : ℕ) → length lists ≤ k → n ≡ k + 1 → m ≡ length starts
+      → take n starts ++ replicate (n - m) at ≡ starts ++ replicate (suc (k - length lists)) at
+  resized are k n m at le n_is m_is =
+      let count : n - m ≡ suc (k - length lists) = omega (arith, many_starts are, le, n_is, m_is) in
+      λ j. take_all n starts (omega (arith, many_starts are, le, n_is)) j ++ replicate (count j) at
 
   -- ---- lists removed
 
@@ -250,12 +254,6 @@ module _ {X : Type 0} {lists : List (List X)} {items : List X} {starts : List �
       }
 
 -- ---- lists of another added
-
-pub pushed : {X : Type 0} (lists : List (List X)) (list : List X) (k : ℕ) → k ≡ length lists
-    → with_list k list lists ≡ lists ++ list ∷ []
-pushed lists list k is =
-    let none : k - length lists ≡ 0 = omega arith in
-    ap (λ n. lists ++ (replicate n [] ++ list ∷ [])) none
 
 -- what holds of a result that is no error
 pub ok_gives : {A E X : Type 0} {x : X} (result : Result A E) (new old : X) → is_err result ≡ false

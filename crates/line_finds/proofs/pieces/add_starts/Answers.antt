@@ -1,5 +1,4 @@
-use Rattle.line_finds.proofs.Prelude.{◌+◌, ◌-◌, ◌∙◌, ◌++◌, [], ◌∷◌, ap, append-nil, map, sym, take_all}
-use Rattle.line_finds.proofs.lemmas.PieceLemmas.{mapped_one_more, holds}
+use Rattle.line_finds.proofs.Prelude.{◌+◌, ◌-◌, ◌∙◌, ◌++◌, ap, append-nil, map, sym, take_all}
 use Rattle.line_finds.proofs.pieces.add_starts.Goals as goal
 
 pub loop-other-init : goal.loop-other-init
