@@ -32,7 +32,8 @@ impl Survey {
             });
         }
         let mut survey = Survey { rank: 0, share: 0 };
-        for byte in 0..256usize {
+        let span = set.span();
+        for byte in span.start..span.end {
             if set.has(byte as u8) {
                 survey.rank = survey.rank.max(rank_of(byte as u8));
                 survey.share = survey.share.saturating_add(share_of(byte as u8));
@@ -48,9 +49,13 @@ impl Survey {
 /// About how many of 65,536 bytes of most texts have the bits.
 pub fn share_with(alike: Alike) -> u64 {
     let mut share: u64 = 0;
-    for byte in 0..256usize {
-        if alike.has(byte as u8) {
-            share = share.saturating_add(u64::from(share_of(byte as u8)));
+    let mut open = 0;
+    for _ in 0..256usize {
+        share = share.saturating_add(u64::from(share_of(alike.bits | open)));
+        // The next byte of those that have ones only where no bit is tested.
+        open = (open | alike.asked).wrapping_add(1) & !alike.asked;
+        if open == 0 {
+            return share;
         }
     }
     share
