@@ -4,6 +4,9 @@ use crate::alike::Alike;
 use memchr::arch::all::packedpair::{DefaultFrequencyRank, HeuristicFrequencyRank};
 use re_trees::ByteSet;
 
+// As many bytes of most texts as shares speak of.
+const ALL: u32 = 65_536;
+
 // About how many of 65,536 bytes of most texts are the commonest byte.
 const COMMONEST: u32 = 8_192;
 
@@ -18,7 +21,8 @@ const OF_DIGITS: u8 = 225;
 pub struct Survey {
     /// How common the commonest is, from 0 for the rarest to 255.
     pub rank: u8,
-    /// About how many of 65,536 bytes of most texts are in the set; at least one.
+    /// About how many of 65,536 bytes of most texts are in the set; at least one. It isn't counted on
+    /// if it is more than all.
     pub share: u32,
 }
 
@@ -37,6 +41,9 @@ impl Survey {
             if set.has(byte as u8) {
                 survey.rank = survey.rank.max(rank_of(byte as u8));
                 survey.share = survey.share.saturating_add(share_of(byte as u8));
+            }
+            if survey.share > ALL {
+                return Some(survey);
             }
         }
         if survey.share == 0 {

@@ -76,7 +76,7 @@ inside_zeros n i fits one =
 pub word_of : (s : ByteSet) (b : ℕ) → s.low < 2 ^ 128 → s.high < 2 ^ 128 → IsTrue (members s b) → (b < 128) × (0 < s.low) × (trailing_zeros w128 s.low ≤ b) × (b + leading_zeros w128 s.low < 128) ⊎ (128 ≤ b) × (0 < s.high) × (128 + trailing_zeros w128 s.high ≤ b) × (b + leading_zeros w128 s.high < 256)
 word_of s b low high has =
     elim (cases_lt b 128) [
-      | inl h ↦ inl (h, inside_zeros s.low b low (eqb-true _ 1 (sym (member_low s b h) ∙ has)))
+      | inl h ↦ let (some, trailing, leading) = inside_zeros s.low b low (eqb-true _ 1 (sym (member_low s b h) ∙ has)) in inl (h, some, trailing, leading)
       | inr h ↦
           let place : 128 + (b - 128) ≡ b = omega arith in
           let (some, trailing, leading) = inside_zeros s.high (b - 128) high (eqb-true _ 1 (sym (member_high s (b - 128)) ∙ ap (members s) place ∙ has)) in
