@@ -155,8 +155,9 @@ impl ByteSet {
         ensures within { result ≤ 256 }
         ensures all { (byte : ℕ) → IsTrue (members self.now byte) → byte < result }
     {
+        let past = 128 - self.low.leading_zeros();
         if self.high == 0 {
-            return 128 - self.low.leading_zeros();
+            return past;
         }
         256 - self.high.leading_zeros()
     }
