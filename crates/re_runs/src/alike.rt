@@ -23,7 +23,8 @@ impl Alike {
         ensures { IfSome result (λ alike. AreAlike alike (members set.now)) }
     {
         let alike = bits_of(set);
-        'bytes: for byte in 0..256usize {
+        let span = set.span();
+        'bytes: for byte in span.start..span.end {
             if set.has(byte as u8) && !alike.has(byte as u8) {
                 return None;
             }
@@ -65,7 +66,8 @@ impl Alike {
 fn bits_of(set: &ByteSet) -> Alike {
     let mut ones = u8::MAX;
     let mut zeros = u8::MAX;
-    for byte in 0..256usize {
+    let span = set.span();
+    for byte in span.start..span.end {
         if set.has(byte as u8) {
             ones &= byte as u8;
             zeros &= !(byte as u8);

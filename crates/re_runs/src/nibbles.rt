@@ -25,7 +25,8 @@ impl Nibbles {
         ensures { IfSome result (λ nibbles. Covers nibbles (members set.now)) }
     {
         let nibbles = tables_of(set);
-        'bytes: for byte in 0..256usize {
+        let span = set.span();
+        'bytes: for byte in span.start..span.end {
             if set.has(byte as u8) && nibbles.bits(byte as u8) == 0 {
                 return None;
             }
@@ -53,7 +54,8 @@ impl Nibbles {
         requires { bit < 8 }
         ensures { IsTrue result → HasBitFor self.now bit (members set.now) }
     {
-        'bytes: for byte in 0..256usize {
+        let span = set.span();
+        'bytes: for byte in span.start..span.end {
             if set.has(byte as u8) && self.bits(byte as u8) >> bit & 1 == 0 {
                 return false;
             }
@@ -65,7 +67,8 @@ impl Nibbles {
     fn add(&mut self, bit: usize, set: &ByteSet)
         requires { bit < 8 }
     {
-        for byte in 0..256usize {
+        let span = set.span();
+        for byte in span.start..span.end {
             if set.has(byte as u8) {
                 self.low[byte % 16] |= 1 << bit;
                 self.high[byte / 16] |= 1 << bit;
@@ -100,7 +103,8 @@ fn tables_of(set: &ByteSet) -> Nibbles {
         high: [0; 16],
     };
     let mut rows = [0u16; 8];
-    for half in 0..16usize {
+    let span = set.span();
+    for half in span.start / 16..(span.end + 15) / 16 {
         let row = row_of(set, half);
         if row == 0 {
             continue;

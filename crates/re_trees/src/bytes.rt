@@ -1,8 +1,9 @@
-ghost use Rattle.std.specs.Prelude.{◌≡◌, ◌≢◌, ◌<◌, ℕ, MatchBool, MatchOption};
+ghost use Rattle.std.specs.Prelude.{◌≡◌, ◌≢◌, ◌<◌, ◌≤◌, ℕ, IsTrue, MatchBool, MatchOption};
 ghost use Rattle.re_trees.specs.Working.Trees.{members, lowest_bits};
 ghost use Rattle.re_trees.specs.Bytes.{nothing, only, range, union, in_class, other_case, closed};
 
 use crate::class::Class;
+use crate::span::Span;
 
 /// A set of bytes, one bit for each: bit `b` of `low` for a byte `b` below 128, and bit `b - 128`
 /// of `high` for any other. Contracts speak of its `members`, the test of whether a byte is in it.
@@ -140,12 +141,38 @@ impl ByteSet {
 
     // The lowest byte of the set, or 256 where the set is empty.
     fn lowest(&self) -> u32
-        ensures { (byte : ℕ) → byte < 256 → members self.now ≡ only byte → result ≡ byte }
+        ensures one { (byte : ℕ) → byte < 256 → members self.now ≡ only byte → result ≡ byte }
+        ensures all { (byte : ℕ) → IsTrue (members self.now byte) → result ≤ byte }
     {
         if self.low == 0 {
             return 128 + self.high.trailing_zeros();
         }
         self.low.trailing_zeros()
+    }
+
+    // One more than the highest byte of the set, or 0 where the set is empty.
+    fn past(&self) -> u32
+        ensures within { result ≤ 256 }
+        ensures all { (byte : ℕ) → IsTrue (members self.now byte) → byte < result }
+    {
+        let past = 128 - self.low.leading_zeros();
+        if self.high == 0 {
+            return past;
+        }
+        256 - self.high.leading_zeros()
+    }
+
+    /// From the lowest byte of the set to after the highest; nothing where the set is empty.
+    pub fn span(&self) -> Span
+        ensures within { (result.start ≤ result.end) × (result.end ≤ 256) }
+        ensures all { (byte : ℕ) → IsTrue (members self.now byte) →
+            (result.start ≤ byte) × (byte < result.end) }
+    {
+        let end = self.past() as usize;
+        Span {
+            start: end.min(self.lowest() as usize),
+            end,
+        }
     }
 
     /// Whether the byte is in the set.

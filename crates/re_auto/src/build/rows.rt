@@ -13,7 +13,7 @@ ghost use Rattle.re_auto.specs.Working.Tables.{most_words};
 use crate::bits;
 use crate::build::ends::{Ends, blank_set};
 use crate::ranges::{WordRange, range_of};
-use re_trees::ByteSet;
+use re_trees::{ByteSet, Span};
 use std::alloc::{AllocError, Global};
 
 /// For each position a row of those that can come directly after it, and for each byte a row of the
@@ -157,9 +157,22 @@ fn mark_takers(takes: &mut [u64], width: usize, set: &ByteSet, wanted: bool, pos
         Has (row_of takes.new width c) q ↔
         (Has (row_of takes.old width c) q ⊎ (members set.now c ≡ wanted) × (q ≡ position)) }
 {
-    'bytes: for c in 0..256usize {
+    let span = span_of(set, wanted);
+    'bytes: for c in span.start..span.end {
         if set.has(c as u8) == wanted {
             insert_in_row(takes, width, c, position);
         }
     }
+}
+
+// Bytes among which all of the set are, or all outside it.
+fn span_of(set: &ByteSet, wanted: bool) -> Span
+    ensures within { (result.start ≤ result.end) × (result.end ≤ 256) }
+    ensures all { (c : ℕ) → c < 256 → members set.now c ≡ wanted →
+        (result.start ≤ c) × (c < result.end) }
+{
+    if wanted {
+        return set.span();
+    }
+    Span { start: 0, end: 256 }
 }

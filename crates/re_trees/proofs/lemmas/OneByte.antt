@@ -1,5 +1,5 @@
--- The byte of a set of one byte alone, by the set's bits.
-use Rattle.re_trees.proofs.Prelude.{◌≡◌, ℕ, ◌+◌, ◌-◌, ◌^◌, ◌<◌, inl, inr, true, true≢false, nat_eq, refl, sym, ap, ◌∙◌, arith, cases_eq, cases_lt, eq-eqb, eqb-true, lt-ltb, le-ltb, cond-true, cond-false, bit_at-zero, bit_at-lt, bit_at-trailing_zeros, same_from_bits_below, bit_at, trailing_zeros, w128, only, members, ByteSet}
+-- The byte of a set of one byte alone, and between which bytes all of a set are, by the set's bits.
+use Rattle.re_trees.proofs.Prelude.{◌≡◌, ℕ, ◌+◌, ◌-◌, ◌^◌, ◌<◌, inl, inr, true, true≢false, nat_eq, refl, sym, ap, ◌∙◌, arith, cases_eq, cases_lt, eq-eqb, eqb-true, lt-ltb, le-ltb, cond-true, cond-false, bit_at-zero, bit_at-lt, bit_at-trailing_zeros, bit_at_above, leading_length, same_from_bits_below, bit_at, leading_zeros, trailing_zeros, w128, IsTrue, ◌≤◌, ◌⊎◌, only, members, ByteSet}
 
 -- the first word decides whether a byte below 128 is in the set
 member_low : (s : ByteSet) (b : ℕ) → b < 128 → members s b ≡ nat_eq (bit_at s.low b) 1
@@ -60,4 +60,25 @@ lowest_high s b none fits e =
                 let place : 128 + (b - 128) ≡ b = omega arith in
                 absurd (true≢false (sym has ∙ ap (members s) (sym place) ∙ member_high s (b - 128) ∙ ap (λ n. nat_eq (bit_at n (b - 128)) 1) zero ∙ ap (λ n. nat_eq n 1) (bit_at-zero (b - 128))))
           ]
+    ]
+
+-- a bit that is 1 is not among the word's trailing zeros, nor among its leading ones
+inside_zeros : (n i : ℕ) → n < 2 ^ 128 → bit_at n i ≡ 1 → (0 < n) × (trailing_zeros w128 n ≤ i) × (i + leading_zeros w128 n < 128)
+inside_zeros n i fits one =
+    let some : 0 < n = elim (cases_eq n 0) [ inl zero ↦ let none = bit_at-zero i in omega (arith, ap (λ m. bit_at m i) zero, none, one) | inr other ↦ omega arith ] in
+    let (m, sum, short, _) = leading_length 128 n fits in (
+      some,
+      elim (cases_lt i (trailing_zeros w128 n)) [ inl below ↦ let zero = (bit_at-trailing_zeros w128 n some fits).2 i below in omega (arith, zero, one) | inr h ↦ h ],
+      elim (cases_lt i m) [ inl below ↦ omega (arith, sum) | inr above ↦ let zero = bit_at_above n m i short above in omega (arith, zero, one) ],
+    )
+
+-- a member is in the first word or in the second
+pub word_of : (s : ByteSet) (b : ℕ) → s.low < 2 ^ 128 → s.high < 2 ^ 128 → IsTrue (members s b) → (b < 128) × (0 < s.low) × (trailing_zeros w128 s.low ≤ b) × (b + leading_zeros w128 s.low < 128) ⊎ (128 ≤ b) × (0 < s.high) × (128 + trailing_zeros w128 s.high ≤ b) × (b + leading_zeros w128 s.high < 256)
+word_of s b low high has =
+    elim (cases_lt b 128) [
+      | inl h ↦ let (some, trailing, leading) = inside_zeros s.low b low (eqb-true _ 1 (sym (member_low s b h) ∙ has)) in inl (h, some, trailing, leading)
+      | inr h ↦
+          let place : 128 + (b - 128) ≡ b = omega arith in
+          let (some, trailing, leading) = inside_zeros s.high (b - 128) high (eqb-true _ 1 (sym (member_high s (b - 128)) ∙ ap (members s) place ∙ has)) in
+          inr (h, some, omega arith, omega arith)
     ]

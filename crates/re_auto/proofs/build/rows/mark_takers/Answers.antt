@@ -1,7 +1,17 @@
-use Rattle.re_auto.proofs.Prelude.{arith, ◌≡◌, length, sym, ap, ◌∙◌, members, Has, row_of}
+use Rattle.re_auto.proofs.Prelude.{arith, ◌≡◌, inl, inr, refl, length, sym, ap, ◌∙◌, members, Has, row_of}
 use Rattle.re_auto.proofs.lemmas.RowLemmas.{row_within, marked, not_marked, same_truth, other_truth}
 use Rattle.re_auto.proofs.build.rows.mark_takers.Goals as goal
 use Rattle.re_auto.proofs.build.rows.mark_takers.Goals.{then-has-wanted, else-has-wanted}
+
+pub bytes-init : goal.bytes-init
+bytes-init c = (refl, λ x q lt. (inl, λ h. elim h [ inl a ↦ a | inr (low, is, _) ↦ let (first, _) = c.span_of-span.ensures.all x lt is in absurd (omega (arith, low, first)) ]))
+
+pub returns-clause-added : goal.returns-clause-added
+returns-clause-added c = λ x q lt.
+    let (to, back) = c.bytes.invariant.1 x q lt in (
+      λ h. elim (to h) [ inl a ↦ inl a | inr (_, is, same) ↦ inr (is, same) ],
+      λ h. elim h [ inl a ↦ back (inl a) | inr (is, same) ↦ let (_, past) = c.span_of-span.ensures.all x lt is in back (inr (omega (arith, past), is, same)) ],
+    )
 
 pub bytes-preserved : goal.bytes-preserved
 bytes-preserved c =

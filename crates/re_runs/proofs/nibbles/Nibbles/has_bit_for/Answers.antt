@@ -3,6 +3,12 @@ use Rattle.std.proofs.lemmas.Nat.Bits.{shr_and_one, bit_at-lt}
 use Rattle.re_runs.proofs.nibbles.Nibbles.has_bit_for.Goals.{else-has-via-then-has+else-bits-bit-eq0, else-has-via-else-has}
 use Rattle.re_runs.proofs.nibbles.Nibbles.has_bit_for.Goals as goal
 
+pub bytes-init : goal.bytes-init
+bytes-init c = λ x lt has. let (low, _) = c.span-span.ensures.all x has in absurd (omega (arith, low, lt))
+
+pub returns : goal.returns
+returns c = λ t x small has. let (_, high) = c.span-span.ensures.all x has in c.bytes.invariant x (omega (arith, high)) has
+
 pub bytes-preserved : goal.bytes-preserved
 bytes-preserved c = λ x lt has. elim (cases_lt x c.bytes.byte) [
   | inl early ↦ c.bytes.invariant x early has
