@@ -23,11 +23,8 @@ impl Alike {
         ensures { IfSome result (λ alike. AreAlike alike (members set.now)) }
     {
         let alike = bits_of(set);
-        let span = set.span();
-        'bytes: for byte in span.start..span.end {
-            if set.has(byte as u8) && !alike.has(byte as u8) {
-                return None;
-            }
+        if !set.all_pass(|byte| alike.has(byte)) {
+            return None;
         }
         Some(alike)
     }
@@ -66,12 +63,9 @@ impl Alike {
 fn bits_of(set: &ByteSet) -> Alike {
     let mut ones = u8::MAX;
     let mut zeros = u8::MAX;
-    let span = set.span();
-    for byte in span.start..span.end {
-        if set.has(byte as u8) {
-            ones &= byte as u8;
-            zeros &= !(byte as u8);
-        }
+    for byte in *set {
+        ones &= byte;
+        zeros &= !byte;
     }
     Alike {
         asked: ones | zeros,

@@ -29,19 +29,10 @@ pub struct Survey {
 impl Survey {
     /// The survey of a set; `None` if it has no byte.
     pub fn of(set: &ByteSet) -> Option<Survey> {
-        if let Some(byte) = set.one_byte() {
-            return Some(Survey {
-                rank: rank_of(byte),
-                share: share_of(byte),
-            });
-        }
         let mut survey = Survey { rank: 0, share: 0 };
-        let span = set.span();
-        for byte in span.start..span.end {
-            if set.has(byte as u8) {
-                survey.rank = survey.rank.max(rank_of(byte as u8));
-                survey.share = survey.share.saturating_add(share_of(byte as u8));
-            }
+        for byte in *set {
+            survey.rank = survey.rank.max(rank_of(byte));
+            survey.share = survey.share.saturating_add(share_of(byte));
             if survey.share > ALL {
                 return Some(survey);
             }
