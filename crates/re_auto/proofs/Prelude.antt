@@ -21,16 +21,16 @@ pub use Rattle.re_auto.specs.declared.mode.Mode.TheVariants.{Search}
 pub use Rattle.re_auto.specs.declared.ranges.WordRange.{WordRange}
 pub use Rattle.re_auto.specs.declared.step.state_set.StateSet.{StateSet}
 pub use Rattle.re_auto.specs.declared.tables.Empty.{Empty}
-pub use Rattle.re_trees.specs.Bytes.{Text}
+pub use Rattle.re_trees.specs.Bytes.{Bytes, Text, nothing}
 pub use Rattle.re_trees.specs.Expression.{Expression, alt, alt_more, alt_none, begin, cat, cat_more, cat_none, empty, end, none_of, one_of, repeat}
 pub use Rattle.re_trees.specs.Holds.{Holds, IsWithin, Turns, copies, positions}
 pub use Rattle.re_trees.specs.Limits.{most_positions}
-pub use Rattle.re_trees.specs.Working.Trees.{expression_of, members}
+pub use Rattle.re_trees.specs.Working.Trees.{expression_of, members, without}
 pub use Rattle.re_trees.specs.declared.tree.Tree.{Tree, the_lemmas}
 pub use Rattle.re_trees.specs.declared.tree.Tree.TheVariants.{Alt, Repeat}
-pub use Rattle.std.proofs.Common.{Bool, Box, Global, HoldsAt, IfOk, IfSome, IsTrue, List, MatchBool, MatchOption, None, Option, Some, Vec, [], add-mul, ap, arith, bit_and, bit_or, drop, drop-cons, eq-eqb, eqb-true, false, get_or, get_or-drop, get_or-set_other, get_or-set_same, get_or-take, inl, inr, le-leb, leb-true, length, length-append, length-drop, length-set, length-take, map, max, min, mul-le-mul_right, nat_eq, nat_le, ne_eqb, refl, replicate, rules, set, slice_get, slice_index, subst, suc, sym, take, tests, true, true≢false, w64, zero, ℕ, ◌%◌, ◌&&◌, ◌*◌, ◌++◌, ◌+◌, ◌-◌, ◌/◌, ◌<◌, ◌^◌, ◌||◌, ◌↔◌, ◌∙◌, ◌∷◌, ◌≡◌, ◌≢◌, ◌≤◌, ◌⊎◌}
+pub use Rattle.std.proofs.Common.{Bool, Box, Global, HoldsAt, IfOk, IfSome, IsTrue, List, MatchBool, MatchOption, None, Option, Some, Vec, [], add-mul, ap, arith, bit_and, bit_or, drop, drop-cons, eq-eqb, eqb-true, false, get_or, get_or-drop, get_or-set_other, get_or-set_same, get_or-take, inl, inr, le-leb, leb-true, length, length-append, length-drop, length-set, length-take, map, max, min, mul-le-mul_right, nat_eq, nat_le, ne_eqb, not, refl, replicate, rules, set, slice_get, slice_index, subst, suc, sym, take, tests, true, true≢false, w64, zero, ℕ, ◌%◌, ◌&&◌, ◌*◌, ◌++◌, ◌+◌, ◌-◌, ◌/◌, ◌<◌, ◌^◌, ◌||◌, ◌↔◌, ◌∙◌, ◌∷◌, ◌≡◌, ◌≢◌, ◌≤◌, ◌⊎◌}
 pub use Rattle.std.proofs.Math.Seq.{drop-append_seam, drop-length}
-pub use Rattle.std.proofs.lemmas.Bool.{cases_eq, cases_lt, false≢true, lt-leb}
+pub use Rattle.std.proofs.lemmas.Bool.{cases_eq, cases_lt, false≢true, lt-leb, not-true}
 pub use Rattle.std.proofs.lemmas.Iterator.{YieldsList-from_slice, cases_from_all}
 pub use Rattle.std.proofs.lemmas.List.{drop-take, get_or-append_right, get_or-replicate, get_or_append_left, get_or_past, get_or_read, length-replicate, map-append, take-append-le, take_more, take_rest, with_items_is}
 pub use Rattle.std.proofs.lemmas.Nat.{and_le_l}

@@ -142,11 +142,14 @@ pub fn mark_survey(mark: &OutlineItem, of: RunKind) -> Option<Survey> {
     let OutlineItem::Set(set) = mark else {
         return None;
     };
-    let survey = Survey::of(set)?;
-    let is_one = match of {
-        RunKind::Bytes => set.one_byte().is_some(),
-        RunKind::SmallSets => survey.share <= SMALL,
-        RunKind::Sets => survey.share <= LARGE,
+    let most = match of {
+        RunKind::Bytes => {
+            set.one_byte()?;
+            SMALL
+        }
+        RunKind::SmallSets => SMALL,
+        RunKind::Sets => LARGE,
     };
-    if is_one { Some(survey) } else { None }
+    let survey = Survey::of(set)?;
+    if survey.share <= most { Some(survey) } else { None }
 }

@@ -23,10 +23,8 @@ impl Alike {
         ensures { IfSome result (λ alike. AreAlike alike (members set.now)) }
     {
         let alike = bits_of(set);
-        'bytes: for byte in 0..256usize {
-            if set.has(byte as u8) && !alike.has(byte as u8) {
-                return None;
-            }
+        if !set.all_pass(|byte| alike.has(byte)) {
+            return None;
         }
         Some(alike)
     }
@@ -65,11 +63,9 @@ impl Alike {
 fn bits_of(set: &ByteSet) -> Alike {
     let mut ones = u8::MAX;
     let mut zeros = u8::MAX;
-    for byte in 0..256usize {
-        if set.has(byte as u8) {
-            ones &= byte as u8;
-            zeros &= !(byte as u8);
-        }
+    for byte in *set {
+        ones &= byte;
+        zeros &= !byte;
     }
     Alike {
         asked: ones | zeros,

@@ -25,10 +25,8 @@ impl Nibbles {
         ensures { IfSome result (λ nibbles. Covers nibbles (members set.now)) }
     {
         let nibbles = tables_of(set);
-        'bytes: for byte in 0..256usize {
-            if set.has(byte as u8) && nibbles.bits(byte as u8) == 0 {
-                return None;
-            }
+        if !set.all_pass(|byte| nibbles.bits(byte) != 0) {
+            return None;
         }
         Some(nibbles)
     }
@@ -53,23 +51,16 @@ impl Nibbles {
         requires { bit < 8 }
         ensures { IsTrue result → HasBitFor self.now bit (members set.now) }
     {
-        'bytes: for byte in 0..256usize {
-            if set.has(byte as u8) && self.bits(byte as u8) >> bit & 1 == 0 {
-                return false;
-            }
-        }
-        true
+        set.all_pass(|byte| self.bits(byte) >> bit & 1 == 1)
     }
 
     // Adds a bit for the bytes of the set.
     fn add(&mut self, bit: usize, set: &ByteSet)
         requires { bit < 8 }
     {
-        for byte in 0..256usize {
-            if set.has(byte as u8) {
-                self.low[byte % 16] |= 1 << bit;
-                self.high[byte / 16] |= 1 << bit;
-            }
+        for byte in *set {
+            self.low[(byte % 16) as usize] |= 1 << bit;
+            self.high[(byte / 16) as usize] |= 1 << bit;
         }
     }
 
@@ -99,9 +90,10 @@ fn tables_of(set: &ByteSet) -> Nibbles {
         low: [0; 16],
         high: [0; 16],
     };
+    let halves = rows_of(set);
     let mut rows = [0u16; 8];
     for half in 0..16usize {
-        let row = row_of(set, half);
+        let row = halves[half];
         if row == 0 {
             continue;
         }
@@ -131,17 +123,13 @@ fn tables_of_each(runs: &[Vec<ByteSet>], at: usize) -> Nibbles {
     nibbles
 }
 
-// The low halves that go with the high half, one bit for each.
-fn row_of(set: &ByteSet, half: usize) -> u16
-    requires { half < 16 }
-{
-    let mut row = 0;
-    for low in 0..16usize {
-        if set.has((half * 16 + low) as u8) {
-            row |= 1 << low;
-        }
+// For each high half the low halves that go with it, one bit for each.
+fn rows_of(set: &ByteSet) -> [u16; 16] {
+    let mut rows = [0; 16];
+    for byte in *set {
+        rows[(byte / 16) as usize] |= 1 << (byte % 16);
     }
-    row
+    rows
 }
 
 // The group of the row, or else the first that is free, or else the last.

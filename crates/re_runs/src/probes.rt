@@ -98,7 +98,8 @@ impl Probes {
     {
         let first = Probe::of(runs, width, *places.first()?)?;
         let second = first.or_at(runs, width, places.get(1));
-        let third = second.or_at(runs, width, places.get(2));
+        let more = if runs.len() > 1 { places.get(2) } else { None };
+        let third = second.or_at(runs, width, more);
         Some(Probes {
             first,
             second,

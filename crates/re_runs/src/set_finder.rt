@@ -78,7 +78,7 @@ impl SetFinder {
         let Some(probes) = Probes::of(&runs, width, &places) else {
             return Ok(None);
         };
-        let by_bits = are_bits_enough(&probes, longest);
+        let by_bits = runs.len() == 1 && are_bits_enough(&probes, longest);
         let others = if longest > FEW_SETS {
             Probes::of(&runs, width, &places[places.len().min(2)..])
         } else {
@@ -260,9 +260,11 @@ fn are_bits_enough(probes: &Probes, longest: usize) -> bool {
     } else {
         MOST_STOPS
     };
+    if are_letters(probes) {
+        return true;
+    }
     let first = share_with(probes.first.alike);
-    let second = share_with(probes.second.alike);
-    are_letters(probes) || first.saturating_mul(second) >> 16 <= most
+    first.saturating_mul(share_with(probes.second.alike)) >> 16 <= most
 }
 
 // Whether the first two tests of bits are right for their sets, as they are for the cases of letters.

@@ -4,6 +4,9 @@ use crate::alike::Alike;
 use memchr::arch::all::packedpair::{DefaultFrequencyRank, HeuristicFrequencyRank};
 use re_trees::ByteSet;
 
+// As many bytes of most texts as shares speak of.
+const ALL: u32 = 65_536;
+
 // About how many of 65,536 bytes of most texts are the commonest byte.
 const COMMONEST: u32 = 8_192;
 
@@ -18,24 +21,20 @@ const OF_DIGITS: u8 = 225;
 pub struct Survey {
     /// How common the commonest is, from 0 for the rarest to 255.
     pub rank: u8,
-    /// About how many of 65,536 bytes of most texts are in the set; at least one.
+    /// About how many of 65,536 bytes of most texts are in the set; at least one. It isn't counted on
+    /// if it is more than all.
     pub share: u32,
 }
 
 impl Survey {
     /// The survey of a set; `None` if it has no byte.
     pub fn of(set: &ByteSet) -> Option<Survey> {
-        if let Some(byte) = set.one_byte() {
-            return Some(Survey {
-                rank: rank_of(byte),
-                share: share_of(byte),
-            });
-        }
         let mut survey = Survey { rank: 0, share: 0 };
-        for byte in 0..256usize {
-            if set.has(byte as u8) {
-                survey.rank = survey.rank.max(rank_of(byte as u8));
-                survey.share = survey.share.saturating_add(share_of(byte as u8));
+        for byte in *set {
+            survey.rank = survey.rank.max(rank_of(byte));
+            survey.share = survey.share.saturating_add(share_of(byte));
+            if survey.share > ALL {
+                return Some(survey);
             }
         }
         if survey.share == 0 {
@@ -48,9 +47,13 @@ impl Survey {
 /// About how many of 65,536 bytes of most texts have the bits.
 pub fn share_with(alike: Alike) -> u64 {
     let mut share: u64 = 0;
-    for byte in 0..256usize {
-        if alike.has(byte as u8) {
-            share = share.saturating_add(u64::from(share_of(byte as u8)));
+    let mut open = 0;
+    for _ in 0..256usize {
+        share = share.saturating_add(u64::from(share_of(alike.bits | open)));
+        // The next byte of those that have ones only where no bit is tested.
+        open = (open | alike.asked).wrapping_add(1) & !alike.asked;
+        if open == 0 {
+            return share;
         }
     }
     share

@@ -6,18 +6,18 @@ pub use Rattle.re_trees.specs.Lines.{AreEndedLines, AreLines, AreListed, HasNoNe
 unfoldable pub use Rattle.re_trees.specs.Lines.{ended_lines_of, lines_of, list_of}
 pub use Rattle.re_trees.specs.Working.BestStretches.{IsBest, Least, better, better_span, places}
 pub use Rattle.re_trees.specs.Working.Splits.{texts_of_rest}
-pub use Rattle.re_trees.specs.Working.Trees.{expression_of, lowest_bits, members, node_expression}
+pub use Rattle.re_trees.specs.Working.Trees.{IsLowest, Takes, expression_of, has_bit, members, node_expression, without}
 pub use Rattle.re_trees.specs.declared.bytes.ByteSet.{ByteSet}
 pub use Rattle.re_trees.specs.declared.span.Span.{Span}
 pub use Rattle.re_trees.specs.declared.tree.Tree.{Tree, Tree-F, fold-roll-Tree, the_lemmas}
 pub use Rattle.re_trees.specs.declared.tree.Tree.TheVariants.{Alt, Begin, Cat, Empty, End, Not, Repeat, Set, rolls-Alt, rolls-Begin, rolls-Cat, rolls-Empty, rolls-End, rolls-Not, rolls-Repeat, rolls-Set}
-pub use Rattle.std.proofs.Common.{All, Any, Bool, Box, Global, IfSome, IsTrue, List, MatchBool, None, Option, Some, Vec, [], add-one, ap, append_assoc, arith, bit_and, bit_or, drop, eq-eqb, eq-or-lt_of_le, eqb-true, false, get_or, if◌then◌else◌, inl, inr, le-leb, le-ltb, leb-false, leb-true, length, length-append, length-drop, lt-ltb, ltb-false, ltb-true, map, max, min, nat_eq, nat_le, nat_lt, ne_eqb, refl, rules, slice_get, slice_index_or, subst, suc, sym, take, true, true≢false, zero, ℕ, ◌&&◌, ◌++◌, ◌+◌, ◌-◌, ◌<◌, ◌^◌, ◌||◌, ◌∙◌, ◌∷◌, ◌≡◌, ◌≢◌, ◌≤◌, ◌⊎◌}
+pub use Rattle.std.proofs.Common.{All, Any, Bool, Box, Global, IfSome, IsTrue, List, MatchBool, None, Option, Some, Vec, [], add-one, ap, append_assoc, arith, bit_and, bit_or, drop, eq-eqb, eq-or-lt_of_le, eqb-true, false, get_or, if◌then◌else◌, inl, inr, le-leb, le-ltb, leb-false, leb-true, length, length-append, length-drop, lt-ltb, ltb-false, ltb-true, map, max, min, nat_eq, not, nat_le, nat_lt, ne_eqb, refl, rules, slice_get, slice_index_or, subst, suc, sym, take, true, true≢false, zero, ℕ, ◌%◌, ◌&&◌, ◌*◌, ◌++◌, ◌+◌, ◌-◌, ◌/◌, ◌<◌, ◌^◌, ◌||◌, ◌∙◌, ◌∷◌, ◌≡◌, ◌≢◌, ◌≤◌, ◌⊎◌}
 pub use Rattle.std.proofs.Math.Decide.{dec_le, map_dec, ℕ_discrete}
 pub use Rattle.std.proofs.Math.Path.{fun_ext}
-pub use Rattle.std.proofs.lemmas.Bool.{and_from, and_parts, cases_eq, cases_lt, cond-false, cond-true, false_from_ne_true, false≢true, lt-leb, or_cases, or_left, or_right}
+pub use Rattle.std.proofs.lemmas.Bool.{and_from, and_left, and_right, and_parts, cases_eq, cases_lt, cond-false, cond-true, false≢true, lt-leb}
 pub use Rattle.std.proofs.lemmas.List.{take_rest}
 pub use Rattle.std.proofs.lemmas.List.Elements.{All-cons, All-head, All-nil, All-tail}
-pub use Rattle.std.proofs.lemmas.Nat.{pow_below}
-pub use Rattle.std.proofs.lemmas.Nat.Bits.{bit_at-lt, bit_at-pow_other, bit_at-pow_same, bit_at-trailing_zeros, bit_at-zero, bit_at_and, bit_at_not, bit_at_ones, bit_at_ones_above, bit_at_or, same_from_bits_below}
+pub use Rattle.std.proofs.lemmas.Nat.{and_le_l, one_shl, shr-shr}
+pub use Rattle.std.proofs.lemmas.Nat.Bits.{bit_at-lt, bit_at-pow_other, bit_at-pow_same, bit_at-trailing_zeros, bit_at-zero, bit_at_above, bit_at_and, bit_at_cat_high, bit_at_cat_low, bit_at_mask_above, bit_at_mask_below, bit_at_mask_inside, bit_at_not, bit_at_or}
 pub use Rattle.std.proofs.lemmas.Option.{none-some, same_Some}
 pub use Rattle.std.specs.Int.{bit_at, bit_not, trailing_zeros, w128}

@@ -1,16 +1,13 @@
 pub mod FixedStrings
 pub mod LinesLaws
 pub mod EndedLinesLaws
-pub mod SetsLaws
 pub mod UnionsLaws
-pub mod RangeWords
 pub mod SplittingLaws
 pub mod Decisions
 pub mod SomeOfJoined
 pub mod BestStretches
 pub mod HoldsDecided
-pub mod OneByte
 pub mod ExpressionLaws
-pub mod ClosedLaws
 pub mod FoldedLaws
 pub mod NodesLaws
+pub mod SetBits

@@ -1,6 +1,7 @@
-ghost use Rattle.std.specs.Prelude.{◌≡◌, ◌≢◌, ◌<◌, ℕ, MatchBool, MatchOption};
-ghost use Rattle.re_trees.specs.Working.Trees.{members, lowest_bits};
-ghost use Rattle.re_trees.specs.Bytes.{nothing, only, range, union, in_class, other_case, closed};
+ghost use Rattle.std.specs.Prelude.{◌≡◌, ◌≢◌, ◌<◌, ◌+◌, ◌-◌, ◌^◌, ℕ, IsTrue, MatchBool, MatchOption, false, min, not, true};
+ghost use Rattle.std.specs.Iterator.{at_most};
+ghost use Rattle.re_trees.specs.Working.Trees.{IsLowest, Takes, members};
+ghost use Rattle.re_trees.specs.Bytes.{nothing, only, range, union, in_class, closed};
 
 use crate::class::Class;
 
@@ -25,15 +26,14 @@ impl ByteSet {
         ensures { members result ≡ only byte }
     {
         if byte < 128 {
-            ByteSet {
-                low: 1u128 << byte,
+            return ByteSet {
+                low: 1 << byte,
                 high: 0,
-            }
-        } else {
-            ByteSet {
-                low: 0,
-                high: 1u128 << (byte - 128),
-            }
+            };
+        }
+        ByteSet {
+            low: 0,
+            high: 1 << (byte - 128),
         }
     }
 
@@ -45,8 +45,8 @@ impl ByteSet {
         let begin = u16::from(first);
         let end = u16::from(last) + 1;
         ByteSet {
-            low: lowest_bits(end) & !lowest_bits(begin),
-            high: lowest_bits(end.saturating_sub(128)) & !lowest_bits(begin.saturating_sub(128)),
+            low: word_of(begin, end),
+            high: word_of(begin.saturating_sub(128), end.saturating_sub(128)),
         }
     }
 
@@ -100,26 +100,26 @@ impl ByteSet {
         }
     }
 
+    /// The bytes that are not in the set.
+    pub fn complement(self) -> Self
+        ensures { (b : ℕ) → b < 256 → members result b ≡ not (members self b) }
+    {
+        ByteSet {
+            low: !self.low,
+            high: !self.high,
+        }
+    }
+
     /// The set with the other case of each of its letters (XCU grep, option `-i`).
     pub fn closed(self) -> Self
         ensures { members result ≡ closed (members self) }
     {
-        let mut set = self;
-        for byte in b'A'..=b'z' {
-            set = set.with(byte, self.has(other_case(byte)));
-        }
-        set
-    }
-
-    /// The set, with the byte added where `wanted` is set.
-    fn with(self, byte: u8, wanted: bool) -> Self
-        ensures { MatchBool wanted (members result ≡ union (members self) (only byte))
-            (members result ≡ members self) }
-    {
-        if wanted {
-            self.union(ByteSet::only(byte))
-        } else {
-            self
+        let upper = word_of(b'A' as u16, b'Z' as u16 + 1);
+        let lowered = (upper & self.low) << 32;
+        let raised = upper & (self.low >> 32);
+        ByteSet {
+            low: self.low | lowered | raised,
+            high: self.high,
         }
     }
 
@@ -128,24 +128,28 @@ impl ByteSet {
         ensures { MatchOption result ((byte : ℕ) → byte < 256 → members self.now ≢ only byte)
             (λ byte. members self.now ≡ only byte) }
     {
-        let Ok(byte) = u8::try_from(self.lowest()) else {
+        let mut left = *self;
+        let Some(byte) = left.next() else {
             return None;
         };
-        let only = ByteSet::only(byte);
-        if self.low != only.low || self.high != only.high {
-            return None;
+        match left.next() {
+            Some(_other) => None,
+            None => Some(byte),
         }
-        Some(byte)
     }
 
-    // The lowest byte of the set, or 256 where the set is empty.
-    fn lowest(&self) -> u32
-        ensures { (byte : ℕ) → byte < 256 → members self.now ≡ only byte → result ≡ byte }
+    /// Whether each byte of the set passes.
+    pub fn all_pass<F: Fn(u8) -> bool>(self, passes: F) -> bool
+        requires { F.IsAlwaysCallable passes }
+        ensures { MatchBool result ((b : ℕ) → IsTrue (members self b) → F.post passes b true)
+            ((b : ℕ) × IsTrue (members self b) × F.post passes b false) }
     {
-        if self.low == 0 {
-            return 128 + self.high.trailing_zeros();
+        for byte in self {
+            if !passes(byte) {
+                return false;
+            }
         }
-        self.low.trailing_zeros()
+        true
     }
 
     /// Whether the byte is in the set.
@@ -160,24 +164,49 @@ impl ByteSet {
     }
 }
 
-/// The word of the `count` lowest bits, or of all 128 where the count is greater.
+/// The bytes of the set, from the lowest on.
+impl Iterator for ByteSet {
+    type Item = u8;
+
+    ghost next_gives = { Takes };
+
+    ghost remaining = { λ set. at_most (set.low + set.high) };
+
+    fn next(&mut self) -> Option<u8> {
+        if self.low != 0 {
+            return Some(take_lowest(&mut self.low));
+        }
+        if self.high != 0 {
+            return Some(128 + take_lowest(&mut self.high));
+        }
+        None
+    }
+}
+
+// Takes the lowest bit out of a word that is not 0.
+fn take_lowest(word: &mut u128) -> u8
+    requires { 0 < word.old }
+    ensures { IsLowest word.old result word.new }
+{
+    let lowest = word.trailing_zeros();
+    *word &= !(1 << lowest);
+    lowest as u8
+}
+
+// The word of the bits from the first up to the second, as far as a word has them.
+fn word_of(begin: u16, end: u16) -> u128
+    ensures { result ≡ 2 ^ min end 128 - 2 ^ min begin 128 }
+{
+    lowest_bits(end).saturating_sub(lowest_bits(begin))
+}
+
+// The word of the `count` lowest bits, or of all 128 where the count is greater.
 fn lowest_bits(count: u16) -> u128
-    ensures { result ≡ lowest_bits count }
+    ensures { result ≡ 2 ^ min count 128 - 1 }
 {
     if count < 128 {
         (1u128 << count) - 1
     } else {
         u128::MAX
-    }
-}
-
-/// The other case of a letter; any other byte is unchanged.
-fn other_case(byte: u8) -> u8
-    ensures { result ≡ other_case byte }
-{
-    match byte {
-        b'A'..=b'Z' => byte + 32,
-        b'a'..=b'z' => byte - 32,
-        _ => byte,
     }
 }

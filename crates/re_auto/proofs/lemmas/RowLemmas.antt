@@ -1,44 +1,26 @@
 -- Rows of tables while they are written.
-use mathlib.Core.Bool.{beq}
-use Rattle.re_auto.proofs.Prelude.{◌≡◌, ℕ, suc, ◌+◌, ◌*◌, ◌<◌, ◌≤◌, Bool, true, false, ◌⊎◌, inl, inr, ◌↔◌, refl, sym, subst, arith, mul-le-mul_right, cases_eq}
+use Rattle.re_auto.proofs.Prelude.{◌≡◌, ℕ, suc, ◌+◌, ◌*◌, ◌<◌, ◌≤◌, Bytes, true≢false, IsTrue, ap, ◌∙◌, nothing, without, ◌⊎◌, inl, inr, ◌↔◌, refl, sym, subst, arith, mul-le-mul_right, cases_eq}
+use Rattle.re_trees.proofs.lemmas.SetBits.{still, was}
 
 -- a row before the last has its words within the table
 pub row_within : (p rows width : ℕ) → p < rows → p * width + width ≤ rows * width
 row_within p rows width lt = let more = mul-le-mul_right width (let h : suc p ≤ rows = omega arith in h) in omega (arith, more)
 
--- one more byte, which is marked
-pub marked : (A B C : Type 0) (M : ℕ → Type 0) (Q : Type 0) (c x : ℕ) → (B ↔ (A ⊎ (x < c) × M x × Q)) → (C ↔ (B ⊎ (x ≡ c) × Q)) → M c → C ↔ (A ⊎ (x < c + 1) × M x × Q)
-marked A B C M Q c x before step m = (to, back)
+-- one byte of a set is taken out of it and marked
+pub marked : {A B Q : Type 0} (old new : Bytes) (c x : ℕ) → IsTrue (old c) → new ≡ without old c → (B ↔ (A ⊎ (x ≡ c) × Q)) → (B ⊎ IsTrue (new x) × Q) ↔ (A ⊎ IsTrue (old x) × Q)
+marked {A} {B} {Q} old new c x held left step = (to, back)
   where
-    was : A ⊎ (x < c) × M x × Q → A ⊎ (x < c + 1) × M x × Q
-    was (inl a) = inl a
-    was (inr (lt, h, q)) = inr (omega arith, h, q)
+    to : B ⊎ IsTrue (new x) × Q → A ⊎ IsTrue (old x) × Q
+    to (inl b) = elim (step.0 b) [ inl a ↦ inl a | inr (same, q) ↦ inr (ap old same ∙ held, q) ]
+    to (inr (h, q)) = inr (was old new c x left h, q)
 
-    now : B ⊎ (x ≡ c) × Q → A ⊎ (x < c + 1) × M x × Q
-    now (inl b) = was (before.0 b)
-    now (inr (same, q)) = inr (omega arith, subst M (sym same) m, q)
+    back : A ⊎ IsTrue (old x) × Q → B ⊎ IsTrue (new x) × Q
+    back (inl a) = inl (step.1 (inl a))
+    back (inr (h, q)) = elim (cases_eq x c) [ inl same ↦ inl (step.1 (inr (same, q))) | inr other ↦ inr (still old new c x left other h, q) ]
 
-    to : C → A ⊎ (x < c + 1) × M x × Q
-    to h = now (step.0 h)
-
-    back : A ⊎ (x < c + 1) × M x × Q → C
-    back (inl a) = step.1 (inl (before.1 (inl a)))
-    back (inr (lt, h, q)) = elim (cases_eq x c) [ inl same ↦ step.1 (inr (same, q)) | inr other ↦ step.1 (inl (before.1 (inr (omega arith, h, q)))) ]
-
--- one more byte, which is not marked
-pub not_marked : (A B : Type 0) (M : ℕ → Type 0) (Q : Type 0) (c x : ℕ) → (B ↔ (A ⊎ (x < c) × M x × Q)) → ¬ M c → B ↔ (A ⊎ (x < c + 1) × M x × Q)
-not_marked A B M Q c x before m = (to, back)
-  where
-    was : A ⊎ (x < c) × M x × Q → A ⊎ (x < c + 1) × M x × Q
-    was (inl a) = inl a
-    was (inr (lt, h, q)) = inr (omega arith, h, q)
-
-    to : B → A ⊎ (x < c + 1) × M x × Q
-    to h = was (before.0 h)
-
-    back : A ⊎ (x < c + 1) × M x × Q → B
-    back (inl a) = before.1 (inl a)
-    back (inr (lt, h, q)) = elim (cases_eq x c) [ inl same ↦ absurd (m (subst M same h)) | inr other ↦ before.1 (inr (omega arith, h, q)) ]
+-- all are, once none is left
+pub all_marked : {B C Q : Type 0} (left : Bytes) (x : ℕ) → left ≡ nothing → ((B ⊎ IsTrue (left x) × Q) ↔ C) → B ↔ C
+all_marked left x none all = (λ b. all.0 (inl b), λ c. elim (all.1 c) [ inl b ↦ b | inr (h, _) ↦ absurd (true≢false (sym h ∙ ap (λ f. f x) none)) ])
 
 -- the rows of the members of a set: one of them, and all of them
 pub one_row : (A B : Type 0) (S : ℕ → Type 0) (Q : Type 0) (x : ℕ) → (B ↔ (A ⊎ ((p : ℕ) × S p × ((x ≡ p) × Q)))) → B ↔ (A ⊎ S x × Q)
@@ -54,16 +36,3 @@ one_row A B S Q x all = (to, back)
     back : A ⊎ S x × Q → B
     back (inl a) = all.1 (inl a)
     back (inr (h, q)) = all.1 (inr (x, h, (refl, q)))
-
--- two truth values that compare as equal are equal
-pub same_truth : (a b : Bool) → beq a b ≡ true → a ≡ b
-same_truth true true h = refl
-same_truth false false h = refl
-same_truth true false h = cc
-same_truth false true h = cc
-
-pub other_truth : (a b : Bool) → beq a b ≡ false → ¬ (a ≡ b)
-other_truth true true h e = cc
-other_truth false false h e = cc
-other_truth true false h e = cc
-other_truth false true h e = cc

@@ -1,5 +1,5 @@
 //! The rows of an automaton's tables, while they are written.
-ghost use Rattle.std.specs.Prelude.{◌≡◌, ℕ, ◌+◌, ◌*◌, ◌<◌, ◌≤◌, ◌↔◌, ◌⊎◌, IfOk, length};
+ghost use Rattle.std.specs.Prelude.{◌≡◌, ℕ, ◌+◌, ◌*◌, ◌<◌, ◌≤◌, ◌↔◌, ◌⊎◌, IfOk, IsTrue, length};
 ghost use Rattle.std.specs.Int.{bit_at};
 ghost use Rattle.re_trees.specs.Limits.{most_positions};
 ghost use Rattle.re_trees.specs.Working.Trees.{members};
@@ -77,7 +77,8 @@ impl Rows {
         requires small { position < self.old.width * 64 }
         ensures { Adds (one_position position (Wanted set.now wanted)) self.old self.new }
     {
-        mark_takers(&mut self.takes, self.width, set, wanted, position);
+        let takers = takers_of(set, wanted);
+        mark_takers(&mut self.takes, self.width, takers, position);
     }
 
     // Adds that each position of `first` can come directly after each of `last`.
@@ -148,18 +149,26 @@ fn insert_in_row(table: &mut [u64], width: usize, r: usize, e: usize)
     bits::insert(&mut table[r * width..r * width + width], e);
 }
 
-// Adds a position to the row of each byte in the set, or of each byte outside it.
-fn mark_takers(takes: &mut [u64], width: usize, set: &ByteSet, wanted: bool, position: usize)
+// Adds a position to the row of each byte of the set.
+fn mark_takers(takes: &mut [u64], width: usize, takers: ByteSet, position: usize)
     requires room { length takes.old ≡ 256 * width }
     requires small { position < width * 64 }
     ensures len { length takes.new ≡ length takes.old }
     ensures added { (c q : ℕ) → c < 256 →
         Has (row_of takes.new width c) q ↔
-        (Has (row_of takes.old width c) q ⊎ (members set.now c ≡ wanted) × (q ≡ position)) }
+        (Has (row_of takes.old width c) q ⊎ IsTrue (members takers c) × (q ≡ position)) }
 {
-    'bytes: for c in 0..256usize {
-        if set.has(c as u8) == wanted {
-            insert_in_row(takes, width, c, position);
-        }
+    for c in takers {
+        insert_in_row(takes, width, c as usize, position);
     }
+}
+
+// The bytes in the set, or those outside it.
+fn takers_of(set: &ByteSet, wanted: bool) -> ByteSet
+    ensures { (c : ℕ) → c < 256 → IsTrue (members result c) ↔ Wanted set.now wanted c }
+{
+    if wanted {
+        return *set;
+    }
+    set.complement()
 }

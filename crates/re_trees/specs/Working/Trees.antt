@@ -1,20 +1,38 @@
 -- What the code's sets of bytes and trees mean.
-use Rattle.std.specs.Prelude.{ℕ, ◌-◌, ◌^◌, min, Bool, nat_lt, nat_eq, if◌then◌else◌}
+use Rattle.std.specs.Prelude.{◌≡◌, ℕ, ◌-◌, ◌<◌, Bool, ◌&&◌, not, nat_lt, nat_eq, if◌then◌else◌}
+use Rattle.std.specs.Prelude.{Option, MatchOption, IsTrue}
 use Rattle.std.specs.Int.{bit_at}
+use Rattle.re_trees.specs.Bytes.{Bytes, nothing}
 use Rattle.re_trees.specs.Expression.{Expression, empty, one_of, none_of, begin, end, repeat, cat, alt}
 use Rattle.re_trees.specs.declared.bytes.ByteSet.{ByteSet}
 use Rattle.re_trees.specs.declared.tree.Tree.{Tree}
 use Rattle.re_trees.specs.declared.tree.Tree.TheOpen.{Tree-F}
 use Rattle.re_trees.specs.declared.tree.Tree.TheFolds.{fold-Tree}
 
+-- the bit at this place is 1
+abbrev pub has_bit : ℕ → ℕ → Bool
+has_bit n i = nat_eq (bit_at n i) 1
+
 -- the bytes of a set: bit b of the first word for a byte b below 128, and a bit of the second for
 -- any other; nothing from 256 on
-abbrev pub members : ByteSet → ℕ → Bool
-members s b = if nat_lt b 128 then nat_eq (bit_at s.low b) 1 else nat_eq (bit_at s.high (b - 128)) 1
+abbrev pub members : ByteSet → Bytes
+members s b = if nat_lt b 128 then has_bit s.low b else has_bit s.high (b - 128)
 
--- the word with this number of lowest bits set, at most 128
-abbrev pub lowest_bits : ℕ → ℕ
-lowest_bits n = 2 ^ min n 128 - 1
+-- the set without this byte
+abbrev pub without : Bytes → ℕ → Bytes
+without s a b = s b && not (nat_eq b a)
+
+-- a byte was taken out of the set; none only if it was empty
+abbrev pub Takes : ByteSet → Option ℕ → ByteSet → Type 0
+Takes old taken new = MatchOption taken (members old ≡ nothing)
+    (λ b. IsTrue (members old b) × (members new ≡ without (members old) b))
+
+-- a word's lowest bit, and the word without it
+pub record IsLowest (word k left : ℕ) : Type 0 where
+  pub small : k < 128
+  pub less : left < word
+  pub held : IsTrue (has_bit word k)
+  pub rest : (i : ℕ) → has_bit left i ≡ without (has_bit word) k i
 
 -- one node, with the expression of each child in its place
 abbrev pub node_expression : Tree-F Expression → Expression

@@ -1,25 +1,18 @@
-use Rattle.re_auto.proofs.Prelude.{arith, ◌≡◌, length, sym, ap, ◌∙◌, members, Has, row_of}
-use Rattle.re_auto.proofs.lemmas.RowLemmas.{row_within, marked, not_marked, same_truth, other_truth}
+use Rattle.re_auto.proofs.Prelude.{arith, ◌∙◌, members}
+use Rattle.re_auto.proofs.lemmas.BitLemmas.{chained}
+use Rattle.re_auto.proofs.lemmas.RowLemmas.{row_within, marked, all_marked}
 use Rattle.re_auto.proofs.build.rows.mark_takers.Goals as goal
-use Rattle.re_auto.proofs.build.rows.mark_takers.Goals.{then-has-wanted, else-has-wanted}
 
-pub bytes-preserved : goal.bytes-preserved
-bytes-preserved c =
-    elim c.if-has-wanted.branch [
-      | then-has-wanted w ↦
-          let is : members c.args.set.now c.bytes.c ≡ c.args.wanted = sym c.has.ensures ∙ same_truth c.has.result c.args.wanted w.if-has-wanted.true in (
-            ap length w.takes-is ∙ w.insert_in_row.ensures.len ∙ c.bytes.invariant.0,
-            λ x q lt. marked (Has (row_of c.args.takes.now c.args.width x) q) (Has (row_of c.bytes.takes c.args.width x) q) (Has (row_of c.if-has-wanted.takes c.args.width x) q)
-                (λ b. members c.args.set.now b ≡ c.args.wanted) (q ≡ c.args.position) c.bytes.c x
-                (c.bytes.invariant.1 x q lt)
-                (rw w.takes-is (w.insert_in_row.ensures.added x q (let within = row_within x 256 c.args.width lt in omega (arith, within, c.requires.room, c.bytes.invariant.0))))
-                is,
-          )
-      | else-has-wanted w ↦ (
-        ap length w.takes-is ∙ c.bytes.invariant.0,
-        λ x q lt. not_marked (Has (row_of c.args.takes.now c.args.width x) q) (Has (row_of c.if-has-wanted.takes c.args.width x) q)
-            (λ b. members c.args.set.now b ≡ c.args.wanted) (q ≡ c.args.position) c.bytes.c x
-            (rw w.takes-is (c.bytes.invariant.1 x q lt))
-            (λ is. other_truth c.has.result c.args.wanted w.if-has-wanted.false (c.has.ensures ∙ is)),
-      )
-    ]
+pub loop-c-preserved : goal.loop-c-preserved
+loop-c-preserved c = (
+  tt,
+  tt,
+  c.insert_in_row.ensures.len ∙ c.loop-c.invariant.2,
+  λ x q lt.
+      let (held, left) = c.in-Some.ensures.steps in
+      let room = row_within x 256 c.args.width lt in
+      chained (marked (members c.loop-c.c-iterator) (members c.next.new.self) c.in-Some.c x held left (c.insert_in_row.ensures.added x q (omega (arith, room, c.requires.room, c.loop-c.invariant.2)))) (c.loop-c.invariant.3 x q lt),
+)
+
+pub returns-clause-added : goal.returns-clause-added
+returns-clause-added c = λ x q lt. all_marked (members c.loop-c.c-iterator) x c.in-None.ensures.steps (c.loop-c.invariant.3 x q lt)

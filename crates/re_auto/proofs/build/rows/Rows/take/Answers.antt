@@ -11,5 +11,6 @@ returns c =
       follow = λ p q within. (inl, λ h. elim h [ inl a ↦ a | inr none ↦ absurd none ]);
       takes = λ b q lt.
           let reported = rw c.deref_mut.ensures.value at (c.mark_takers.ensures.added b q lt) in
-          rw is ((λ h. elim (reported.0 h) [ inl a ↦ inl a | inr m ↦ inr (m.1, m.0) ]), (λ h. reported.1 (elim h [ inl a ↦ inl a | inr m ↦ inr (m.1, m.0) ])));
+          let (to, from) = c.takers_of-takers.ensures b lt in
+          rw is ((λ h. elim (reported.0 h) [ inl a ↦ inl a | inr m ↦ inr (m.1, to m.0) ]), (λ h. reported.1 (elim h [ inl a ↦ inl a | inr m ↦ inr (from m.1, m.0) ])));
     }

@@ -1,0 +1,6 @@
+use Rattle.re_trees.proofs.Prelude.{arith}
+use Rattle.re_trees.proofs.lemmas.SetBits.{lowest}
+use Rattle.re_trees.proofs.bytes.take_lowest.Goals as goal
+
+pub returns : goal.returns
+returns c = lowest c.args.word.now c.requires (omega arith)
