@@ -1,7 +1,6 @@
 -- The words of specs and of std that proofs of this crate use, passed on from one place. Declares nothing.
-pub use Rattle.memchr.specs.Find.{IsFirstByte, is_byte, is_byte2, is_byte3}
 pub use Rattle.re_auto.specs.Laws.{PositionsDecide}
-pub use Rattle.re_auto.specs.Working.Beginnings.{IsFirstMarked, IsMarked, Names}
+pub use Rattle.re_auto.specs.Working.Beginnings.{IsFirstMarked, IsMarked}
 pub use Rattle.re_auto.specs.Working.Bits.{Are, InWord, row_of}
 unfoldable pub use Rattle.re_auto.specs.Working.Bits.{Has}
 pub use Rattle.re_auto.specs.Working.ByteClasses.{AreClasses, IsClassed}
@@ -12,7 +11,6 @@ pub use Rattle.re_auto.specs.Working.StateSets.{IsNowhere}
 unfoldable pub use Rattle.re_auto.specs.Working.StateSets.{IsAccepting, IsNextSet, StandsAt}
 pub use Rattle.re_auto.specs.Working.SteppedSets.{Accepts, IsAfter, IsNext, MayBegin}
 pub use Rattle.re_auto.specs.Working.Tables.{AreTablesOf, CanBegin, Marks, words_for}
-pub use Rattle.re_auto.specs.declared.beginnings.Few.TheVariants.{One, Three, Two}
 pub use Rattle.re_auto.specs.declared.build.classes.Classes.{Classes}
 pub use Rattle.re_auto.specs.declared.build.ends.Ends.{Ends}
 pub use Rattle.re_auto.specs.declared.build.rows.Rows.{Rows}

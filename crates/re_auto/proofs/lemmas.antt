@@ -18,4 +18,3 @@ pub mod RepeatedLemmas
 pub mod ClassLemmas
 pub mod FillingLemmas
 pub mod WordLemmas
-pub mod BeginningLemmas

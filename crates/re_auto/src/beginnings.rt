@@ -1,47 +1,28 @@
 //! Sets of bytes, the next of which in a line is found quickly.
-ghost use Rattle.std.specs.Prelude.{◌≡◌, ℕ, ◌+◌, false, ◌<◌, ◌≤◌, IfSome, MatchOption, length};
-ghost use Rattle.std.specs.Prelude.{slice_index, slice_index_or};
-ghost use Rattle.re_auto.specs.Working.Beginnings.{IsMarked, IsFirstMarked, IsNextMark, Names};
+ghost use Rattle.std.specs.Prelude.{◌≡◌, ℕ, ◌+◌, false, ◌<◌, ◌≤◌, IsTrue, length, slice_index};
+ghost use Rattle.std.specs.Prelude.{slice_index_or};
+ghost use Rattle.re_auto.specs.Working.Beginnings.{IsMarked, IsFirstMarked};
 
-use memchr::{memchr, memchr2, memchr3};
 use std::marker::Model;
-
-// The number of bytes that are looked at before a search begins, since a search pays only for
-// longer passes.
-const NEAR: usize = 16;
 
 /// A set of bytes. The next byte of a text that is in it is found quickly. Contracts see a mark for
 /// each byte.
 #[derive(Drop)]
 pub struct Beginnings {
     marks: [bool; 256],
-    few: Few,
-}
-
-/// The members of a set of bytes where they are at most three.
-#[derive(Clone, Copy, Drop)]
-pub enum Few {
-    /// No byte.
-    Never,
-    /// This byte.
-    One(u8),
-    /// These two bytes.
-    Two(u8, u8),
-    /// These three bytes.
-    Three(u8, u8, u8),
-    /// Any number of bytes.
-    Many,
+    // Whether no byte is in it.
+    is_empty: bool,
 }
 
 impl Model for Beginnings {
-    ghost use Rattle.std.specs.Prelude.{List, Bool};
-    ghost use Rattle.re_auto.specs.Working.Beginnings.{Names};
+    ghost use Rattle.std.specs.Prelude.{List, Bool, ℕ, IsTrue};
+    ghost use Rattle.re_auto.specs.Working.Beginnings.{IsMarked};
 
     ghost Value = { List Bool };
 
     ghost view = { λ b. b.marks };
 
-    ghost invariant = { λ b. Names b.few b.marks };
+    ghost invariant = { λ b. IsTrue b.is_empty → (c : ℕ) → ¬ IsMarked b.marks c };
 }
 
 impl Beginnings {
@@ -49,8 +30,8 @@ impl Beginnings {
     pub fn of(marks: [bool; 256]) -> Beginnings
         ensures { result ≡ marks }
     {
-        let few = few_of(&marks);
-        Beginnings { marks, few }
+        let is_empty = has_none(&marks);
+        Beginnings { marks, is_empty }
     }
 
     /// Whether the byte is in the set.
@@ -61,64 +42,33 @@ impl Beginnings {
         self.marks[byte as usize]
     }
 
-    /// The first place, `place` or later, whose byte is in the set, or the line's end where there
-    /// is none.
+    /// The first place, `place` or later, whose byte is in the set, or the line's end if there is
+    /// none.
     #[inline]
     pub fn next_in(&self, line: &[u8], place: usize) -> usize
         requires { place ≤ length line.now }
-        ensures { IsFirstMarked self.now line.now place (length line.now) result }
+        ensures { IsFirstMarked self.now line.now place result }
     {
-        if let Few::Many = self.few {
-            return self.next_before(line, place, line.len());
+        if self.is_empty {
+            return line.len();
         }
-        let near = line.len().min(place.saturating_add(NEAR));
-        let next = self.next_before(line, place, near);
-        if next < near {
-            return next;
-        }
-        self.next_from(line, near)
-    }
-
-    // The same by a search, which costs more to begin.
-    #[inline(never)]
-    fn next_from(&self, line: &[u8], place: usize) -> usize
-        requires { place ≤ length line.now }
-        ensures { IsFirstMarked self.now line.now place (length line.now) result }
-    {
-        let end = line.len();
-        match self.few {
-            Few::Never => end,
-            Few::One(a) => beyond(place, memchr(a, &line[place..]), end),
-            Few::Two(a, b) => beyond(place, memchr2(a, b, &line[place..]), end),
-            Few::Three(a, b, c) => beyond(place, memchr3(a, b, c, &line[place..]), end),
-            Few::Many => self.next_before(line, place, end),
-        }
-    }
-
-    // The first place from `place` on and before `end` whose byte is in the set, or `end` where
-    // there is none.
-    fn next_before(&self, line: &[u8], place: usize, end: usize) -> usize
-        requires within { (place ≤ end) × (end ≤ length line.now) }
-        ensures { IsFirstMarked self.now line.now place end result }
-    {
-        let mut next = self.pass_fours(line, place, end);
-        'places: while next < end && !self.has(line[next]) {
+        let mut next = self.pass_fours(line, place);
+        'places: while next < line.len() && !self.has(line[next]) {
             next += 1;
         }
         next
     }
 
-    // A place before which no byte from `place` on is in the set. It is found four bytes at a time,
-    // and is at most `end`.
+    // A place before which no byte from `place` on is in the set. It is found four bytes at a time.
     #[inline(always)]
-    fn pass_fours(&self, line: &[u8], place: usize, end: usize) -> usize
-        requires within { (place ≤ end) × (end ≤ length line.now) }
-        ensures on { (place ≤ result) × (result ≤ end) }
+    fn pass_fours(&self, line: &[u8], place: usize) -> usize
+        requires within { place ≤ length line.now }
+        ensures on { (place ≤ result) × (result ≤ length line.now) }
         ensures passed { (k : ℕ) → place ≤ k → k < result →
             ¬ IsMarked self.now (slice_index line.now k) }
     {
         let mut next = place;
-        'fours: while end - next >= 4 && !self.has_one_of(line, next) {
+        'fours: while line.len() - next >= 4 && !self.has_one_of(line, next) {
             next += 4;
         }
         next
@@ -137,48 +87,14 @@ impl Beginnings {
     }
 }
 
-// The place `passed` bytes after another, or the end where there is none.
-#[inline(always)]
-fn beyond(place: usize, passed: Option<usize>, end: usize) -> usize
-    requires { IfSome passed (λ n. place + n ≤ end) }
-    ensures { MatchOption passed (result ≡ end) (λ n. result ≡ place + n) }
+// Whether no byte is marked.
+fn has_none(marks: &[bool; 256]) -> bool
+    ensures { IsTrue result → (c : ℕ) → ¬ IsMarked marks.now c }
 {
-    match passed {
-        Some(passed) => place + passed,
-        None => end,
+    'bytes: for byte in 0..256usize {
+        if marks[byte] {
+            return false;
+        }
     }
-}
-
-// The marked bytes, where they are at most three.
-fn few_of(marks: &[bool; 256]) -> Few
-    ensures { Names result marks.now }
-{
-    let first = next_mark(marks, 0);
-    if first == 256 {
-        return Few::Never;
-    }
-    let second = next_mark(marks, first + 1);
-    if second == 256 {
-        return Few::One(first as u8);
-    }
-    let third = next_mark(marks, second + 1);
-    if third == 256 {
-        return Few::Two(first as u8, second as u8);
-    }
-    if next_mark(marks, third + 1) == 256 {
-        return Few::Three(first as u8, second as u8, third as u8);
-    }
-    Few::Many
-}
-
-// The first marked byte from this one on, or 256 where there is none.
-fn next_mark(marks: &[bool; 256], from: usize) -> usize
-    requires { from ≤ 256 }
-    ensures { IsNextMark marks.now from result }
-{
-    let mut next = from;
-    'bytes: while next < 256 && !marks[next] {
-        next += 1;
-    }
-    next
+    true
 }
