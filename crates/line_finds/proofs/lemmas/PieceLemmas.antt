@@ -1,6 +1,6 @@
 -- Lists as one list, and the places where they begin.
 use Rattle.std.specs.Prelude.{OnErr}
-use Rattle.line_finds.proofs.Prelude.{map, add-zero, ◌≡◌, ℕ, ◌+◌, ◌-◌, ◌<◌, ◌≤◌, List, [], ◌∷◌, ◌++◌, length, take, drop, refl, ap, sym, subst, ◌∙◌, arith, length-append, append-nil, get_or, suc, zero, inl, inr, cases_eq, cond-true, cond-false, eq-eqb, ne_eqb, IfOk, is_ok, is_err, false, Result, Ok, Err, take-take, take-add, take_more, drop_more, take_at, drop_at, take-append-drop, take_all, length-replicate, map-append, append_assoc, replicate, nat_eq, if◌then◌else◌, all_items, starts_from, cut, AreLists, with_list, flat_map-append}
+use Rattle.line_finds.proofs.Prelude.{map, add-zero, ◌≡◌, ℕ, ◌+◌, ◌-◌, ◌<◌, ◌≤◌, List, [], ◌∷◌, ◌++◌, length, take, drop, refl, ap, sym, subst, ◌∙◌, arith, length-append, append-nil, get_or, suc, zero, inl, inr, cases_eq, cond-true, cond-false, eq-eqb, ne_eqb, IfOk, is_err, false, Result, Ok, Err, take-take, take-add, take_more, drop_more, take_at, drop_at, take-append-drop, take_all, length-replicate, map-append, append_assoc, replicate, nat_eq, if◌then◌else◌, all_items, starts_from, cut, AreLists, flat_map-append}
 
 -- ---- lists one after the other
 
@@ -120,6 +120,10 @@ same_starts X from zero = refl
 same_starts X from (suc n) =
     ap (λ at. from ∷ starts_from {X = X} at (replicate n [])) (add-zero from) ∙
     ap (λ more. from ∷ more) (same_starts X from n)
+
+-- the lists with empty ones until there are `k`, and then one more
+abbrev with_list : {X : Type 0} → ℕ → List X → List (List X) → List (List X)
+with_list k list lists = lists ++ (replicate (k - length lists) [] ++ list ∷ [])
 
 pub many_with : {X : Type 0} (k : ℕ) (list : List X) (lists : List (List X)) → length lists ≤ k
     → length (with_list k list lists) ≡ k + 1
@@ -285,11 +289,6 @@ module _ {X : Type 0} {lists : List (List X)} {items : List X} {starts : List �
 -- ---- lists of another added
 
 -- what holds of a result that is no error
-pub ok_gives : {A E X : Type 0} {x : X} (result : Result A E) (new old : X) → is_err result ≡ false
-    → x ≡ (if is_ok result then new else old) → x ≡ new
-ok_gives (Ok a) new old ok is = is
-ok_gives (Err e) new old ok is = absurd (cc)
-
 pub holds : {A E X : Type 0} {x y : X} (result : Result A E) → is_err result ≡ false
     → IfOk result (λ _. x ≡ y) → x ≡ y
 holds (Ok a) ok is = is
