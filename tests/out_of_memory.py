@@ -26,7 +26,7 @@ UNFIT = re.compile(r"\btry_from\b")
 
 OTHERS = {
     "line_chunks/chunks.rt": 1, "line_chunks/kept.rt": 1, "line_finds/found.rt": 1, "line_finds/matches.rt": 2,
-    "line_finds/pieces.rt": 4, "re_ends/groups.rt": 1, "re_ends/kept.rt": 2, "re_strings/growth.rt": 1,
+    "line_finds/pieces.rt": 2, "re_ends/groups.rt": 1, "re_ends/kept.rt": 2, "re_strings/growth.rt": 1,
     "re_strings/links.rt": 1, "re_steps/table.rt": 1, "re_syntax/building.rt": 1, "grep_utility/pattern_list.rt": 1,
 }
 """How often these files answer so where none did. A number does not fit: of 2^32 bytes or lines in one chunk, of 2^64

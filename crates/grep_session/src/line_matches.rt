@@ -15,32 +15,6 @@ use line_chunks::{Chunk, Matches};
 use re_search::{LineMatch, Matcher, Meter};
 use std::alloc::AllocError;
 
-/// Adds the lines of a chunk that the matcher matches.
-fn add_column(
-    matcher: &mut Matcher,
-    number: usize,
-    chunk: &Chunk,
-    matches: &mut Matches,
-    meter: &mut Meter,
-) -> Result<(), AllocError>
-    ensures ok { IfOk result (λ _.
-        AddsColumn (λ k. true) (map line_text chunk.now) (wants_whole matcher.old) number
-        (matched_expression matcher.old ∷ []) matches.old matches.new) }
-    ensures same { IsSame matcher.old matcher.new }
-    ensures steps { AddsAtMost (length (terminated (map line_text chunk.now))) meter.old meter.new }
-{
-    let mut from = 0;
-    while from < chunk.len() {
-        let Some(at) = matcher.next_matched(chunk.text_from(from), meter) else {
-            return Ok(());
-        };
-        let k = chunk.number_at(from, chunk.start(from) + at.start);
-        matches.note(k, number)?;
-        from = k + 1;
-    }
-    Ok(())
-}
-
 /// Adds the lines of a chunk that the matcher matches, if a pattern that went matched each of them:
 /// `old` says which patterns matched each line. No other line is searched.
 fn narrow_column(
@@ -78,7 +52,7 @@ fn narrow_column(
 }
 
 /// Adds the lines of a chunk that the matcher of a pattern that came matches.
-fn find_column(
+fn add_column(
     search: &SearchContext,
     matcher: &mut Matcher,
     number: usize,
@@ -100,7 +74,15 @@ fn find_column(
         narrow_column(search, matcher, number, change, chunk, old, matches, meter)?;
         return Ok(());
     }
-    add_column(matcher, number, chunk, matches, meter)?;
+    let mut from = 0;
+    while from < chunk.len() {
+        let Some(at) = matcher.next_matched(chunk.text_from(from), meter) else {
+            return Ok(());
+        };
+        let k = chunk.number_at(from, chunk.start(from) + at.start);
+        matches.note(k, number)?;
+        from = k + 1;
+    }
     Ok(())
 }
 
@@ -127,7 +109,7 @@ pub fn find_matches(
     let fewer = change.gone.saturating_sub(change.come);
     matches.drop_numbers(change.first, change.gone, fewer);
     for number in change.first..change.first + change.come {
-        find_column(
+        add_column(
             search,
             &mut matchers[number],
             number,

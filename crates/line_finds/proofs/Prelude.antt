@@ -2,7 +2,7 @@
 pub use Rattle.line_finds.specs.Working.Finds.{AreBelow, Finds, FoundIn, finds_at, has_own, is_other, is_paired, left_numbers, lowered, no_finds, numbers_at, paired_before}
 pub use Rattle.line_finds.specs.Working.Marked.{AreAdded, AreMarks, set_before}
 pub use Rattle.line_finds.specs.Working.Pairs.{is_outside, lowered_pair, marked, marked_of, moved_pair, moved_to, pair_of, pairs_of}
-pub use Rattle.line_finds.specs.Working.Pieces.{AreLists, all_items, cut, starts_from, with_list}
+pub use Rattle.line_finds.specs.Working.Pieces.{AreLists, all_items, cut, starts_from}
 pub use Rattle.line_finds.specs.declared.matches.Match.{Match}
 pub use Rattle.re_trees.specs.declared.span.Span.{Span}
 pub use Rattle.std.proofs.Common.{All, Bool, Err, IfOk, List, Ok, Result, [], add-zero, ap, append-nil, append_assoc, arith, cond, drop, drop_at, eq-eqb, false, filter, get_or, get_or-append-add, get_or-drop, get_or-set_other, if◌then◌else◌, inl, inr, is_err, is_ok, length, length-append, length-drop, length-set, length-take, length-take-le, map, min, nat_eq, nat_le, nat_lt, ne_eqb, not, refl, replicate, rules, set, slice_range, subst, suc, sym, take, take-add, take-append-drop, take-take, take_all, take_at, tests, true, zero, ℕ, ◌++◌, ◌+◌, ◌-◌, ◌<◌, ◌==◌, ◌||◌, ◌∙◌, ◌∷◌, ◌≡◌, ◌≤◌}

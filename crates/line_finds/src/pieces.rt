@@ -1,7 +1,7 @@
 //! Lists in one list.
 ghost use Rattle.std.specs.Prelude.{◌≡◌, ℕ, ◌+◌, ◌-◌, ◌^◌, ◌<◌, ◌≤◌, [], ◌∷◌, ◌++◌, length, map, take, drop, get_or, replicate};
 ghost use Rattle.std.specs.Prelude.{IfOk, OnErr, slice_range, nat_eq, if◌then◌else◌};
-ghost use Rattle.line_finds.specs.Working.Pieces.{all_items, with_list};
+ghost use Rattle.line_finds.specs.Working.Pieces.{all_items};
 
 use re_trees::Span;
 use std::alloc::{AllocError, Global};
@@ -183,25 +183,18 @@ impl<T> Pieces<T> {
 }
 
 impl<T: Copy> Pieces<T> {
-    /// Adds empty lists until there are `k`, and then this one. A list that would begin at item
-    /// 2^32 is refused as out of memory.
-    fn add(&mut self, k: usize, list: &[T]) -> Result<(), AllocError>
+    /// Adds empty lists until there are `k`. A list that would begin at item 2^32 is refused as out of
+    /// memory.
+    fn fill(&mut self, k: usize) -> Result<(), AllocError>
         requires { length self.old ≤ k }
-        ensures ok { IfOk result (λ _. self.new ≡ with_list k list.now self.old) }
+        ensures ok { IfOk result
+            (λ _. self.new ≡ self.old ++ replicate (k - length self.old) []) }
         ensures err { OnErr result (self.new ≡ self.old) }
     {
-        let before = self.items.len();
-        let Ok(start) = u32::try_from(before) else {
+        let Ok(start) = u32::try_from(self.items.len()) else {
             return Err(AllocError);
         };
-        let Some(count) = k.checked_add(1) else {
-            return Err(AllocError);
-        };
-        self.items.extend_from_slice(list)?;
-        if self.starts.resize(count, start).is_err() {
-            self.items.truncate(before);
-            return Err(AllocError);
-        }
+        self.starts.resize(k, start)?;
         Ok(())
     }
 
@@ -212,11 +205,8 @@ impl<T: Copy> Pieces<T> {
         ensures err { OnErr result (self.new ≡ self.old) }
     {
         let before = self.items.len();
-        let Ok(start) = u32::try_from(before) else {
-            return Err(AllocError);
-        };
         add_items(&mut self.items, first, last)?;
-        if self.starts.push(start).is_err() {
+        if add_start(&mut self.starts, before, 0).is_err() {
             self.items.truncate(before);
             return Err(AllocError);
         }
@@ -254,10 +244,11 @@ impl<T: Copy> Pieces<T> {
         ensures same { OnErr result ((i : ℕ) → get_or self.new i [] ≡ get_or self.old i []) }
         ensures few { OnErr result (length self.new ≤ k) }
     {
-        if list.is_empty() {
+        let Some((last, first)) = list.split_last() else {
             return Ok(());
-        }
-        self.add(k, list)?;
+        };
+        self.fill(k)?;
+        self.push(first, *last)?;
         Ok(())
     }
 }

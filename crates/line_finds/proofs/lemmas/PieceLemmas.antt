@@ -1,5 +1,6 @@
 -- Lists as one list, and the places where they begin.
-use Rattle.line_finds.proofs.Prelude.{map, add-zero, ◌≡◌, ℕ, ◌+◌, ◌-◌, ◌<◌, ◌≤◌, List, [], ◌∷◌, ◌++◌, length, take, drop, refl, ap, sym, subst, ◌∙◌, arith, length-append, append-nil, get_or, suc, zero, inl, inr, cases_eq, cond-true, cond-false, eq-eqb, ne_eqb, IfOk, is_ok, is_err, false, Result, Ok, Err, take-take, take-add, take_more, drop_more, take_at, drop_at, take-append-drop, take_all, length-replicate, map-append, append_assoc, replicate, nat_eq, if◌then◌else◌, all_items, starts_from, cut, AreLists, with_list, flat_map-append}
+use Rattle.std.specs.Prelude.{OnErr}
+use Rattle.line_finds.proofs.Prelude.{map, add-zero, ◌≡◌, ℕ, ◌+◌, ◌-◌, ◌<◌, ◌≤◌, List, [], ◌∷◌, ◌++◌, length, take, drop, refl, ap, sym, subst, ◌∙◌, arith, length-append, append-nil, get_or, suc, zero, inl, inr, cases_eq, cond-true, cond-false, eq-eqb, ne_eqb, IfOk, is_err, false, Result, Ok, Err, take-take, take-add, take_more, drop_more, take_at, drop_at, take-append-drop, take_all, length-replicate, map-append, append_assoc, replicate, nat_eq, if◌then◌else◌, all_items, starts_from, cut, AreLists, flat_map-append}
 
 -- ---- lists one after the other
 
@@ -108,18 +109,21 @@ moved-starts f from to (x ∷ xs) same =
     ap f a ∙ same (length x + m) ∙ b) in
     (λ j. here j ∷ moved-starts f (from + length x) (to + length x) xs later j)
 
--- ---- a list after empty ones
+-- ---- empty lists
 
-last_items : {X : Type 0} (n : ℕ) (list : List X) → all_items (replicate n [] ++ list ∷ []) ≡ list
-last_items zero list = append-nil list
-last_items (suc n) list = last_items n list
+no_items : (X : Type 0) (n : ℕ) → all_items {X = X} (replicate n []) ≡ []
+no_items X zero = refl
+no_items X (suc n) = no_items X n
 
-last_starts : {X : Type 0} (from n : ℕ) (list : List X)
-    → starts_from from (replicate n [] ++ list ∷ []) ≡ replicate (suc n) from
-last_starts from zero list = refl
-last_starts from (suc n) list =
-    ap (λ at. from ∷ starts_from at (replicate n [] ++ list ∷ [])) (add-zero from) ∙
-    ap (λ more. from ∷ more) (last_starts from n list)
+same_starts : (X : Type 0) (from n : ℕ) → starts_from {X = X} from (replicate n []) ≡ replicate n from
+same_starts X from zero = refl
+same_starts X from (suc n) =
+    ap (λ at. from ∷ starts_from {X = X} at (replicate n [])) (add-zero from) ∙
+    ap (λ more. from ∷ more) (same_starts X from n)
+
+-- the lists with empty ones until there are `k`, and then one more
+abbrev with_list : {X : Type 0} → ℕ → List X → List (List X) → List (List X)
+with_list k list lists = lists ++ (replicate (k - length lists) [] ++ list ∷ [])
 
 pub many_with : {X : Type 0} (k : ℕ) (list : List X) (lists : List (List X)) → length lists ≤ k
     → length (with_list k list lists) ≡ k + 1
@@ -160,6 +164,28 @@ put_at lists k list i le =
       | inr other ↦ elsewhere lists n list i (λ same. other (omega (arith, same, place))) ∙
           sym (cond-false _ _ _ (ne_eqb i k other))
     ]
+
+pub on_err : {A E P : Type 0} (result : Result A E) → P → OnErr result P
+on_err (Ok a) p = tt
+on_err (Err e) p = p
+
+-- empty lists, and then the list
+pub is_with : {X : Type 0} (k : ℕ) (lists : List (List X)) {mid new : List (List X)} {list whole : List X} → mid ≡ lists ++ replicate (k - length lists) []
+    → new ≡ mid ++ list ∷ [] → whole ≡ list → new ≡ with_list k whole lists
+is_with k lists {list = list} m n same =
+    n ∙ ap (λ some. some ++ list ∷ []) m ∙ append_assoc lists (replicate (k - length lists) []) (list ∷ []) ∙
+    ap (λ some. with_list k some lists) (sym same)
+
+pub only_empty : {X : Type 0} (lists : List (List X)) (n i : ℕ) → get_or (lists ++ replicate n []) i [] ≡ get_or lists i []
+only_empty [] zero i = refl
+only_empty [] (suc n) zero = refl
+only_empty [] (suc n) (suc i) = only_empty [] n i
+only_empty (x ∷ xs) n zero = refl
+only_empty (x ∷ xs) n (suc i) = only_empty xs n i
+
+pub filled_up : {X : Type 0} (lists : List (List X)) (k : ℕ) → length lists ≤ k → length (lists ++ replicate (k - length lists) []) ≡ k
+filled_up {X} lists k le =
+    length-append lists (replicate (k - length lists) []) ∙ omega (arith, length-replicate {A = List X} (k - length lists) [])
 
 -- ---- cutting them gives the lists
 
@@ -205,28 +231,35 @@ module _ {X : Type 0} {lists : List (List X)} {items : List X} {starts : List �
 
   -- ---- a list more
 
-  pub are_more : {new_items : List X} {new_starts : List ℕ} → AreLists lists items starts
-      → (n at : ℕ) (list : List X) → at ≡ length items → new_items ≡ items ++ list
-      → new_starts ≡ starts ++ replicate (suc n) at
-      → AreLists (lists ++ (replicate n [] ++ list ∷ [])) new_items new_starts
-  are_more are n at list place i s =
-      let more = replicate n [] ++ list ∷ [] in
+  pub are_pushed : {new_items : List X} {new_starts : List ℕ} → AreLists lists items starts → (at : ℕ) (list : List X)
+      → at ≡ length items → new_items ≡ items ++ list → new_starts ≡ starts ++ at ∷ []
+      → AreLists (lists ++ list ∷ []) new_items new_starts
+  are_pushed are at list place i s =
       let here : at ≡ 0 + length (all_items lists) = omega (arith, place, ap length are.items_are) in
       record {
         items_are =
-            i ∙ (λ j. are.items_are j ++ sym (last_items n list) j) ∙ sym (items-append lists more);
+            i ∙ (λ j. are.items_are j ++ sym (append-nil list) j) ∙ sym (items-append lists (list ∷ []));
         starts_are =
-            s ∙ (λ j. are.starts_are j ++ replicate (suc n) (here j)) ∙
-            ap (λ some. starts_from 0 lists ++ some) (sym (last_starts (0 + length (all_items lists)) n list)) ∙
-            sym (starts-append 0 lists more);
+            s ∙ (λ j. are.starts_are j ++ here j ∷ []) ∙ sym (starts-append 0 lists (list ∷ []));
       }
 
-  -- what `resize` leaves
-  pub resized : AreLists lists items starts → (k n m at : ℕ) → length lists ≤ k → n ≡ k + 1 → m ≡ length starts
-      → take n starts ++ replicate (n - m) at ≡ starts ++ replicate (suc (k - length lists)) at
-  resized are k n m at le n_is m_is =
-      let count : n - m ≡ suc (k - length lists) = omega (arith, many_starts are, le, n_is, m_is) in
-      λ j. take_all n starts (omega (arith, many_starts are, le, n_is)) j ++ replicate (count j) at
+  -- `more` is what `resize` adds
+  pub are_filled : {new_starts : List ℕ} → AreLists lists items starts → (k m at : ℕ) → length lists ≤ k
+      → m ≡ length starts → at ≡ length items → new_starts ≡ take k starts ++ replicate (k - m) at
+      → AreLists (lists ++ replicate (k - length lists) []) items new_starts
+  are_filled are k m at le m_is place s =
+      let n = k - length lists in
+      let count : k - m ≡ n = omega (arith, many_starts are, m_is) in
+      let here : at ≡ 0 + length (all_items lists) = omega (arith, place, ap length are.items_are) in
+      record {
+        items_are =
+            are.items_are ∙ sym (append-nil (all_items lists)) ∙
+            ap (λ more. all_items lists ++ more) (sym (no_items X n)) ∙ sym (items-append lists (replicate n []));
+        starts_are =
+            s ∙ (λ j. (take_all k starts (omega (arith, many_starts are, le)) ∙ are.starts_are) j ++ replicate (count j) (here j)) ∙
+            ap (λ more. starts_from 0 lists ++ more) (sym (same_starts X (0 + length (all_items lists)) n)) ∙
+            sym (starts-append 0 lists (replicate n []));
+      }
 
   -- ---- lists removed
 
@@ -256,11 +289,6 @@ module _ {X : Type 0} {lists : List (List X)} {items : List X} {starts : List �
 -- ---- lists of another added
 
 -- what holds of a result that is no error
-pub ok_gives : {A E X : Type 0} {x : X} (result : Result A E) (new old : X) → is_err result ≡ false
-    → x ≡ (if is_ok result then new else old) → x ≡ new
-ok_gives (Ok a) new old ok is = is
-ok_gives (Err e) new old ok is = absurd (cc)
-
 pub holds : {A E X : Type 0} {x y : X} (result : Result A E) → is_err result ≡ false
     → IfOk result (λ _. x ≡ y) → x ≡ y
 holds (Ok a) ok is = is

@@ -1,5 +1,5 @@
 -- Lists as one list, with the places where each of them begins.
-use Rattle.std.specs.Prelude.{◌≡◌, ℕ, ◌+◌, ◌-◌, List, [], ◌∷◌, ◌++◌, length, take, drop, replicate}
+use Rattle.std.specs.Prelude.{◌≡◌, ℕ, ◌+◌, ◌-◌, List, [], ◌∷◌, length, take, drop}
 use Rattle.std.specs.List.{flat_map}
 
 -- the lists one after the other
@@ -21,7 +21,3 @@ cut (start ∷ next ∷ starts) items = take (next - start) items ∷ cut (next 
 pub record AreLists {X : Type 0} (lists : List (List X)) (items : List X) (starts : List ℕ) : Type 0 where
   pub items_are : items ≡ all_items lists
   pub starts_are : starts ≡ starts_from 0 lists
-
--- the lists with empty ones until there are `k`, and then one more
-abbrev pub with_list : {X : Type 0} → ℕ → List X → List (List X) → List (List X)
-with_list k list lists = lists ++ (replicate (k - length lists) [] ++ list ∷ [])

@@ -1,11 +1,12 @@
-use Rattle.grep_session.proofs.Prelude.{ℕ, true, [], get_or, ◌≡◌, ◌+◌, ◌<◌, ◌≤◌, length, map, Some, sym, ap, subst, ◌∙◌, arith, refl, length-map, Matches, Text, terminated, AddsAtMost, line_text, IsNextLine, next_line_cost, matched_expression, wants_whole}
+use Rattle.grep_session.proofs.Prelude.{Change, Steps, List, KeptLine, false, false≢true, if◌then◌else◌, had_gone, is_sought, marked_cost, ℕ, true, [], get_or, ◌≡◌, ◌+◌, ◌<◌, ◌≤◌, length, map, Some, sym, ap, subst, ◌∙◌, arith, refl, length-map, Matches, Text, terminated, AddsAtMost, line_text, IsNextLine, next_line_cost, matched_expression, wants_whole}
 use Rattle.re_search.proofs.lemmas.SameLaws.{same_twice}
 use Rattle.re_runs.proofs.lemmas.NextLines.{block_lines}
 use Rattle.re_meter.proofs.lemmas.Adding.{adds_both, adds_within, adds_none}
-use Rattle.grep_session.proofs.lemmas.ColumnLoops.{column_none, column_next, column_done}
+use Rattle.grep_session.proofs.lemmas.ColumnLoops.{column_none, column_next, column_done, column_of}
+use Rattle.grep_session.proofs.lemmas.MarkedLemmas.{all_marked}
 use Rattle.grep_session.proofs.lemmas.NextLineLemmas.{none_from, next_there, place_fits, bytes_up_to, bytes_within, bytes_rest}
 use Rattle.grep_session.proofs.line_matches.add_column.Goals as goal
-use Rattle.grep_session.proofs.line_matches.add_column.Goals.{After-number_at-k}
+use Rattle.grep_session.proofs.line_matches.add_column.Goals.{After-narrow_column, After-number_at-k}
 
 -- the next line that is matched, and its bytes
 found : (c : After-number_at-k) → let texts = map line_text c.args.chunk.now in IsNextLine (matched_expression c.loop-from.matcher) (wants_whole c.loop-from.matcher) texts c.loop-from.from (Some c.number_at-k.result) × (c.in-Some.at.end + 1 ≡ next_line_cost texts c.loop-from.from (Some c.number_at-k.result))
@@ -13,6 +14,27 @@ found c =
     let texts = map line_text c.args.chunk.now in
     let within : c.loop-from.from ≤ length texts = omega (arith, c.loop-from.invariant.within, length-map c.args.chunk.now line_text) in
     next_there (matched_expression c.loop-from.matcher) (wants_whole c.loop-from.matcher) texts _ c.loop-from.from c.start.result (length c.args.chunk.now) c.number_at-k.result c.in-Some.at c.text_from.ensures.lines c.in-Some.ensures.reported within c.start.ensures.start (sym (length-map c.args.chunk.now line_text)) c.number_at-k.ensures.at
+
+narrowed : (c : After-narrow_column) → AddsAtMost (marked_cost (is_sought c.args.change c.args.old.now) 1 (map line_text c.args.chunk.now) (length c.args.chunk.now)) c.args.meter.now c.narrow_column.new.meter
+narrowed c =
+    subst (λ b. AddsAtMost (marked_cost (λ k. if b then had_gone c.args.change c.args.old.now k else true) 1 (map line_text c.args.chunk.now) (length c.args.chunk.now)) c.args.meter.now c.narrow_column.new.meter) (sym c.if-change.true) c.narrow_column.ensures.steps
+
+pub returns-then-change-clause-ok : goal.returns-then-change-clause-ok
+returns-then-change-clause-ok c =
+    column_of (is_sought c.args.change c.args.old.now) _ _ (had_gone c.args.change c.args.old.now) _ _ _ _ (λ k off. ap (λ b. if b then had_gone c.args.change c.args.old.now k else true) c.if-change.true ∙ off) c.in_ok-narrow_column.ensures.ok
+
+pub returns-then-change-clause-steps : goal.returns-then-change-clause-steps
+returns-then-change-clause-steps c = narrowed (goal.at.returns-then-change-clause-steps c).After-narrow_column
+
+pub returns-in_err-narrow_column-clause-steps : goal.returns-in_err-narrow_column-clause-steps
+returns-in_err-narrow_column-clause-steps c = narrowed (goal.at.returns-in_err-narrow_column-clause-steps c).After-narrow_column
+
+-- lines that are all searched cost their bytes
+plain : (change : Change) (old : List (ℕ × ℕ)) (lines : List KeptLine) {before after : Steps} → change.narrower ≡ false → AddsAtMost (length (terminated (map line_text lines))) before after
+    → AddsAtMost (marked_cost (is_sought change old) 1 (map line_text lines) (length lines)) before after
+plain change old lines {before} {after} all spent =
+    subst (λ b. AddsAtMost (marked_cost (λ k. if b then had_gone change old k else true) 1 (map line_text lines) (length lines)) before after) (sym all)
+    (subst (λ n. AddsAtMost n before after) (all_marked (map line_text lines) (length lines) (length-map lines line_text)) spent)
 
 pub loop-from-init : goal.loop-from-init
 loop-from-init c = record {
@@ -35,7 +57,7 @@ returns-in_default-clause-ok c =
     let P = λ (line : Text). Matches (matched_expression c.loop-from.matcher) line (wants_whole c.loop-from.matcher) in
     let texts = map line_text c.args.chunk.now in
     let none : (k : ℕ) → c.loop-from.from ≤ k → k < length texts → ¬ Matches (matched_expression c.args.matcher.now) (get_or texts k []) (wants_whole c.args.matcher.now) = rw (← i.same.same_expression, ← i.same.same_whole) (none_from P texts c.loop-from.from _ c.text_from.ensures.lines c.in_default.ensures.reported) in
-    column_done (λ k. true) _ _ _ _ c.loop-from.from _ _ (λ k low high passed. none k low high) i.column
+    column_of (is_sought c.args.change c.args.old.now) _ _ (λ k. true) _ _ _ _ (λ k off. absurd (false≢true (sym off))) (column_done (λ k. true) _ _ _ _ c.loop-from.from _ _ (λ k low high passed. none k low high) i.column)
 
 pub returns-in_default-clause-same : goal.returns-in_default-clause-same
 returns-in_default-clause-same c = same_twice c.next_matched.ensures.same c.loop-from.invariant.same
@@ -46,7 +68,7 @@ returns-in_default-clause-steps c =
     let texts = map line_text c.args.chunk.now in
     let bytes = ap length (block_lines _ c.text_from.ensures.block) ∙ ap (λ ls. length (terminated ls)) c.text_from.ensures.lines in
     let spent = subst (λ n. AddsAtMost n c.loop-from.meter c.next_matched.new.meter) bytes c.in_default.ensures.steps in
-    subst (λ n. AddsAtMost n c.args.meter.now c.next_matched.new.meter) (bytes_rest texts c.loop-from.from) (adds_both _ _ _ _ _ _ _ i.steps spent)
+    plain c.args.change c.args.old.now c.args.chunk.now c.if-change.false (subst (λ n. AddsAtMost n c.args.meter.now c.next_matched.new.meter) (bytes_rest texts c.loop-from.from) (adds_both _ _ _ _ _ _ _ i.steps spent))
 
 pub returns-in_err-note-clause-same : goal.returns-in_err-note-clause-same
 returns-in_err-note-clause-same c = same_twice c.next_matched.ensures.same c.loop-from.invariant.same
@@ -59,7 +81,7 @@ returns-in_err-note-clause-steps c =
     let k = c.number_at-k.result in
     let there = found (goal.at.returns-in_err-note-clause-steps c).After-number_at-k in
     let spent = subst (λ n. AddsAtMost n c.loop-from.meter c.next_matched.new.meter) there.1 c.in-Some.ensures.steps in
-    adds_within _ _ _ _ _ _ (bytes_within texts (k + 1)) (bytes_within texts (k + 1)) (subst (λ n. AddsAtMost n c.args.meter.now c.next_matched.new.meter) (bytes_up_to texts from (k + 1) (omega (arith, there.0.0))) (adds_both _ _ _ _ _ _ _ i.steps spent))
+    plain c.args.change c.args.old.now c.args.chunk.now c.if-change.false (adds_within _ _ _ _ _ _ (bytes_within texts (k + 1)) (bytes_within texts (k + 1)) (subst (λ n. AddsAtMost n c.args.meter.now c.next_matched.new.meter) (bytes_up_to texts from (k + 1) (omega (arith, there.0.0))) (adds_both _ _ _ _ _ _ _ i.steps spent)))
 
 pub overflow_add-from : goal.overflow_add-from
 overflow_add-from c =
@@ -90,10 +112,11 @@ loop-from-preserved c =
 pub returns-clause-ok : goal.returns-clause-ok
 returns-clause-ok c =
     let i = c.loop-from.invariant in
-    column_done (λ k. true) (matched_expression c.args.matcher.now) (wants_whole c.args.matcher.now) c.args.number (map line_text c.args.chunk.now) c.loop-from.from _ _
-    (λ k low high passed. absurd (let no : ⊥ = omega (arith, low, high, length-map c.args.chunk.now line_text, c.loop-from-test.false) in no)) i.column
+    column_of (is_sought c.args.change c.args.old.now) _ _ (λ k. true) _ _ _ _ (λ k off. absurd (false≢true (sym off)))
+    (column_done (λ k. true) (matched_expression c.args.matcher.now) (wants_whole c.args.matcher.now) c.args.number (map line_text c.args.chunk.now) c.loop-from.from _ _
+    (λ k low high passed. absurd (let no : ⊥ = omega (arith, low, high, length-map c.args.chunk.now line_text, c.loop-from-test.false) in no)) i.column)
 
 pub returns-clause-steps : goal.returns-clause-steps
 returns-clause-steps c =
     let within = bytes_within (map line_text c.args.chunk.now) c.loop-from.from in
-    adds_within _ _ _ _ _ _ within within c.loop-from.invariant.steps
+    plain c.args.change c.args.old.now c.args.chunk.now c.if-change.false (adds_within _ _ _ _ _ _ within within c.loop-from.invariant.steps)

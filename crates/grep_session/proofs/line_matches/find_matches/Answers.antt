@@ -47,21 +47,21 @@ loop-number-preserved c =
       found = (
         s.found.0,
         s.found.1,
-        columns_next sought texts entire first k (map matched_expression old) (matched_expression (get_or now k d)) s.found.0 c.loop-number.matches c.find_column.new.matches s.low there (one_more matched_expression old now same.same_expressions k d h) s.found.2
-            (subst (λ w. AddsColumn sought texts w k (matched_expression (get_or now k d) ∷ []) c.loop-number.matches c.find_column.new.matches) asks c.in_ok-find_column.ensures.ok),
+        columns_next sought texts entire first k (map matched_expression old) (matched_expression (get_or now k d)) s.found.0 c.loop-number.matches c.add_column.new.matches s.low there (one_more matched_expression old now same.same_expressions k d h) s.found.2
+            (subst (λ w. AddsColumn sought texts w k (matched_expression (get_or now k d) ∷ []) c.loop-number.matches c.add_column.new.matches) asks c.in_ok-add_column.ensures.ok),
       );
-      same_matchers = one_kept same k d _ c.find_column.ensures.same;
-      steps = subst (λ n. AddsAtMost (n * cost) c.args.meter.now c.find_column.new.meter) next (adds_once_more (k - first) cost _ _ _ s.steps c.find_column.ensures.steps);
+      same_matchers = one_kept same k d _ c.add_column.ensures.same;
+      steps = subst (λ n. AddsAtMost (n * cost) c.args.meter.now c.add_column.new.meter) next (adds_once_more (k - first) cost _ _ _ s.steps c.add_column.ensures.steps);
     }
 
-pub returns-in_err-find_column-clause-same_matchers : goal.returns-in_err-find_column-clause-same_matchers
-returns-in_err-find_column-clause-same_matchers c = one_kept c.loop-number.invariant.same_matchers c.loop-number.number c.index-matchers-number.result _ c.find_column.ensures.same
+pub returns-in_err-add_column-clause-same_matchers : goal.returns-in_err-add_column-clause-same_matchers
+returns-in_err-add_column-clause-same_matchers c = one_kept c.loop-number.invariant.same_matchers c.loop-number.number c.index-matchers-number.result _ c.add_column.ensures.same
 
-pub returns-in_err-find_column-clause-steps : goal.returns-in_err-find_column-clause-steps
-returns-in_err-find_column-clause-steps c =
+pub returns-in_err-add_column-clause-steps : goal.returns-in_err-add_column-clause-steps
+returns-in_err-add_column-clause-steps c =
     let s = c.loop-number.invariant in
     let done = c.loop-number.number - c.args.change.first in
-    adds_for_more (done + 1) c.args.change.come _ _ _ (omega (arith, s.low, c.loop-number-test.true)) (adds_once_more done _ _ _ _ s.steps c.find_column.ensures.steps)
+    adds_for_more (done + 1) c.args.change.come _ _ _ (omega (arith, s.low, c.loop-number-test.true)) (adds_once_more done _ _ _ _ s.steps c.add_column.ensures.steps)
 
 pub returns-clause-ok : goal.returns-clause-ok
 returns-clause-ok c =
