@@ -1,6 +1,6 @@
 -- The lines around selected ones: which are shown is decided, a file has one output of them, and
 -- none exactly where no line is selected.
-use Rattle.grep_core.proofs.Prelude.{◌≡◌, ℕ, zero, suc, ◌+◌, ◌<◌, ◌≤◌, List, [], ◌∷◌, ◌++◌, length, get_or, Option, Any, inl, inr, refl, sym, ap, subst, ◌∙◌, arith, enumerate_from, Text, Expression, Context, Options, colon, hyphen, head, EachGives, Selected, group_separator, IsShown, BeginsGroup, IsRow, Shows, Groups, dec_le, map_dec}
+use Rattle.grep_core.proofs.Prelude.{◌≡◌, ℕ, zero, suc, ◌+◌, ◌<◌, ◌≤◌, List, [], ◌∷◌, ◌++◌, length, get_or, Option, Any, inl, inr, refl, sym, ap, ◌∙◌, arith, enumerate_from, Text, Expression, Context, Options, colon, hyphen, head, EachGives, Selected, group_separator, IsShown, BeginsGroup, IsRow, Shows, Groups, dec_le, map_dec}
 use Rattle.re_syntax.proofs.lemmas.Decisions.{dec_not, dec_both, dec_below, Any-none, Any-first, Any-later, Any-cases}
 use Rattle.grep_core.proofs.lemmas.ChooseLaws.{same_value, IfHolds-both, IfHolds-exist, EachGives-determined, EachGives-exist, EachGives-nothing}
 use Rattle.grep_core.proofs.lemmas.Decided.{dec_selected}
@@ -37,10 +37,10 @@ nothing_at R n [] k out inside h none = absurd (omega (arith, inside))
 nothing_at R n (line ∷ text) zero out inside h none =
     let here : n ≡ n + 0 = omega arith in
     let nothing : h.0 ≡ [] = first_empty h.0 h.1 (sym h.4 ∙ none) in
-    subst (λ m. R (m, line) []) here (subst (R (n, line)) nothing h.2)
+    rw here at (rw nothing at h.2)
 nothing_at R n (line ∷ text) (suc k) out inside h none =
     let later : (n + 1) + k ≡ n + suc k = omega arith in
-    subst (λ m. R (m, get_or text k []) []) later (nothing_at R (n + 1) text k h.1 (omega (arith, inside)) h.3 (second_empty h.0 h.1 (sym h.4 ∙ none)))
+    rw later at (nothing_at R (n + 1) text k h.1 (omega (arith, inside)) h.3 (second_empty h.0 h.1 (sym h.4 ∙ none)))
 
 module _ (es : List Expression) (options : Options) (context : Context) where
   -- ---- what is shown is decided
@@ -110,7 +110,7 @@ module _ (es : List Expression) (options : Options) (context : Context) where
           let at = place_of (Selected es options) text [] some in
           let first : 0 + at.0 ≡ at.0 = omega arith in
           let here : Shows es options context name (shown_number (at.0 + 1)) text at.0 (get_or text at.0 []) [] =
-          subst (λ k. Shows es options context name (shown_number (k + 1)) text k (get_or text at.0 []) []) first (nothing_at _ 0 text at.0 groups at.1 h nothing) in
+          rw first at (nothing_at _ 0 text at.0 groups at.1 h nothing) in
           elim here [
             | inl shown ↦ elim shown.1.2 [
               | inl begins ↦ absurd (some_row begins.1)

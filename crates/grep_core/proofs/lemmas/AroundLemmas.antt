@@ -78,7 +78,7 @@ module _ (es : List Expression) (options : Options) (many : Bool) (name : Text) 
       let separator : List Text = if p.gap then group_separator ∷ [] else [] in
       let written : List Text = rows_around options many name (length t.front + 1) t.held ++ row ∷ [] in
       let long : length lines ≡ length t.front + length t.held = ap length t.with_parts ∙ length-append t.front t.held in
-      let few : p.waiting ≤ context.before = subst (λ (c : Context). p.waiting ≤ c.before) t.same_context t.few in
+      let few : p.waiting ≤ context.before = rw t.same_context at t.few in
       let back : (k : ℕ) → k < length t.front → IsShown es options context all k → IsShown es options context lines k = λ k below s. elim (t.missing k below) [
         | inl shown ↦ shown
         | inr far ↦ elim (shown_cases es options context lines line k s) [ inl shown ↦ shown | inr near ↦ absurd (omega (arith, far, near.0)) ]
@@ -100,8 +100,8 @@ module _ (es : List Expression) (options : Options) (many : Bool) (name : Text) 
           | inr late ↦ inl (near k late (omega (arith, below, one_more)))
         ];
         left = λ d. (
-          (λ below. shown_near es options context lines line (length all + d) selected (omega (arith, one_more)) (omega (arith, subst (λ (c : Context). d < c.after) t.same_context below, one_more))),
-          (λ s. subst (λ (c : Context). d < c.after) (sym t.same_context) (omega (arith, s.on, s.after, one_more))),
+          (λ below. shown_near es options context lines line (length all + d) selected (omega (arith, one_more)) (omega (arith, rw t.same_context at below, one_more))),
+          (λ s. rw t.same_context (omega (arith, s.on, s.after, one_more))),
         );
         gap = ((λ e. absurd (false≢true e)), (λ b. absurd (begins_at es options context all (length all) (length lines) b one_more (near (length lines) (omega (arith, long)) (omega arith)))));
         groups = t.groups ++ (separator ++ written);
@@ -130,9 +130,9 @@ module _ (es : List Expression) (options : Options) (many : Bool) (name : Text) 
         | inr high ↦ high
       ] in
       let no_gap : p.gap ≡ false = false_from_ne_true p.gap (λ e. begins_at es options context lines (length t.front) (length lines - 1) (t.gap.0 e) (omega (arith, all_before, long, here_on)) last_one) in
-      let shown_here : IsShown es options context all (length lines) = shown_more es options context lines (line ∷ []) (length lines) (subst (IsShown es options context lines) (let e : length lines + 0 ≡ length lines = omega arith in e) here) in
+      let shown_here : IsShown es options context all (length lines) = shown_more es options context lines (line ∷ []) (length lines) (rw (let e : length lines + 0 ≡ length lines = omega arith in e) at here) in
       let near : (k : ℕ) → length t.front ≤ k → k ≤ length lines → IsShown es options context all k = λ k low high.
-      subst (IsShown es options context all) (let e : length lines ≡ k = omega (arith, low, high, all_before) in e) shown_here in
+      rw (let e : length lines ≡ k = omega (arith, low, high, all_before) in e) at shown_here in
       let begins_not : BeginsGroup es options context all (length all) → ⊥ = λ b. begins_at es options context all (length all) (length lines) b one_more shown_here in
       let some_before : t.groups ≡ [] → ⊥ = λ e. false≢true (sym no_gap ∙ t.first e) in
       let group : List Text = (if p.gap then group_separator ∷ [] else []) ++ written in
@@ -153,8 +153,8 @@ module _ (es : List Expression) (options : Options) (many : Bool) (name : Text) 
         ];
         left = λ d.
             let next : length lines + (d + 1) ≡ length all + d = omega (arith, one_more) in (
-              (λ below. shown_more es options context lines (line ∷ []) (length all + d) (subst (IsShown es options context lines) next ((t.left (d + 1)).0 (omega (arith, below))))),
-              (λ s. let further : d + 1 < p.left = (t.left (d + 1)).1 (subst (IsShown es options context lines) (sym next) (shown_passed es options context lines (line ∷ []) (length all + d) none s)) in omega (arith, further)),
+              (λ below. shown_more es options context lines (line ∷ []) (length all + d) (rw next at ((t.left (d + 1)).0 (omega (arith, below))))),
+              (λ s. let further : d + 1 < p.left = (t.left (d + 1)).1 (rw next (shown_passed es options context lines (line ∷ []) (length all + d) none s)) in omega (arith, further)),
             );
         gap = ((λ e. absurd (false≢true (sym no_gap ∙ e))), (λ b. absurd (begins_not b)));
         groups = t.groups ++ group;
@@ -200,7 +200,7 @@ module _ (es : List Expression) (options : Options) (many : Bool) (name : Text) 
       enumerate_from-append 0 t.front (take gone waiting) ∙ ap (λ m. enumerate_from 0 t.front ++ enumerate_from m (take gone waiting)) zeroed in
       record {
         same_context = t.same_context;
-        few = subst (λ (c : Context). n ≤ c.before) (sym t.same_context) few_before;
+        few = rw t.same_context few_before;
         within = omega (arith, few, t.within, longer);
         front = front;
         held = drop gone waiting;
@@ -219,13 +219,13 @@ module _ (es : List Expression) (options : Options) (many : Bool) (name : Text) 
         gap = elim step [
           | inl s ↦
               let same : length t.front ≡ length front = omega (arith, front_long, s.1) in
-              subst (λ m. Decides gap (BeginsGroup es options context all m)) same (subst (λ b. Decides b (BeginsGroup es options context all (length t.front))) (sym s.2)
+              rw (← same) (rw s.2
               ((λ e. begins_same es options context lines all (length t.front) (λ j _. from j) (t.gap.0 e)), (λ b. t.gap.1 (begins_same es options context all lines (length t.front) (λ j _. to j) b))))
           | inr s ↦ ((λ _. begins_from es options context all (length front) (λ j e. none_shown j (omega (arith, front_long, e, s.0, s.1)))), (λ _. s.2))
         ];
         groups = t.groups;
-        given = subst (λ ls. EachGives (Given es options many name context all) ls t.groups) (sym placed)
-            (subst (EachGives (Given es options many name context all) (enumerate_from 0 t.front ++ enumerate_from (length t.front) (take gone waiting))) (append-nil t.groups)
+        given = rw placed
+            (rw (append-nil t.groups) at
             (EachGives-append (Given es options many name context all) (enumerate_from 0 t.front) (enumerate_from (length t.front) (take gone waiting)) t.groups [] first rest));
         written = t.written;
         shown = t.shown;
@@ -251,8 +251,8 @@ module _ (es : List Expression) (options : Options) (many : Bool) (name : Text) 
   tracks_unselected : (p : Progress) (lines rows : List Text) (line : Text) → ¬ Selected es options line → Tracks p lines rows
       → Tracks (after_line p false) (lines ++ line ∷ []) (rows ++ rows_at options many name false (next_shown p false) (last_of p.waiting lines) (length lines + 1) line)
   tracks_unselected p lines rows line passed t = elim (cases_lt 0 p.left) [
-    | inl some ↦ subst after (sym (lt-ltb 0 p.left some)) (tracks_after p lines rows line passed some t)
-    | inr none ↦ subst after (sym (le-ltb 0 p.left none)) (subst (Tracks (with_waiting 1 p) (lines ++ line ∷ [])) (sym (append-nil rows))
+    | inl some ↦ rw (lt-ltb 0 p.left some) (tracks_after p lines rows line passed some t)
+    | inr none ↦ rw (le-ltb 0 p.left none) (rw (append-nil rows)
         (tracks_passed p lines rows (line ∷ []) (All-cons (λ l. ¬ Selected es options l) line [] passed (All-nil (λ l. ¬ Selected es options l))) (omega (arith, none)) t))
   ]
     where
@@ -276,21 +276,21 @@ module _ (es : List Expression) (options : Options) (many : Bool) (name : Text) 
       let placed : enumerate_from 0 lines ≡ enumerate_from 0 t.front ++ enumerate_from (length t.front) t.held =
       ap (enumerate_from 0) t.with_parts ∙ enumerate_from-append 0 t.front t.held ∙ ap (λ m. enumerate_from 0 t.front ++ enumerate_from m t.held) zeroed in (
         t.groups,
-        subst (λ ls. EachGives (Given es options many name context lines) ls t.groups) (sym placed)
-            (subst (EachGives (Given es options many name context lines) (enumerate_from 0 t.front ++ enumerate_from (length t.front) t.held)) (append-nil t.groups)
+        rw placed
+            (rw (append-nil t.groups) at
             (EachGives-append (Given es options many name context lines) (enumerate_from 0 t.front) (enumerate_from (length t.front) t.held) t.groups [] t.given rest)),
         t.written,
       )
 
   -- more lines add to what is written
   pub tracks_further : (p : Progress) (lines rows more : List Text) → Tracks p lines rows → (q : Progress) × (rest : List Text) × Tracks q (lines ++ more) (rows ++ rest)
-  tracks_further p lines rows [] t = (p, [], subst (λ ls. Tracks p ls (rows ++ [])) (sym (append-nil lines)) (subst (Tracks p lines) (sym (append-nil rows)) t))
+  tracks_further p lines rows [] t = (p, [], rw (append-nil lines) (rw (append-nil rows) t))
   tracks_further p lines rows (line ∷ more) t =
       let reported = decided (dec_selected es options line) in
       let next = tracks_line p lines rows line reported.0 reported.1 t in
       let written : List Text = rows_at options many name reported.0 (next_shown p reported.0) (last_of p.waiting lines) (length lines + 1) line in
       let rest = tracks_further (after_line p reported.0) (lines ++ line ∷ []) (rows ++ written) more next in
-      (rest.0, written ++ rest.1, subst (Tracks rest.0 (lines ++ line ∷ more)) (append_assoc rows written rest.1) (subst (λ ls. Tracks rest.0 ls ((rows ++ written) ++ rest.1)) (append_assoc lines (line ∷ []) more) rest.2))
+      (rest.0, written ++ rest.1, rw (append_assoc rows written rest.1) at (rw (append_assoc lines (line ∷ []) more) at rest.2))
     where
       decided : {P : Type 0} → Dec P → (b : Bool) × Decides b P
       decided (yes h) = (true, decided_yes h)

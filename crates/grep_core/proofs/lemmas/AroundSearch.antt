@@ -1,6 +1,6 @@
 -- A search of the lines of an open source, with lines around the selected ones, one more line at a
 -- time.
-use Rattle.grep_core.proofs.Prelude.{◌≡◌, ℕ, ◌+◌, ◌-◌, ◌^◌, ◌<◌, ◌≤◌, Bool, true, false, IsTrue, Decides, List, [], ◌∷◌, ◌++◌, Option, Result, Ok, Err, length, refl, sym, ap, subst, ◌∙◌, append-nil, inl, inr, arith, if◌then◌else◌, length-append, length_push, IsErrAnd, Text, Expression, Options, Context, Progress, Open, FileFound, SearchFault, one_more, EachGives, Selected, around, form, GroupsOf, SelectedLines, open_source, most_lines, OneLeft, IsOneLineAndFew, HasRead, Writer, TakesAll, TakesFront, SearchesLines, file_so_far, LastLines, Numbered, HasHanded, AreUnselected, Waits, progress_from, next_shown, after_line, last_of, rows_at, leaves_early, BreaksSource, StopsSource, SearchGives, ShowStops}
+use Rattle.grep_core.proofs.Prelude.{◌≡◌, ℕ, ◌+◌, ◌-◌, ◌^◌, ◌<◌, ◌≤◌, Bool, true, false, IsTrue, Decides, List, [], ◌∷◌, ◌++◌, Option, Result, Ok, Err, length, refl, sym, ap, ◌∙◌, append-nil, inl, inr, arith, if◌then◌else◌, length-append, length_push, IsErrAnd, Text, Expression, Options, Context, Progress, Open, FileFound, SearchFault, one_more, Selected, around, form, GroupsOf, SelectedLines, open_source, most_lines, OneLeft, IsOneLineAndFew, Writer, TakesAll, TakesFront, SearchesLines, file_so_far, LastLines, Numbered, HasHanded, AreUnselected, Waits, progress_from, next_shown, after_line, last_of, rows_at, leaves_early, BreaksSource, StopsSource, SearchGives, ShowStops}
 use Rattle.re_search.specs.Meters.{Steps}
 use Rattle.grep_core.specs.declared.status.SearchFault.TheVariants.{Write, Memory}
 use Rattle.grep_core.proofs.lemmas.AroundLemmas.{Tracks, tracks_none, tracks_line, tracks_passed, tracked_groups, tracks_further}
@@ -62,7 +62,7 @@ FollowedOn {f = f} {old = old} {began = began} s now new ended selected p recent
 written_tracked : {es : List Expression} {options : Options} {many shown : Bool} {name : Text} {context : Context} {p : Progress} {lines rows : List Text} → form options ≡ around context → Tracks es options many name context shown p lines rows → WrittenOf es options many shown name (form options) lines rows
 written_tracked {es} {options} {many} {shown} {name} {context} {p} {lines} {rows} asked t =
     let now = tracked_groups es options many name context shown p lines rows t in
-    subst (λ shape. WrittenOf es options many shown name shape lines rows) (sym asked)
+    rw asked
     (record {
       groups = now.0;
       are_groups = now.1;
@@ -72,7 +72,7 @@ written_tracked {es} {options} {many} {shown} {name} {context} {p} {lines} {rows
           let all = tracked_groups es options many name context shown later.0 (lines ++ more) (rows ++ later.1) later.2 in (
             all.0,
             later.1,
-            subst (λ f. EachGives (GroupsOf es options many context) (f ∷ []) all.0) (sym (file_is file name (lines ++ more) named has)) (EachGives-one (GroupsOf es options many context) (file_with name (lines ++ more) file.ending) all.0 all.1),
+            rw (file_is file name (lines ++ more) named has) (EachGives-one (GroupsOf es options many context) (file_with name (lines ++ more) file.ending) all.0 all.1),
             sym all.2,
           );
     })
@@ -92,7 +92,7 @@ module _ {R : Type 0} {f : Following R} where
     asked = asked;
     lines = [];
     rows = [];
-    handed = subst (λ r. HasHanded remaining failures r now []) same (has_handed_none remaining failures now none is_open zero);
+    handed = rw (← same) (has_handed_none remaining failures now none is_open zero);
     tracks = tracks_none es options many name context shown;
     apart = λ _. refl;
     held = empty;
@@ -125,7 +125,7 @@ module _ {R : Type 0} {f : Following R} where
       tracks = s.tracks;
       apart = s.apart;
       held = s.held;
-      wrote = subst (TakesAll old new) (append-nil s.rows) (TakesAll-more old mid new s.rows [] s.wrote sent);
+      wrote = rw (append-nil s.rows) at (TakesAll-more old mid new s.rows [] s.wrote sent);
       chosen = s.chosen;
       are_chosen = s.are_chosen;
       counted = s.counted;
@@ -143,12 +143,12 @@ module _ {R : Type 0} {f : Following R} where
       rows = s.rows;
       handed = handed;
       tracks = elim waits [
-        | inl none ↦ subst (λ r. Tracks es options many name context shown r (s.lines ++ passed) s.rows) (sym none.1) (subst (λ ls. Tracks es options many name context shown p ls s.rows) (sym (ap (λ ls. s.lines ++ ls) none.0 ∙ append-nil s.lines)) s.tracks)
-        | inr some ↦ subst (λ r. Tracks es options many name context shown r (s.lines ++ passed) s.rows) (sym some.1) (tracks_passed es options many name context shown p s.lines s.rows passed unselected some.0 s.tracks)
+        | inl none ↦ rw none.1 (rw (ap (λ ls. s.lines ++ ls) none.0 ∙ append-nil s.lines) s.tracks)
+        | inr some ↦ rw some.1 (tracks_passed es options many name context shown p s.lines s.rows passed unselected some.0 s.tracks)
       ];
       apart = elim waits [
-        | inl none ↦ subst WaitsNot (sym none.1) s.apart
-        | inr some ↦ subst WaitsNot (sym some.1) (λ more. absurd (omega (arith, more, some.0)))
+        | inl none ↦ rw none.1 s.apart
+        | inr some ↦ rw some.1 (λ more. absurd (omega (arith, more, some.0)))
       ];
       held = elim waits [
         | inl none ↦ ap (λ (x : LastLines). x.lines) none.2 ∙ s.held ∙ ap (λ ls. last_of p.waiting ls) (sym (ap (λ ls. s.lines ++ ls) none.0 ∙ append-nil s.lines)) ∙ ap (λ (r : Progress). last_of r.waiting (s.lines ++ passed)) (sym none.1)
@@ -174,7 +174,7 @@ module _ {R : Type 0} {f : Following R} where
     followed_unkept all {ended = ended} {count = count} same few h spent is_count =
         stops_among es options many shown name (remaining reader) (remaining now.lines.reader) old mid began ended s.lines all selected count (writes s) (searched_more_lines options (length es) s.lines all began amid ended s.steps spent)
         (begins_with remaining failures name reader now.lines (s.lines ++ all) h.hands h.few) (s.handed.counted ∙ is_count)
-        (subst (λ r. HasRead (open_source name (remaining reader)) (remaining r) s.lines) (sym same) (has_read remaining failures name reader before.lines s.lines s.handed.hands few)) (failures reader) (failures now.lines.reader) h.hands.none_failed
+        (rw same (has_read remaining failures name reader before.lines s.lines s.handed.hands few)) (failures reader) (failures now.lines.reader) h.hands.none_failed
 
     -- one more line was handed out or passed
     module _ (line : Text) (next : HasHanded remaining failures reader now (s.lines ++ line ∷ [])) where
@@ -218,7 +218,7 @@ module _ {R : Type 0} {f : Following R} where
             tracks = tracked;
             apart = waits_not_next p found s.apart;
             held = held_next p s.lines line recent later s.held s.tracks.few s.tracks.within s.apart found (kept ∙ ap (λ n. if (next_shown p found).itself then [] else last_of n (recent ++ line ∷ [])) (sym (same_before s)));
-            wrote = TakesAll-more old mid new s.rows added s.wrote (subst (TakesAll mid new) at_line took);
+            wrote = TakesAll-more old mid new s.rows added s.wrote (rw at_line at took);
             chosen = s.chosen ++ picked found (length s.lines + 1, line);
             are_chosen = chosen_line es options many name s.lines line s.chosen found s.are_chosen reported;
             counted = chosen_count s.chosen (length s.lines + 1, line) selected found s.counted ∙ sym e;
@@ -235,7 +235,7 @@ module _ {R : Type 0} {f : Following R} where
               → BreaksSource es options many shown (open_source name (remaining reader)) (OneLeft (remaining now.lines.reader)) (failures reader) (failures now.lines.reader) old new began ended
           followed_breaks new front counted =
               breaks_in es options many shown name (remaining reader) (remaining now.lines.reader) old mid new began ended selected (failures reader) (failures now.lines.reader) next.hands.none_failed
-              (s.lines ++ line ∷ []) (s.rows ++ added) (written_tracked s.asked tracked) (TakesFront-more old mid new s.rows added s.wrote (subst (TakesFront mid new) at_line front)) (counted ∙ ap one_more s.wrote.none_failed)
+              (s.lines ++ line ∷ []) (s.rows ++ added) (written_tracked s.asked tracked) (TakesFront-more old mid new s.rows added s.wrote (rw at_line at front)) (counted ∙ ap one_more s.wrote.none_failed)
               spent (begins_with remaining failures name reader now.lines (s.lines ++ line ∷ []) next.hands next.few)
 
           -- the line could not be kept
@@ -247,7 +247,7 @@ module _ {R : Type 0} {f : Following R} where
               (record {
                 rows = s.rows ++ added;
                 of = written_tracked s.asked tracked;
-                wrote = TakesAll-more old mid new s.rows added s.wrote (subst (TakesAll mid new) at_line took);
+                wrote = TakesAll-more old mid new s.rows added s.wrote (rw at_line at took);
                 chosen = chosen;
                 are_chosen = chosen_line es options many name s.lines line s.chosen found s.are_chosen reported;
                 counted = refl;
@@ -260,9 +260,9 @@ module _ {R : Type 0} {f : Following R} where
               → (result : Result FileFound SearchFault) → IsErrAnd result (λ final. final ≡ fault) → FollowingGives f now old new began ended result
           followed_stops few_held new waits is fault shows (Ok f) kept = absurd kept
           followed_stops few_held new waits is Write shows (Err final) kept =
-              subst (λ e. FollowingGives f now old new began ended (Err e)) (sym kept)
-              (followed_breaks new (subst (λ ls. TakesFront mid new (rows_at options many name found (next_shown p found) ls count line)) is shows.wrote) shows.counted)
+              rw kept
+              (followed_breaks new (rw is at shows.wrote) shows.counted)
           followed_stops few_held new waits is (Memory n) shows (Err final) kept =
-              subst (λ e. FollowingGives f now old new began ended (Err e)) (sym kept)
-              (subst (λ m. StopsSource es options many shown (open_source name (remaining reader)) (OneLeft (remaining now.lines.reader)) m (failures reader) (failures now.lines.reader) old new began ended) shows.0
-              (followed_refused few_held new (subst (λ ls. TakesAll mid new (rows_at options many name found (next_shown p found) ls count line)) is shows.1)))
+              rw kept
+              (rw shows.0 at
+              (followed_refused few_held new (rw is at shows.1)))

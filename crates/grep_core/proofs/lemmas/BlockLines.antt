@@ -1,6 +1,6 @@
 -- The last lines of a block: where they begin, and that no others need be held after lines that
 -- are.
-use Rattle.grep_core.proofs.Prelude.{◌≡◌, ◌≢◌, ℕ, ◌+◌, ◌-◌, ◌<◌, ◌≤◌, min, inl, inr, List, [], ◌∷◌, ◌++◌, All, length, take, drop, get_or, refl, sym, ap, ◌∙◌, subst, arith, length-append, append_assoc, append-nil, take-append-drop, take-append_seam, drop-append_seam, cases_lt, length-take, length-drop, get_or-drop, get_or_append_left, get_or-append-add, drop-drop, drop-append-le, take_more, take_all, All-drop, Text, newline, terminated, lines_of, HasNoNewline, IsBlock, LastLines, with_lines, last_of}
+use Rattle.grep_core.proofs.Prelude.{◌≡◌, ◌≢◌, ℕ, ◌+◌, ◌-◌, ◌<◌, ◌≤◌, min, inl, inr, List, [], ◌∷◌, ◌++◌, All, length, take, drop, get_or, refl, sym, ap, ◌∙◌, arith, length-append, append_assoc, append-nil, take-append-drop, take-append_seam, drop-append_seam, cases_lt, length-take, length-drop, get_or-drop, get_or_append_left, get_or-append-add, drop-drop, drop-append-le, take_more, take_all, All-drop, Text, newline, terminated, lines_of, HasNoNewline, IsBlock, LastLines, with_lines, last_of}
 use Rattle.re_syntax.proofs.lemmas.LinesLaws.{lines_of-terminated, terminated-append}
 use Rattle.grep_io.proofs.lemmas.WindowBlocks.{ends_in_newline, drop_past}
 use Rattle.grep_core.proofs.lemmas.WaitingRows.{length-last_of}
@@ -99,7 +99,7 @@ module _ (block : Text) (h : IsBlock block) where
   block_is = h.2 ∙ ap terminated (sym these)
 
   free : All HasNoNewline lines
-  free = subst (All HasNoNewline) (sym these) h.1
+  free = rw these h.1
 
   -- its last lines
   pub last_free : (most : ℕ) → All HasNoNewline (last_of most lines)
@@ -169,4 +169,4 @@ module _ (block : Text) (h : IsBlock block) where
     pub begins_before : (next : ℕ) → next ≤ length (take (start - 1) block) → (0 < next → get_or (take (start - 1) block) (next - 1) 0 ≡ newline) → HasNoNewline (drop next (take (start - 1) block)) → next ≡ from_last (k + 1)
     begins_before next within ended cut =
         end_at front line next (ends_in_newline (take m lines)) (free m [] (omega (arith, below)))
-        (subst (λ t. next ≤ length t) before within) (λ more. ap (λ t. get_or t (next - 1) 0) (sym before) ∙ ended more) (subst (λ t. HasNoNewline (drop next t)) before cut)
+        (rw before at within) (λ more. ap (λ t. get_or t (next - 1) 0) (sym before) ∙ ended more) (rw before at cut)

@@ -1,5 +1,5 @@
 -- Costs that are added up.
-use Rattle.grep_core.proofs.Prelude.{◌≡◌, ℕ, ◌+◌, ◌*◌, ◌≤◌, List, [], ◌∷◌, ◌++◌, length, map, sym, ap, subst, ◌∙◌, arith, length-append, mul-le-mul_right, length-map, sum_by-append, sum_by-cons, sum_by_push, AddsAtMost, Text, Expression, newline, terminated, Options, File, parts, form, part_searches, search_cost, parts_cost, line_cost, lines_cost, files_cost, SearchesLines, SearchesFiles}
+use Rattle.grep_core.proofs.Prelude.{◌≡◌, ℕ, ◌+◌, ◌*◌, ◌≤◌, List, [], ◌∷◌, ◌++◌, length, map, sym, ap, ◌∙◌, arith, length-append, mul-le-mul_right, length-map, sum_by-append, sum_by-cons, sum_by_push, AddsAtMost, Text, Expression, newline, terminated, Options, File, parts, form, search_cost, parts_cost, line_cost, lines_cost, files_cost, SearchesLines, SearchesFiles}
 use Rattle.re_meter.specs.Meters.{Steps}
 use Rattle.re_meter.proofs.lemmas.Adding.{adds_none, adds_within, adds_both}
 use Rattle.re_syntax.proofs.lemmas.LinesLaws.{terminated-append}
@@ -34,7 +34,7 @@ module _ (options : Options) (matchers : ℕ) where
   -- where parts are written, they cost one search
   pub parts_searched : (line : Text) (old new : Steps) → parts ≡ form options → AddsAtMost (search_cost matchers line) old new → AddsAtMost (parts_cost options matchers line) old new
   parts_searched line old new asked a =
-      cost_within (search_cost matchers line) (parts_cost options matchers line) old new (subst (λ shape. search_cost matchers line ≤ part_searches shape * search_cost matchers line) asked (omega arith)) a
+      cost_within (search_cost matchers line) (parts_cost options matchers line) old new (rw (← asked) (omega arith)) a
 
   -- a line was searched, and for its parts besides
   line_and_parts : (line : Text) (old mid new : Steps) → AddsAtMost (search_cost matchers line) old mid → AddsAtMost (parts_cost options matchers line) mid new → AddsAtMost (line_cost options matchers line) old new
@@ -49,11 +49,11 @@ module _ (options : Options) (matchers : ℕ) where
 
   -- more lines were searched
   pub searched_more_lines : (text more : List Text) (old mid new : Steps) → SearchesLines options matchers text old mid → SearchesLines options matchers more mid new → SearchesLines options matchers (text ++ more) old new
-  searched_more_lines text more old mid new a b = subst (λ n. AddsAtMost n old new) (sym (sum_by-append (line_cost options matchers) text more)) (cost_after (lines_cost options matchers text) (lines_cost options matchers more) old mid new a b)
+  searched_more_lines text more old mid new a b = rw (sum_by-append (line_cost options matchers) text more) (cost_after (lines_cost options matchers text) (lines_cost options matchers more) old mid new a b)
 
   -- one more line was searched
   pub searched_one_line : (text : List Text) (line : Text) (old mid new : Steps) → SearchesLines options matchers text old mid → AddsAtMost (line_cost options matchers line) mid new → SearchesLines options matchers (text ++ line ∷ []) old new
-  searched_one_line text line old mid new a b = subst (λ n. AddsAtMost n old new) (sym (sum_by_push (line_cost options matchers) text line)) (cost_after (lines_cost options matchers text) (line_cost options matchers line) old mid new a b)
+  searched_one_line text line old mid new a b = rw (sum_by_push (line_cost options matchers) text line) (cost_after (lines_cost options matchers text) (line_cost options matchers line) old mid new a b)
 
   -- there are more lines than those that were searched
   pub searched_first_lines : (text more : List Text) (old new : Steps) → SearchesLines options matchers text old new → SearchesLines options matchers (text ++ more) old new
@@ -94,4 +94,4 @@ module _ (options : Options) (matchers : ℕ) where
 -- a line was searched, and then for its parts, by matchers of the same expressions
 pub line_asked : (es ds : List Expression) (options : Options) (line : Text) (first mid last : Steps) → ds ≡ es
     → AddsAtMost (search_cost (length es) line) first mid → AddsAtMost (parts_cost options (length ds) line) mid last → AddsAtMost (line_cost options (length es) line) first last
-line_asked es ds options line first mid last e once asked = line_and_parts options (length es) line first mid last once (subst (λ fs. AddsAtMost (parts_cost options (length fs) line) mid last) e asked)
+line_asked es ds options line first mid last e once asked = line_and_parts options (length es) line first mid last once (rw e at asked)

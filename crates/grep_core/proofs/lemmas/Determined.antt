@@ -1,6 +1,6 @@
 -- The output, the messages and the status are determined by the expressions, the options and the
 -- files.
-use Rattle.grep_core.proofs.Prelude.{◌≡◌, ℕ, Bool, true, false, List, [], ◌∷◌, ◌++◌, sym, subst, ap, ◌∙◌, length, map, drop, slice_range, MatchBool, decimal, Text, Expression, Options, Status, colon, prefix, EachGives, File, Ending, whole, missing, broken, Form, nothing, names, counts, parts, lines, around, form, shown_name, shown_number, head_of, CountOf, RowsOf, PartRowsOf, PartsOfLine, GroupsOf, OutAs, Out, are_many, Reached, Message, Messages, StatusOf}
+use Rattle.grep_core.proofs.Prelude.{◌≡◌, ℕ, Bool, true, false, List, [], ◌∷◌, ◌++◌, sym, ap, ◌∙◌, length, map, drop, slice_range, MatchBool, decimal, Text, Expression, Options, Status, colon, prefix, EachGives, File, Ending, whole, missing, broken, Form, nothing, names, counts, parts, lines, around, form, shown_name, shown_number, head_of, CountOf, RowsOf, PartRowsOf, PartsOfLine, GroupsOf, OutAs, Out, are_many, Reached, Message, Messages, StatusOf}
 use Rattle.re_syntax.proofs.lemmas.PartsLaws.{ArePartsFrom-unique}
 use Rattle.grep_core.proofs.lemmas.ChooseLaws.{same_value, IfHolds-both, EachGives-determined, Chosen-determined}
 use Rattle.grep_core.proofs.lemmas.AroundLaws.{Groups-determined}
@@ -25,7 +25,7 @@ module _ (es : List Expression) (options : Options) (many : Bool) where
   pub PartRowsOf-determined : (file : File) (out more : List Text) → PartRowsOf es options many file out → PartRowsOf es options many file more → out ≡ more
   PartRowsOf-determined file out more a b =
       let same : a.0 ≡ b.0 = Chosen-determined _ _ a.0 b.0 a.1 b.1 in
-      let of_same : EachGives (PartsOfLine es options many file) a.0 more = subst (λ s. EachGives (PartsOfLine es options many file) s more) (sym same) b.2 in
+      let of_same : EachGives (PartsOfLine es options many file) a.0 more = rw same b.2 in
       EachGives-determined _ (PartsOfLine-determined file) a.0 out more a.2 of_same
 
   -- files have at most one output in each form
@@ -66,7 +66,7 @@ module _ (es : List Expression) (options : Options) where
       by_flag true c d = same_value c d
       by_flag false c d =
           let same : c.0 ≡ d.0 = Reached-determined files c.0 d.0 c.1 d.1 in
-          let of_same : EachGives (Message es options) c.0 more = subst (λ s. EachGives (Message es options) s more) (sym same) d.2 in
+          let of_same : EachGives (Message es options) c.0 more = rw same d.2 in
           EachGives-determined _ Message-determined c.0 reported more c.2 of_same
 
   -- there is at most one status

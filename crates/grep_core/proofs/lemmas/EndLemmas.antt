@@ -1,5 +1,5 @@
 -- Where the search of the lines of a source ends: there is no next line, or the search is given up.
-use Rattle.grep_core.proofs.Prelude.{◌≡◌, ℕ, Bool, IsTrue, List, [], Option, Some, Result, Ok, Err, length, sym, subst, ◌∙◌, IsErrAnd, Text, Expression, open_source, OneLeft, BeginsWith, Numbered, HasHanded, GoesOut, Options, FileEnd, Missing, Whole, Broken, Left, FileFound, SearchFault, SearchesLines, Writer, writer, SearchGives, leaves_early, NextTaken}
+use Rattle.grep_core.proofs.Prelude.{◌≡◌, ℕ, Bool, IsTrue, List, [], Option, Some, Result, Ok, Err, length, ◌∙◌, IsErrAnd, Text, Expression, open_source, OneLeft, BeginsWith, Numbered, HasHanded, GoesOut, Options, FileEnd, Missing, Whole, Broken, Left, FileFound, SearchFault, SearchesLines, Writer, writer, SearchGives, leaves_early, NextTaken}
 use Rattle.re_search.specs.Meters.{Steps}
 use Rattle.grep_io.proofs.lemmas.HandedLemmas.{begins_with, has_read}
 use Rattle.grep_core.specs.declared.status.SearchFault.TheVariants.{Write, Memory}
@@ -14,7 +14,7 @@ module _ {R W : Type 0} (remaining : R → Option Text) (failures : R → ℕ) (
   -- why it was given up is returned
   pub given_up : (fault : SearchFault) (result : Result FileFound SearchFault) → IsErrAnd result (λ final. final ≡ fault) → Gives (Err fault) → Gives result
   given_up fault (Ok found) is stopped = absurd is
-  given_up fault (Err final) is stopped = subst (λ f. Gives (Err f)) (sym is) stopped
+  given_up fault (Err final) is stopped = rw is stopped
 
   module _ (mid : W) (lines : List Text) (selected : ℕ) (wrote : WritesLines es options many shown name lines old (writer contents write_failures mid) selected) (none_early : IsTrue (leaves_early options) → selected ≡ 0) (spent : SearchesLines options (length es) lines began ended) where
     abbrev Taken : Result (Option FileEnd) SearchFault → Type 0

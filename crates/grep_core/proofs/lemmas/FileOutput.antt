@@ -1,5 +1,5 @@
 -- The output for one file, by the rows of its lines and how many are selected.
-use Rattle.grep_core.proofs.Prelude.{◌≡◌, ℕ, ◌+◌, nat_lt, ◌<◌, ◌⊎◌, Bool, true, false, Decides, List, [], ◌∷◌, ◌++◌, length, Any, refl, sym, ap, subst, ◌∙◌, inl, inr, arith, append-nil, if◌then◌else◌, enumerate_from, Text, Expression, Options, FileEnd, Missing, Whole, Broken, Left, IfHolds, Chosen, File, whole, Selected, HasSelected, Form, nothing, names, counts, parts, lines, around, OutAs, CountOf, RowsOf, PartRowsOf, GroupsOf, SelectedLines, begun, first_lines, file_so_far, GroupedAs, rows_after, IsPlain, LineRowsOf, RowsOfSelected, ending_of, count_line, summary_as, false≢true, lt-ltb, ltb-true, length_push}
+use Rattle.grep_core.proofs.Prelude.{◌≡◌, ℕ, ◌+◌, nat_lt, ◌<◌, ◌⊎◌, Bool, true, false, Decides, List, [], ◌∷◌, ◌++◌, length, Any, refl, ap, ◌∙◌, inl, inr, arith, append-nil, if◌then◌else◌, enumerate_from, Text, Expression, Options, FileEnd, Missing, Whole, Broken, Left, IfHolds, Chosen, File, whole, Selected, HasSelected, Form, nothing, names, counts, parts, lines, around, OutAs, CountOf, RowsOf, PartRowsOf, GroupsOf, SelectedLines, begun, first_lines, file_so_far, GroupedAs, rows_after, IsPlain, LineRowsOf, RowsOfSelected, ending_of, count_line, summary_as, false≢true, lt-ltb, ltb-true, length_push}
 use Rattle.re_syntax.proofs.lemmas.Decisions.{Any-none, Any-first, Any-later, Any-cases}
 use Rattle.grep_core.proofs.lemmas.ChooseLaws.{EachGives-one}
 use Rattle.grep_core.proofs.lemmas.Exist.{OutAs-exist}
@@ -74,11 +74,11 @@ module _ (es : List Expression) (options : Options) (many : Bool) where
   rows_line name counts plain xs line rows out h k = none_written rows out h k
   rows_line name parts plain xs line rows out h (inl (s, e)) = PartRowsOf-end es options many name whole xs line rows out h s e
   rows_line name parts plain xs line rows out h (inr (n, e)) =
-      subst (PartRowsOf es options many (file_so_far name (xs ++ line ∷ []))) (sym (ap (λ o. rows ++ o) e ∙ append-nil rows)) (PartRowsOf-passed es options many name whole xs line rows h n)
+      rw (ap (λ o. rows ++ o) e ∙ append-nil rows) (PartRowsOf-passed es options many name whole xs line rows h n)
   rows_line name lines plain xs line rows out h (inl (s, e)) =
-      subst (λ o. RowsOf es options many (file_so_far name (xs ++ line ∷ [])) (rows ++ o)) (sym e) (RowsOf-end es options many name whole xs line rows h s)
+      rw e (RowsOf-end es options many name whole xs line rows h s)
   rows_line name lines plain xs line rows out h (inr (n, e)) =
-      subst (RowsOf es options many (file_so_far name (xs ++ line ∷ []))) (sym (ap (λ o. rows ++ o) e ∙ append-nil rows)) (RowsOf-passed es options many name whole xs line rows h n)
+      rw (ap (λ o. rows ++ o) e ∙ append-nil rows) (RowsOf-passed es options many name whole xs line rows h n)
   rows_line name (around context) plain xs line rows out h k = absurd plain
 
   -- the selected lines of one more line, with its verdict
@@ -86,7 +86,7 @@ module _ (es : List Expression) (options : Options) (many : Bool) where
       → SelectedLines es options many (file_so_far name (xs ++ line ∷ [])) (chosen ++ picked found (length xs + 1, line))
   chosen_line name xs line chosen true h d = SelectedLines-end es options many name whole xs line chosen h (d.0 refl)
   chosen_line name xs line chosen false h d =
-      subst (SelectedLines es options many (file_so_far name (xs ++ line ∷ []))) (sym (append-nil chosen)) (SelectedLines-passed es options many name whole xs line chosen h (λ s. false≢true (d.1 s)))
+      rw (append-nil chosen) (SelectedLines-passed es options many name whole xs line chosen h (λ s. false≢true (d.1 s)))
 
   -- ---- the output for one file
 
@@ -109,24 +109,24 @@ module _ (es : List Expression) (options : Options) (many : Bool) where
   output_all name ls end nothing rows chosen h c = λ i. h i ++ []
   output_all name ls end names rows chosen h c =
       let file = file_with name ls (ending_of end) in
-      subst (λ r. OutAs es options many names (file ∷ []) (r ++ summary_as names many name end (length chosen))) (sym h) (named_out file (nat_lt 0 (length chosen)) (chosen_decides name ls chosen c))
+      rw h (named_out file (nat_lt 0 (length chosen)) (chosen_decides name ls chosen c))
   output_all name ls end counts rows chosen h c =
       let file = file_with name ls (ending_of end) in
-      subst (λ r. OutAs es options many counts (file ∷ []) (r ++ count_line many name end (length chosen))) (sym h) (EachGives-one (λ f out. CountOf es options many f.ending f out) file (count_line many name end (length chosen)) (count_out name ls end chosen c))
+      rw h (EachGives-one (λ f out. CountOf es options many f.ending f out) file (count_line many name end (length chosen)) (count_out name ls end chosen c))
   output_all name ls end parts rows chosen h c =
-      subst (OutAs es options many parts (file_with name ls (ending_of end) ∷ [])) (sym (append-nil rows)) (EachGives-one (PartRowsOf es options many) (file_with name ls (ending_of end)) rows h)
+      rw (append-nil rows) (EachGives-one (PartRowsOf es options many) (file_with name ls (ending_of end)) rows h)
   output_all name ls end lines rows chosen h c =
-      subst (OutAs es options many lines (file_with name ls (ending_of end) ∷ [])) (sym (append-nil rows)) (EachGives-one (RowsOf es options many) (file_with name ls (ending_of end)) rows h)
+      rw (append-nil rows) (EachGives-one (RowsOf es options many) (file_with name ls (ending_of end)) rows h)
   output_all name ls end (around context) rows chosen h c =
-      subst (GroupedAs es options many (around context) (file_with name ls (ending_of end) ∷ [])) (sym (append-nil rows)) (EachGives-one (GroupsOf es options many context) (file_with name ls (ending_of end)) rows h)
+      rw (append-nil rows) (EachGives-one (GroupsOf es options many context) (file_with name ls (ending_of end)) rows h)
 
   -- of a file that was left at a selected line only its name is written, if that
   pub output_left : (file : File) (name : Text) (ls : List Text) (shape : Form) (rows : List Text) (selected : ℕ) → file.name ≡ name → (shape ≡ nothing) ⊎ (shape ≡ names) → LineRowsOf es options many shape (file_so_far name ls) rows
       → Decides (nat_lt 0 selected) (HasSelected es options file) → GroupedAs es options many shape (file ∷ []) (rows ++ summary_as shape many name Left selected)
   output_left file name ls nothing rows selected named early h d = λ i. h i ++ []
   output_left file name ls names rows selected named early h d =
-      subst (λ r. OutAs es options many names (file ∷ []) (r ++ summary_as names many name Left selected)) (sym h)
-      (subst (λ n. OutAs es options many names (file ∷ []) (if nat_lt 0 selected then n ∷ [] else [])) named (named_out file (nat_lt 0 selected) d))
+      rw h
+      (rw (← named) (named_out file (nat_lt 0 selected) d))
   output_left file name ls counts rows selected named early h d = absurd (elim early [ inl e ↦ (let no : ⊥ = cc in no) | inr e ↦ (let no : ⊥ = cc in no) ])
   output_left file name ls parts rows selected named early h d = absurd (elim early [ inl e ↦ (let no : ⊥ = cc in no) | inr e ↦ (let no : ⊥ = cc in no) ])
   output_left file name ls lines rows selected named early h d = absurd (elim early [ inl e ↦ (let no : ⊥ = cc in no) | inr e ↦ (let no : ⊥ = cc in no) ])
@@ -135,15 +135,15 @@ module _ (es : List Expression) (options : Options) (many : Bool) where
   -- the rows of a file's first lines are a beginning of its output
   pub output_front : (file : File) (name : Text) (ls more : List Text) (shape : Form) → IsPlain shape → (rows : List Text) → file.name ≡ name → file.lines ≡ ls ++ more → LineRowsOf es options many shape (file_so_far name ls) rows
       → (rest : List Text) × GroupedAs es options many shape (file ∷ []) (rows ++ rest)
-  output_front file name ls more nothing plain rows named has h = let all = OutAs-exist es options many nothing (file ∷ []) in (all.0, subst (λ r. OutAs es options many nothing (file ∷ []) (r ++ all.0)) (sym h) all.1)
-  output_front file name ls more names plain rows named has h = let all = OutAs-exist es options many names (file ∷ []) in (all.0, subst (λ r. OutAs es options many names (file ∷ []) (r ++ all.0)) (sym h) all.1)
-  output_front file name ls more counts plain rows named has h = let all = OutAs-exist es options many counts (file ∷ []) in (all.0, subst (λ r. OutAs es options many counts (file ∷ []) (r ++ all.0)) (sym h) all.1)
+  output_front file name ls more nothing plain rows named has h = let all = OutAs-exist es options many nothing (file ∷ []) in (all.0, rw h all.1)
+  output_front file name ls more names plain rows named has h = let all = OutAs-exist es options many names (file ∷ []) in (all.0, rw h all.1)
+  output_front file name ls more counts plain rows named has h = let all = OutAs-exist es options many counts (file ∷ []) in (all.0, rw h all.1)
   output_front file name ls more parts plain rows named has h =
       let all = PartRowsOf-front es options many name whole ls more rows h in
-      (all.0, subst (λ f. OutAs es options many parts (f ∷ []) (rows ++ all.0)) (sym (file_is file name (ls ++ more) named has)) (EachGives-one (PartRowsOf es options many) (file_with name (ls ++ more) file.ending) (rows ++ all.0) all.1))
+      (all.0, rw (file_is file name (ls ++ more) named has) (EachGives-one (PartRowsOf es options many) (file_with name (ls ++ more) file.ending) (rows ++ all.0) all.1))
   output_front file name ls more lines plain rows named has h =
       let all = RowsOf-front es options many name whole ls more rows h in
-      (all.0, subst (λ f. OutAs es options many lines (f ∷ []) (rows ++ all.0)) (sym (file_is file name (ls ++ more) named has)) (EachGives-one (RowsOf es options many) (file_with name (ls ++ more) file.ending) (rows ++ all.0) all.1))
+      (all.0, rw (file_is file name (ls ++ more) named has) (EachGives-one (RowsOf es options many) (file_with name (ls ++ more) file.ending) (rows ++ all.0) all.1))
   output_front file name ls more (around context) plain rows named has h = absurd plain
 
   -- the rows of a file's first lines are what is begun with them

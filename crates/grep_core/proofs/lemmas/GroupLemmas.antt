@@ -1,6 +1,6 @@
 -- The groups of lines around selected ones, as a file has one more line, and what is written of
 -- them.
-use Rattle.grep_core.proofs.Prelude.{◌≡◌, ℕ, ◌+◌, ◌<◌, ◌≤◌, ◌⊎◌, Bool, true, false, ◌&&◌, IsTrue, Decides, List, [], ◌∷◌, ◌++◌, All, length, inl, inr, refl, sym, ap, subst, ◌∙◌, append_assoc, arith, if◌then◌else◌, enumerate_from, Text, Expression, Context, Options, hyphen, IfHolds, EachGives, Selected, group_separator, IsShown, BeginsGroup, IsRow, Shows, around, shown_number, name_shown, rows_after, row_with, rows_around, false≢true, length-append, All-head, All-tail}
+use Rattle.grep_core.proofs.Prelude.{◌≡◌, ℕ, ◌+◌, ◌<◌, ◌≤◌, ◌⊎◌, Bool, true, false, ◌&&◌, IsTrue, Decides, List, [], ◌∷◌, ◌++◌, All, length, inl, inr, refl, sym, ap, ◌∙◌, append_assoc, arith, if◌then◌else◌, enumerate_from, Text, Expression, Context, Options, hyphen, IfHolds, EachGives, Selected, group_separator, IsShown, BeginsGroup, IsRow, Shows, around, shown_number, name_shown, rows_after, row_with, rows_around, false≢true, length-append, All-head, All-tail}
 use Rattle.grep_core.proofs.lemmas.ChooseLaws.{EachGives-one, EachGives-append}
 use Rattle.grep_core.proofs.lemmas.MoreLines.{enumerate_from-append}
 use Rattle.grep_core.proofs.lemmas.ShownLemmas.{EachGives-placed, shown_more, begins_at, begins_same, shows_same}
@@ -45,7 +45,7 @@ module _ (es : List Expression) (options : Options) (many : Bool) (name : Text) 
         shown f (omega arith) (omega arith),
         (
           row,
-          subst (λ n. IsRow es options context (name_shown many name) (shown_number options (n + 1)) line row) same is_row,
+          rw same at is_row,
           elim begins [ inl b ↦ inl (b.0, ap (λ s. s ++ row ∷ []) b.1) | inr b ↦ inr (b.0, ap (λ s. s ++ row ∷ []) b.1) ],
         ),
       ))
@@ -67,7 +67,7 @@ module _ (es : List Expression) (options : Options) (many : Bool) (name : Text) 
         group_held lines held (f + 1) line row [] (All-tail (λ l. ¬ Selected es options l) l held none)
             (λ k low high. shown k (omega (arith, low)) (omega (arith, high)))
             (inr ((λ b. begins_at es options context lines (f + 1) f b refl shown_first), refl))
-            (subst (λ n. IsRow es options context (name_shown many name) (shown_number options (n + 1)) line row) numbered is_row),
+            (rw numbered at is_row),
         sym (append_assoc separator (first ∷ []) rest),
       )
 
@@ -88,8 +88,8 @@ module _ (es : List Expression) (options : Options) (many : Bool) (name : Text) 
       (λ k x zs low high. shows_same es options context (name_shown many name) (shown_number options) lines all k x zs (λ j _. stays j) (λ j below. same j (omega (arith, below, high)))) given in
       let rest = group_held all held (length front) line row (if gap then group_separator ∷ [] else []) none (λ k low high. shown k low (omega (arith, high, long)))
       (separated gap begins (begins_same es options context lines all (length front) same) (begins_same es options context all lines (length front) (λ j _. stays j)))
-      (subst (λ n. IsRow es options context (name_shown many name) (shown_number options (n + 1)) line row) long is_row) in
-      subst (λ ls. EachGives (Given all) ls (groups ++ more)) (sym (placed long))
+      (rw long at is_row) in
+      rw (placed long)
       (EachGives-append (Given all) (enumerate_from 0 front) (enumerate_from (length front) (held ++ line ∷ [])) groups more first rest)
     where
       separated : (b : Bool) {P Q : Type 0} → Decides b P → (P → Q) → (Q → P) → IfHolds Q (◌≡◌ {A = List Text} (if b then group_separator ∷ [] else []) (group_separator ∷ [])) (◌≡◌ {A = List Text} (if b then group_separator ∷ [] else []) [])

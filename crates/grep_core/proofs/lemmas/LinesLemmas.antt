@@ -1,6 +1,6 @@
 -- A search of the lines of an open source, one more line at a time, and what it says of the
 -- source's file.
-use Rattle.grep_core.proofs.Prelude.{◌≡◌, ℕ, ◌+◌, ◌-◌, ◌*◌, ◌^◌, nat_lt, ◌<◌, ◌≤◌, ◌⊎◌, Bool, true, false, ◌&&◌, IsTrue, Decides, List, [], ◌∷◌, ◌++◌, All, Option, length, min, take, refl, sym, ap, subst, ◌∙◌, append-nil, append_assoc, inl, inr, arith, Any, if◌then◌else◌, take-append_seam, false≢true, cases_Bool, cases_lt, lt-ltb, le-ltb, cond-true, cond-false, length_push, length-append, All-head, All-tail, Text, lines_of, Expression, HoldsOfMany, Options, Open, Whole, Broken, Left, one_more, Numbered, AreAhead, HasHanded, PassesNext, File, whole, broken, Matched, Selected, HasSelected, Form, nothing, names, counts, form, SelectedLines, FaultMet, open_source, file_of, failures_of, most_lines, OneLeft, HasRead, IsOneLineAndFew, Writer, TakesAll, TakesFront, first_lines, GroupedAs, rows_after, StandsFor, BeginsWith, file_so_far, line_cost, SearchesLines, IsPlain, LineRowsOf, TakesLine, BreaksLine, StopsLine, RowsOfLines, TakesLines, BreaksLines, StopsLines, SearchFault, SearchGives, Err, leaves_early, summary_as, BreaksSource, StopsSource, SearchesSource}
+use Rattle.grep_core.proofs.Prelude.{◌≡◌, ℕ, ◌+◌, ◌-◌, ◌*◌, ◌^◌, nat_lt, ◌<◌, ◌≤◌, ◌⊎◌, Bool, true, false, ◌&&◌, IsTrue, Decides, List, [], ◌∷◌, ◌++◌, All, Option, length, min, take, refl, sym, ap, subst, ◌∙◌, append-nil, append_assoc, inl, inr, arith, Any, if◌then◌else◌, take-append_seam, false≢true, cases_Bool, cases_lt, lt-ltb, le-ltb, cond-true, cond-false, length_push, length-append, All-head, All-tail, Text, lines_of, Expression, HoldsOfMany, Options, Open, Whole, Broken, Left, one_more, Numbered, AreAhead, HasHanded, PassesNext, File, whole, broken, Matched, Selected, HasSelected, Form, nothing, names, counts, form, SelectedLines, FaultMet, open_source, file_of, failures_of, most_lines, OneLeft, HasRead, IsOneLineAndFew, Writer, TakesAll, TakesFront, first_lines, GroupedAs, rows_after, StandsFor, BeginsWith, file_so_far, line_cost, SearchesLines, IsPlain, LineRowsOf, TakesLine, BreaksLine, StopsLine, RowsOfLines, TakesLines, BreaksLines, StopsLines, SearchFault, SearchGives, Err, leaves_early, BreaksSource, StopsSource, SearchesSource}
 use Rattle.re_search.specs.Meters.{Steps}
 use Rattle.re_search.specs.Searches.{AddsAtMost}
 use Rattle.re_syntax.proofs.lemmas.SomeOfJoined.{Any-left}
@@ -29,7 +29,7 @@ early_form options early =
 
 -- where only the selected lines are counted, no lines are shown around them
 pub counts_plain : (options : Options) → form options ≡ counts → IsPlain (form options)
-counts_plain options asked = subst IsPlain (sym asked) tt
+counts_plain options asked = rw asked tt
 
 -- and no file is left early
 pub counts_late : (options : Options) → form options ≡ counts → IsTrue (leaves_early options) → ⊥
@@ -56,7 +56,7 @@ module _ (es : List Expression) (options : Options) (many shown : Bool) (name : 
   }
 
   plain_written : (shape : Form) → IsPlain shape → (lines rows : List Text) → WrittenOf shape lines rows → LineRowsOf es options many shape (file_so_far name lines) rows
-  plain_written shape plain lines rows w = subst (LineRowsOf es options many shape (file_so_far name lines)) (sym (w.are_rows ∙ plain_rows shape plain shown w.groups)) w.are_groups
+  plain_written shape plain lines rows w = rw (w.are_rows ∙ plain_rows shape plain shown w.groups) w.are_groups
 
   -- the rows of the lines were written, and this number of them is selected
   pub record WritesLines (lines : List Text) (old new : Writer) (selected : ℕ) : Type 0 where
@@ -85,9 +85,9 @@ module _ (es : List Expression) (options : Options) (many shown : Bool) (name : 
 
   -- lines without a selected one add none
   pub chosen_on : (ls ps : List Text) (chosen : List (ℕ × Text)) → All (λ line. ¬ Selected es options line) ps → SelectedLines es options many (file_so_far name ls) chosen → SelectedLines es options many (file_so_far name (ls ++ ps)) chosen
-  chosen_on ls [] chosen none h = subst (λ xs. SelectedLines es options many (file_so_far name xs) chosen) (sym (append-nil ls)) h
+  chosen_on ls [] chosen none h = rw (append-nil ls) h
   chosen_on ls (line ∷ ps) chosen none h =
-      subst (λ xs. SelectedLines es options many (file_so_far name xs) chosen) (append_assoc ls (line ∷ []) ps)
+      rw (append_assoc ls (line ∷ []) ps) at
       (chosen_on (ls ++ line ∷ []) ps chosen (All-tail (λ l. ¬ Selected es options l) line ps none) (SelectedLines-passed es options many name whole ls line chosen h (All-head (λ l. ¬ Selected es options l) line ps none)))
 
   -- where no lines are shown around selected ones, by what is written of the line alone
@@ -104,9 +104,9 @@ module _ (es : List Expression) (options : Options) (many shown : Bool) (name : 
   adds_lines plain [] lines rows own chosen found has are (none, zero) =
       let same : rows ≡ rows ++ own = sym (append-nil rows) ∙ ap (λ r. rows ++ r) (sym none) in
       let sum : length chosen ≡ length chosen + found = omega (arith, zero) in (
-        subst (λ ls. LineRowsOf es options many (form options) (file_so_far name ls) (rows ++ own)) (sym (append-nil lines)) (subst (LineRowsOf es options many (form options) (file_so_far name lines)) same has),
+        rw (append-nil lines) (rw same at has),
         chosen,
-        subst (λ ls. SelectedLines es options many (file_so_far name ls) chosen) (sym (append-nil lines)) are,
+        rw (append-nil lines) are,
         sum,
       )
   adds_lines plain (line ∷ more) lines rows own chosen found has are (first, later, b, others, one, reported, rest, joined, counted) =
@@ -116,9 +116,9 @@ module _ (es : List Expression) (options : Options) (many shown : Bool) (name : 
       let (has_all, all, are_all, many_all) = adds_lines plain more (lines ++ line ∷ []) (rows ++ first) later (chosen ++ picked b (length lines + 1, line)) others here picks (subst (λ n. RowsOfLines es options many name n more later others) at rest) in
       let same : (rows ++ first) ++ later ≡ rows ++ own = append_assoc rows first later ∙ ap (λ r. rows ++ r) (sym joined) in
       let long = chosen_count chosen (length lines + 1, line) (length chosen) b refl in (
-        subst (λ ls. LineRowsOf es options many (form options) (file_so_far name ls) (rows ++ own)) (append_assoc lines (line ∷ []) more) (subst (LineRowsOf es options many (form options) (file_so_far name ((lines ++ line ∷ []) ++ more))) same has_all),
+        rw (append_assoc lines (line ∷ []) more) at (rw same at has_all),
         all,
-        subst (λ ls. SelectedLines es options many (file_so_far name ls) all) (append_assoc lines (line ∷ []) more) are_all,
+        rw (append_assoc lines (line ∷ []) more) at are_all,
         many_all ∙ sum b counted long,
       )
     where
@@ -135,27 +135,27 @@ module _ (es : List Expression) (options : Options) (many shown : Bool) (name : 
   writes_counted : IsPlain (form options) → form options ≡ counts → (passed lines : List Text) (old new : Writer) (selected count : ℕ) → WritesLines lines old new selected → HoldsOfMany (Selected es options) passed count → WritesLines (lines ++ passed) old new (selected + count)
   writes_counted plain asked [] lines old new selected count w none =
       let same : selected ≡ selected + count = omega (arith, none) in
-      subst (WritesLines (lines ++ []) old new) same (subst (λ ls. WritesLines ls old new selected) (sym (append-nil lines)) w)
+      rw (← same) (rw (append-nil lines) w)
   writes_counted plain asked (line ∷ passed) lines old new selected count w (others, h, inl (s, is)) =
       let one = writes_line plain lines line old new new selected true w (line_counted es options many name (length lines + 1) line new asked s) in
       let same : selected + 1 + others ≡ selected + count = omega (arith, is) in
-      subst (WritesLines (lines ++ line ∷ passed) old new) same
-      (subst (λ ls. WritesLines ls old new (selected + 1 + others)) (append_assoc lines (line ∷ []) passed) (writes_counted plain asked passed (lines ++ line ∷ []) old new (selected + 1) others one h))
+      rw same at
+      (rw (append_assoc lines (line ∷ []) passed) at (writes_counted plain asked passed (lines ++ line ∷ []) old new (selected + 1) others one h))
   writes_counted plain asked (line ∷ passed) lines old new selected count w (others, h, inr (no_one, is)) =
       let skipped = line_passed es options many name (length lines + 1) line new false refl (decided_no no_one) in
       let same : selected + others ≡ selected + count = omega (arith, is) in
-      subst (WritesLines (lines ++ line ∷ passed) old new) same
-      (subst (λ ls. WritesLines ls old new (selected + others)) (append_assoc lines (line ∷ []) passed) (writes_counted plain asked passed (lines ++ line ∷ []) old new selected others (writes_line plain lines line old new new selected false w skipped) h))
+      rw same at
+      (rw (append_assoc lines (line ∷ []) passed) at (writes_counted plain asked passed (lines ++ line ∷ []) old new selected others (writes_line plain lines line old new new selected false w skipped) h))
 
   -- buffered output was sent
   pub writes_sent : (lines : List Text) (old mid new : Writer) (selected : ℕ) → WritesLines lines old mid selected → TakesAll mid new [] → WritesLines lines old new selected
   writes_sent lines old mid new selected w sent =
-      let wrote = subst (TakesAll old new) (append-nil w.rows) (TakesAll-more old mid new w.rows [] w.wrote sent) in
+      let wrote = rw (append-nil w.rows) at (TakesAll-more old mid new w.rows [] w.wrote sent) in
       record { rows = w.rows; of = w.of; wrote = wrote; chosen = w.chosen; are_chosen = w.are_chosen; counted = w.counted }
 
   -- the number says whether a line is selected
   some_decides : (lines : List Text) (old new : Writer) (selected : ℕ) → WritesLines lines old new selected → Decides (nat_lt 0 selected) (Any (Selected es options) lines)
-  some_decides lines old new selected w = subst (λ n. Decides (nat_lt 0 n) (Any (Selected es options) lines)) w.counted (chosen_decides es options many name lines w.chosen w.are_chosen)
+  some_decides lines old new selected w = rw w.counted at (chosen_decides es options many name lines w.chosen w.are_chosen)
 
   module _ (known rest : Option Text) (old new : Writer) (began ended : Steps) where
     module _ (failed_before failed : ℕ) (lines : List Text) (selected : ℕ) (w : WritesLines lines old new selected) (spent : SearchesLines options (length es) lines began ended) where
@@ -163,19 +163,19 @@ module _ (es : List Expression) (options : Options) (many shown : Bool) (name : 
       pub searches_whole : StandsFor name known rest failed_before failed lines whole → SearchesSource es options many shown (open_source name known) (OneLeft rest) failed_before failed old new began ended Whole selected
       searches_whole s =
           let ends : File = record { name = name; lines = lines; ending = whole } in
-          let unmet : FaultMet es options (file_of name s.reading) → ⊥ = subst (λ f. FaultMet es options f → ⊥) (sym s.file) (λ h. h) in
+          let unmet : FaultMet es options (file_of name s.reading) → ⊥ = rw s.file (λ h. h) in
           record {
             reading = s.reading;
             is_reading = s.is_reading;
             failures = record { own = failures_of s.reading; are_own = inr (unmet, whole-failures name s.reading (ap (λ (f : File). f.ending) s.file)); counted = s.counted; left = rest ∷ []; are_left = s.is_left; gave_back = refl };
-            some = subst (λ f. Decides (nat_lt 0 selected) (HasSelected es options f)) (sym s.file) (some_decides lines old new selected w);
+            some = rw s.file (some_decides lines old new selected w);
             fault = decided_no unmet;
             ends = λ e. absurd (false≢true e);
             rows = w.of.groups;
-            are_rows = subst (λ f. GroupedAs es options many (form options) (f ∷ []) (w.of.groups ++ summary_as (form options) many name Whole selected)) (sym s.file)
-                (subst (λ n. GroupedAs es options many (form options) (ends ∷ []) (w.of.groups ++ summary_as (form options) many name Whole n)) w.counted (output_all es options many name lines Whole (form options) w.of.groups w.chosen w.of.are_groups w.are_chosen));
-            wrote = subst (TakesAll old new) w.of.are_rows w.wrote;
-            steps = subst (λ f. SearchesLines options (length es) f.lines began ended) (sym s.file) spent;
+            are_rows = rw s.file
+                (rw w.counted at (output_all es options many name lines Whole (form options) w.of.groups w.chosen w.of.are_groups w.are_chosen));
+            wrote = rw w.of.are_rows at w.wrote;
+            steps = rw s.file spent;
           }
 
       -- a read failed after them
@@ -184,19 +184,19 @@ module _ (es : List Expression) (options : Options) (many shown : Bool) (name : 
           let ends : File = record { name = name; lines = lines; ending = broken } in
           let some = some_decides lines old new selected w in
           let none_selected : IsTrue (leaves_early options) → Any (Selected es options) lines → ⊥ = λ early has. false≢true (ap (nat_lt 0) (sym (none early)) ∙ some.1 has) in
-          let met : FaultMet es options (file_of name s.reading) = subst (FaultMet es options) (sym s.file) none_selected in
+          let met : FaultMet es options (file_of name s.reading) = rw s.file none_selected in
           record {
             reading = s.reading;
             is_reading = s.is_reading;
             failures = record { own = failures_of s.reading; are_own = inl (met, refl); counted = s.counted; left = rest ∷ []; are_left = s.is_left; gave_back = refl };
-            some = subst (λ f. Decides (nat_lt 0 selected) (HasSelected es options f)) (sym s.file) some;
+            some = rw s.file some;
             fault = decided_yes met;
             ends = λ _. ap (λ (f : File). f.ending) s.file;
             rows = w.of.groups;
-            are_rows = subst (λ f. GroupedAs es options many (form options) (f ∷ []) (w.of.groups ++ summary_as (form options) many name Broken selected)) (sym s.file)
-                (subst (λ n. GroupedAs es options many (form options) (ends ∷ []) (w.of.groups ++ summary_as (form options) many name Broken n)) w.counted (output_all es options many name lines Broken (form options) w.of.groups w.chosen w.of.are_groups w.are_chosen));
-            wrote = subst (TakesAll old new) w.of.are_rows w.wrote;
-            steps = subst (λ f. SearchesLines options (length es) f.lines began ended) (sym s.file) spent;
+            are_rows = rw s.file
+                (rw w.counted at (output_all es options many name lines Broken (form options) w.of.groups w.chosen w.of.are_groups w.are_chosen));
+            wrote = rw w.of.are_rows at w.wrote;
+            steps = rw s.file spent;
           }
 
       -- the source was left after them, at a selected line
@@ -204,7 +204,7 @@ module _ (es : List Expression) (options : Options) (many shown : Bool) (name : 
       searches_left b none_failed early found =
           let file = file_of name b.reading in
           let here : nat_lt 0 selected ≡ true = positive selected found in
-          let has : HasSelected es options file = subst (Any (Selected es options)) (sym b.has_lines) (Any-left (Selected es options) lines b.more ((some_decides lines old new selected w).0 here)) in
+          let has : HasSelected es options file = rw b.has_lines (Any-left (Selected es options) lines b.more ((some_decides lines old new selected w).0 here)) in
           let unmet : FaultMet es options file → ⊥ = FaultMet-left es options file b.ends early has in
           let some : Decides (nat_lt 0 selected) (HasSelected es options file) = ((λ _. has), (λ _. here)) in
           record {
@@ -216,8 +216,8 @@ module _ (es : List Expression) (options : Options) (many shown : Bool) (name : 
             ends = λ e. absurd (false≢true e);
             rows = w.of.groups;
             are_rows = output_left es options many file name lines (form options) w.of.groups selected b.named (early_form options early) w.of.are_groups some;
-            wrote = subst (TakesAll old new) w.of.are_rows w.wrote;
-            steps = subst (λ ls. SearchesLines options (length es) ls began ended) (sym b.has_lines) (searched_first_lines options (length es) lines b.more began ended spent);
+            wrote = rw w.of.are_rows at w.wrote;
+            steps = rw b.has_lines (searched_first_lines options (length es) lines b.more began ended spent);
           }
 
     -- out of memory after the lines; more lines were searched
@@ -235,18 +235,18 @@ module _ (es : List Expression) (options : Options) (many shown : Bool) (name : 
           rest = rest;
           gave_back = refl;
           in_file = omega (arith, counted, length-append lines (later ++ b.more), ap length has);
-          read = subst (HasRead (open_source name known) rest) (sym first) read;
+          read = rw first read;
           rows = w.of.groups;
-          are_rows = rows_begun es options many (form options) count file w.of.groups (subst (λ f. LineRowsOf es options many (form options) f w.of.groups) same w.of.are_groups);
-          wrote = subst (TakesAll old new) w.of.are_rows w.wrote;
-          steps = subst (λ ls. SearchesLines options (length es) ls began ended) (sym b.has_lines) (searched_first_lines options (length es) (lines ++ later) b.more began ended spent);
+          are_rows = rows_begun es options many (form options) count file w.of.groups (rw same at w.of.are_groups);
+          wrote = rw w.of.are_rows at w.wrote;
+          steps = rw b.has_lines (searched_first_lines options (length es) (lines ++ later) b.more began ended spent);
         }
 
     -- no more lines were searched
     pub stops_after : (lines : List Text) (selected count : ℕ) → WritesLines lines old new selected → SearchesLines options (length es) lines began ended → BeginsWith name known lines → length lines ≡ count → HasRead (open_source name known) rest lines
         → (failed_before failed : ℕ) → failed ≡ failed_before → StopsSource es options many shown (open_source name known) (OneLeft rest) count failed_before failed old new began ended
     stops_after lines selected count w spent b =
-        stops_among lines [] selected count w (subst (λ ls. SearchesLines options (length es) ls began ended) (sym (append-nil lines)) spent) (subst (BeginsWith name known) (sym (append-nil lines)) b)
+        stops_among lines [] selected count w (rw (append-nil lines) spent) (rw (append-nil lines) b)
 
   module _ (known rest : Option Text) (old mid new : Writer) (began ended : Steps) (selected failed_before failed : ℕ) (none_failed : failed ≡ failed_before) where
     -- a write failed within the rows of these lines
@@ -267,9 +267,9 @@ module _ (es : List Expression) (options : Options) (many shown : Bool) (name : 
           };
           rows = all.0;
           are_rows = all.2;
-          wrote = subst (TakesFront old new) (sym all.3) (TakesFront-longer old new rows all.1 front);
+          wrote = rw all.3 (TakesFront-longer old new rows all.1 front);
           counted = counted;
-          steps = subst (λ ls. SearchesLines options (length es) ls began ended) (sym b.has_lines) (searched_first_lines options (length es) lines b.more began ended spent);
+          steps = rw b.has_lines (searched_first_lines options (length es) lines b.more began ended spent);
         }
 
     -- a write failed within the rows of lines that were searched at once
@@ -297,7 +297,7 @@ module _ (es : List Expression) (options : Options) (many shown : Bool) (name : 
     pub breaks_after : (lines : List Text) → WritesLines lines old mid selected → SearchesLines options (length es) lines began ended → BeginsWith name known lines → TakesFront mid new [] → new.failures ≡ one_more mid.failures
         → BreaksSource es options many shown (open_source name known) (OneLeft rest) failed_before failed old new began ended
     breaks_after lines w spent b front counted =
-        breaks_in lines w.rows w.of (subst (TakesFront old new) (append-nil w.rows) (TakesFront-more old mid new w.rows [] w.wrote front)) (counted ∙ ap one_more w.wrote.none_failed) spent b
+        breaks_in lines w.rows w.of (rw (append-nil w.rows) at (TakesFront-more old mid new w.rows [] w.wrote front)) (counted ∙ ap one_more w.wrote.none_failed) spent b
 
 -- ---- the turns of the search
 
@@ -344,7 +344,7 @@ module _ {R : Type 0} {remaining : R → Option Text} {failures : R → ℕ} {es
   pub searched_none : WrittenOf es options many shown name (form options) [] [] → {now : Numbered R} {w : Writer} {steps : Steps} → now.lines.reader ≡ reader → now.lines.ahead ≡ [] → now.lines.stage ≡ Open → now.number ≡ 0 → SearchedSoFar remaining failures es options many shown name reader now w w steps steps 0
   searched_none of {now} {w} {steps} same none is_open zero = record {
     lines = [];
-    handed = subst (λ r. HasHanded remaining failures r now []) same (has_handed_none remaining failures now none is_open zero);
+    handed = rw (← same) (has_handed_none remaining failures now none is_open zero);
     wrote = writes_none es options many shown name of w;
     few = omega arith;
     none_early = λ _. refl;
@@ -366,13 +366,13 @@ module _ {R : Type 0} {remaining : R → Option Text} {failures : R → ℕ} {es
 
     pub searched_counted : form options ≡ counts → (matched : ℕ) {own more : ℕ} {ended : Steps} → HoldsOfMany (Matched es options) block_lines matched → AddsAtMost (length es * length block) mid ended → own ≡ (if options.invert_match then count - matched else matched) → more ≡ min (selected + own) (2 ^ 64 - 1) → SearchedOn s now new ended more
     searched_counted asked matched {own} {more} {ended} found spent own_is added =
-        let chosen = subst (HoldsOfMany (Selected es options) block_lines) (sym own_is) (counted_block es options block count matched ahead.counted found) in
+        let chosen = rw (← own_is) at (counted_block es options block count matched ahead.counted found) in
         let within = many_within (Selected es options) block_lines own chosen in
         let sum : selected + own ≡ more = omega (arith, added, within, s.few, s.handed.counted, handed_on.few, length-append s.lines block_lines) in
         record {
           lines = s.lines ++ block_lines;
           handed = handed_on;
-          wrote = subst (WritesLines es options many shown name (s.lines ++ block_lines) old new) sum (writes_counted es options many shown name (counts_plain options asked) asked block_lines s.lines old new selected own s.wrote chosen);
+          wrote = rw sum at (writes_counted es options many shown name (counts_plain options asked) asked block_lines s.lines old new selected own s.wrote chosen);
           few = omega (arith, sum, within, s.few, s.handed.counted, handed_on.counted, length-append s.lines block_lines);
           none_early = λ early. absurd (counts_late options asked early);
           steps = searched_more_lines options (length es) s.lines block_lines began mid ended s.steps (block_spent es options block mid ended ahead.whole spent);
@@ -404,7 +404,7 @@ module _ {R : Type 0} {remaining : R → Option Text} {failures : R → ℕ} {es
         sum = omega (arith, is, s.few, numbers_on, next.counted, next.few, found_within es options many name (before.number + 1) all took.rows found took.are_rows)
 
         all_written : WritesLines es options many shown name (s.lines ++ all) old new more
-        all_written = subst (WritesLines es options many shown name (s.lines ++ all) old new) sum (writes_lines es options many shown name plain all s.lines old mid new selected found s.wrote (subst (λ n. TakesLines es options many name n all mid new found) first_number took))
+        all_written = rw sum at (writes_lines es options many shown name plain all s.lines old mid new selected found s.wrote (rw first_number at took))
 
         -- their rows were written
         pub searched_among : (IsTrue (leaves_early options) → found ≡ 0) → SearchedOn s now new ended more
@@ -429,16 +429,16 @@ module _ {R : Type 0} {remaining : R → Option Text} {failures : R → ℕ} {es
           → BreaksSource es options many shown (open_source name (remaining reader)) (OneLeft (remaining now.lines.reader)) (failures reader) (failures now.lines.reader) old new began ended
       breaks_in_lines {new} broke =
           breaks_lines es options many shown name (remaining reader) (remaining now.lines.reader) old mid new began ended selected (failures reader) (failures now.lines.reader) next.hands.none_failed plain
-          s.lines all s.wrote all_spent (begins name next) (subst (λ n. BreaksLines es options many name n all mid new) first_number broke)
+          s.lines all s.wrote all_spent (begins name next) (rw first_number at broke)
 
       -- that, or there is no room for the parts of one of them
       pub stops_in_lines : now.lines.reader ≡ before.lines.reader → IsOneLineAndFew before.lines.ahead → (new : Writer) (fault : SearchFault) → StopsLines es options many name (before.number + 1) all mid new fault
           → SearchGives es options many shown (open_source name (remaining reader)) (OneLeft (remaining now.lines.reader)) (failures reader) (failures now.lines.reader) old new began ended (Err fault)
       stops_in_lines same few new Write broke = breaks_in_lines broke
       stops_in_lines same few new (Memory n) (counted, unwritten) =
-          subst (λ w. StopsSource es options many shown (open_source name (remaining reader)) (OneLeft (remaining now.lines.reader)) n (failures reader) (failures now.lines.reader) old w began ended) (sym unwritten)
+          rw unwritten
           (stops_among es options many shown name (remaining reader) (remaining now.lines.reader) old mid began ended s.lines all selected n s.wrote all_spent (begins name next) (omega (arith, counted, s.handed.counted))
-          (subst (λ r. HasRead (open_source name (remaining reader)) (remaining r) s.lines) (sym same) (has_read remaining failures name reader before.lines s.lines s.handed.hands few)) (failures reader) (failures now.lines.reader) next.hands.none_failed)
+          (rw same (has_read remaining failures name reader before.lines s.lines s.handed.hands few)) (failures reader) (failures now.lines.reader) next.hands.none_failed)
 
   -- one more line was handed out
   module _ {before now : Numbered R} {old mid : Writer} {began amid : Steps} {selected : ℕ} (s : SearchedSoFar remaining failures es options many shown name reader before old mid began amid selected) (next : HasHanded remaining failures reader now (s.lines ++ now.lines.line ∷ [])) where
@@ -456,13 +456,13 @@ module _ {R : Type 0} {remaining : R → Option Text} {failures : R → ℕ} {es
 
     module _ {line : Text} (is : line ≡ now.lines.line) {count : ℕ} (is_number : count ≡ now.number) where
       pub handed : HasHanded remaining failures reader now (s.lines ++ line ∷ [])
-      handed = subst (λ l. HasHanded remaining failures reader now (s.lines ++ l ∷ [])) (sym is) next
+      handed = rw is next
 
       pub number : count ≡ length s.lines + 1
       number = is_number ∙ is_next ∙ ap (λ n. n + 1) (sym s.handed.counted)
 
       took : {new : Writer} → IsPlain (form options) → (found : Bool) → TakesLine es options many name count line mid new found → WritesLines es options many shown name (s.lines ++ line ∷ []) old new (if found then selected + 1 else selected)
-      took {new} plain found t = writes_line es options many shown name plain s.lines line old mid new selected found s.wrote (subst (λ n. TakesLine es options many name n line mid new found) number t)
+      took {new} plain found t = writes_line es options many shown name plain s.lines line old mid new selected found s.wrote (rw number at t)
 
       pub spent : {ended : Steps} → AddsAtMost (line_cost options (length es) line) amid ended → SearchesLines options (length es) (s.lines ++ line ∷ []) began ended
       spent {ended} one = searched_one_line options (length es) s.lines line began amid ended s.steps one
@@ -473,7 +473,7 @@ module _ {R : Type 0} {remaining : R → Option Text} {failures : R → ℕ} {es
       searched_line plain {new} {ended} {found} {more} t one e goes_on = record {
         lines = s.lines ++ line ∷ [];
         handed = handed;
-        wrote = subst (WritesLines es options many shown name (s.lines ++ line ∷ []) old new) (sym e) (took plain found t);
+        wrote = rw e (took plain found t);
         few = at_most found e;
         none_early = λ early. e ∙ ap (λ b. if b then selected + 1 else selected) (goes_on early) ∙ s.none_early early;
         steps = spent one;
@@ -487,7 +487,7 @@ module _ {R : Type 0} {remaining : R → Option Text} {failures : R → ℕ} {es
       leaves_here : IsPlain (form options) → {new : Writer} {ended : Steps} {more : ℕ} → TakesLine es options many name count line mid new true → AddsAtMost (line_cost options (length es) line) amid ended → more ≡ selected + 1 → IsTrue (leaves_early options)
           → SearchesSource es options many shown (open_source name (remaining reader)) (OneLeft (remaining now.lines.reader)) (failures reader) (failures now.lines.reader) old new began ended Left more
       leaves_here plain {new} {ended} {more} t one e early =
-          searches_left es options many shown name (remaining reader) (remaining now.lines.reader) old new began ended (failures reader) (failures now.lines.reader) (s.lines ++ line ∷ []) more (subst (WritesLines es options many shown name (s.lines ++ line ∷ []) old new) (sym e) (took plain true t)) (spent one)
+          searches_left es options many shown name (remaining reader) (remaining now.lines.reader) old new began ended (failures reader) (failures now.lines.reader) (s.lines ++ line ∷ []) more (rw e (took plain true t)) (spent one)
           (begins name handed) next.hands.none_failed early (omega (arith, e))
 
       pub leaves_at : IsPlain (form options) → {new : Writer} {ended : Steps} {found early : Bool} {more : ℕ} → TakesLine es options many name count line mid new found → AddsAtMost (line_cost options (length es) line) amid ended
@@ -502,12 +502,12 @@ module _ {R : Type 0} {remaining : R → Option Text} {failures : R → ℕ} {es
           → BreaksSource es options many shown (open_source name (remaining reader)) (OneLeft (remaining now.lines.reader)) (failures reader) (failures now.lines.reader) old new began ended
       breaks_at plain {new} {ended} broke one =
           breaks_within es options many shown name (remaining reader) (remaining now.lines.reader) old mid new began ended selected (failures reader) (failures now.lines.reader) next.hands.none_failed plain
-          s.lines line s.wrote (spent one) (begins name handed) (subst (λ n. BreaksLine es options many name n line mid new) number broke)
+          s.lines line s.wrote (spent one) (begins name handed) (rw number at broke)
 
       -- that, or there is no room for its parts
       pub stops_at : IsPlain (form options) → HasRead (open_source name (remaining reader)) (remaining now.lines.reader) s.lines → (new : Writer) {ended : Steps} (fault : SearchFault) → StopsLine es options many name count line mid new fault → AddsAtMost (line_cost options (length es) line) amid ended
           → SearchGives es options many shown (open_source name (remaining reader)) (OneLeft (remaining now.lines.reader)) (failures reader) (failures now.lines.reader) old new began ended (Err fault)
       stops_at plain read new Write broke one = breaks_at plain broke one
       stops_at plain read new {ended = ended} (Memory n) (counted, unwritten) one =
-          subst (λ w. StopsSource es options many shown (open_source name (remaining reader)) (OneLeft (remaining now.lines.reader)) n (failures reader) (failures now.lines.reader) old w began ended) (sym unwritten)
+          rw unwritten
           (stops_among es options many shown name (remaining reader) (remaining now.lines.reader) old mid began ended s.lines (line ∷ []) selected n s.wrote (spent one) (begins name handed) (omega (arith, counted, number)) read (failures reader) (failures now.lines.reader) next.hands.none_failed)

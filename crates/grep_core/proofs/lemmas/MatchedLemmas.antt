@@ -1,5 +1,5 @@
 -- The matched lines of a block, which are written as they are.
-use Rattle.grep_core.proofs.Prelude.{◌≡◌, ℕ, ◌+◌, ◌-◌, ◌*◌, Result, Ok, Err, IsErr, false≢true, WritesMatched, AddsAtMost, Numbered, IsNextOf, TakesHeld, StopsHeld, most_lines, writer, ◌<◌, ◌≤◌, Bool, true, false, List, [], ◌∷◌, ◌++◌, All, Option, length, take, drop, slice_range, refl, sym, ap, ◌∙◌, subst, arith, inl, inr, append_assoc, append-nil, length-append, length-drop, take-append_seam, drop-drop, All-head, All-tail, Text, newline, terminated, lines_of, HasNoNewline, Expression, Span, IsBlock, IsNext, Sought, IsSought, Options, Selected, Chosen, colon, head, form, shown_number, name_shown, written, IsBare, RowsOfSelected, RowsOfLines, GoesOut, StopsWithin}
+use Rattle.grep_core.proofs.Prelude.{◌≡◌, ℕ, ◌+◌, ◌-◌, ◌*◌, Result, Ok, Err, IsErr, false≢true, WritesMatched, AddsAtMost, Numbered, IsNextOf, TakesHeld, StopsHeld, most_lines, writer, ◌<◌, ◌≤◌, Bool, true, false, List, [], ◌∷◌, ◌++◌, All, Option, length, take, drop, slice_range, refl, sym, ap, ◌∙◌, arith, inl, inr, append_assoc, append-nil, length-append, length-drop, take-append_seam, drop-drop, All-head, All-tail, Text, newline, terminated, lines_of, HasNoNewline, Expression, Span, IsBlock, IsNext, Sought, IsSought, Options, Selected, Chosen, colon, head, form, shown_number, name_shown, written, IsBare, RowsOfSelected, RowsOfLines, GoesOut, StopsWithin}
 use Rattle.re_syntax.proofs.lemmas.LinesLaws.{lines_of-terminated}
 use Rattle.re_syntax.proofs.lemmas.Decisions.{dec_any}
 use Rattle.re_syntax.proofs.lemmas.HoldsDecided.{dec_matches}
@@ -44,8 +44,8 @@ module _ (P : Text → Type 0) where
     within = omega (arith, below, length-drop start block, s.within);
     few = omega (arith, s.few);
     goes_on = λ more c.
-        let others : Chosen P n.after more = subst (λ ls. Chosen P ls more) (ap lines_of (left ∙ after) ∙ lines_of-terminated n.after free) c in
-        let here : Chosen P (lines_of (drop start block)) (n.line ∷ more) = subst (λ ls. Chosen P ls (n.line ∷ more)) (sym n.divided)
+        let others : Chosen P n.after more = rw (ap lines_of (left ∙ after) ∙ lines_of-terminated n.after free) at c in
+        let here : Chosen P (lines_of (drop start block)) (n.line ∷ more) = rw n.divided
         (EachGives-append _ n.before (n.line ∷ n.after) [] (n.line ∷ more) (none_chosen n.before n.passed) (n.line ∷ [], more, inl (n.holds, refl), others, refl)) in
         let (all, are, bytes, long) = s.goes_on (n.line ∷ more) here in (
           all,
@@ -84,7 +84,7 @@ pub run_stops : {W : Type 0} (contents : W → Option Text) (failures : W → �
 run_stops contents failures s {block} {sent} {run} {start} a b c runs went stopped =
     let (more, chosen) = Chosen-exist (IsSought s) (λ line. dec_any _ (λ e. dec_matches e line s.whole) s.expressions) (lines_of (drop start block)) in
     let (all, are, bytes, long) = runs.goes_on more chosen in
-    (all, are, subst (StopsWithin contents failures a c) (sym bytes) (stops_early contents failures a c (sent ++ slice_range block run start) (terminated more) (stops_later contents failures a b c sent (slice_range block run start) went stopped)))
+    (all, are, rw bytes (stops_early contents failures a c (sent ++ slice_range block run start) (terminated more) (stops_later contents failures a b c sent (slice_range block run start) went stopped)))
 
 -- where selected lines are written as they are, they are the rows
 module _ (es : List Expression) (options : Options) (many : Bool) (name : Text) (bare : IsBare options many) (plain : options.invert_match ≡ false) where
@@ -94,7 +94,7 @@ module _ (es : List Expression) (options : Options) (many : Bool) (name : Text) 
       let (rows, are, bytes) = rows_chosen (number + 1) ls rest others in
       let same : all ≡ l ∷ rest = is ∙ ap (λ f. f ++ rest) one in
       let own : List Text = (head colon (name_shown many name) (shown_number options number) ++ l) ∷ [] in
-      let is_own : RowsOfSelected es options many (form options) name number l own = subst (λ shape. RowsOfSelected es options many shape name number l own) (sym bare.asked) refl in
+      let is_own : RowsOfSelected es options many (form options) name number l own = rw bare.asked refl in
       let selected = selected_matched es options plain l holds in
       let none : head colon (name_shown many name) (shown_number options number) ≡ [] = rw (bare.no_name, bare.no_number) refl in (
         own ++ rows,
@@ -117,7 +117,7 @@ stopped_result contents failures s block a c (Err fault) failed (all, are, stopp
 pub steps_for_more : (n start more : ℕ) (old mid new : Steps) → AddsAtMost (n * start) old mid → AddsAtMost (n * more) mid new → AddsAtMost (n * (start + more)) old new
 steps_for_more n start more old mid new a b =
     let joined : n * start + n * more ≡ n * (start + more) = omega arith in
-    subst (λ k. AddsAtMost k old new) joined (cost_after (n * start) (n * more) old mid new a b)
+    rw joined at (cost_after (n * start) (n * more) old mid new a b)
 
 pub steps_within : (n few most : ℕ) (old new : Steps) → few ≤ most → AddsAtMost (n * few) old new → AddsAtMost (n * most) old new
 steps_within n few most old new h a =
@@ -147,7 +147,7 @@ module _ {M : Type 0} {contents : M → Option Text} {failures : M → ℕ} {es 
         next = next;
         width = ap length (block_lines block is_block);
         counted = counted;
-        took = record { rows = rows; are_rows = subst (RowsOfLines es options many name (now.number + 1) (lines_of block) rows) (sym found) are; wrote = TakesAll-written contents failures old new rows (subst (GoesOut contents failures old new) (sym is) went) };
+        took = record { rows = rows; are_rows = rw found are; wrote = TakesAll-written contents failures old new rows (rw is went) };
         spent = block_spent es options block began ended is_block steps;
         some = λ goes. absurd (false≢true goes);
       }
@@ -159,6 +159,6 @@ module _ {M : Type 0} {contents : M → Option Text} {failures : M → ℕ} {es 
         all = lines_of block;
         free = free_lines block is_block;
         next = next;
-        stops = record { rows = rows; found = length matched; are_rows = are; wrote = TakesFront-written contents failures old new rows (subst (StopsWithin contents failures old new) (sym is) stopped); counted = stopped.counted };
+        stops = record { rows = rows; found = length matched; are_rows = are; wrote = TakesFront-written contents failures old new rows (rw is stopped); counted = stopped.counted };
         spent = block_spent es options block began ended is_block steps;
       }

@@ -1,5 +1,5 @@
 -- The messages, file by file, up to the one at which `-q` stops.
-use Rattle.grep_core.proofs.Prelude.{◌≡◌, Bool, true, false, List, [], ◌∷◌, ◌++◌, inl, inr, refl, subst, MatchBool, Any, append-nil, Text, Expression, Options, EachGives, File, Stops, Reached, Message, Reported, Messages}
+use Rattle.grep_core.proofs.Prelude.{◌≡◌, Bool, true, false, List, [], ◌∷◌, ◌++◌, inl, inr, refl, MatchBool, Any, append-nil, Text, Expression, Options, EachGives, File, Stops, Reached, Message, Reported, Messages}
 use Rattle.re_syntax.proofs.lemmas.Decisions.{Any-first, Any-later}
 use Rattle.grep_core.proofs.lemmas.ChooseLaws.{EachGives-append, EachGives-exist}
 use Rattle.grep_core.proofs.lemmas.Exist.{Reached-exist, Message-exist}
@@ -13,7 +13,7 @@ module _ (es : List Expression) (options : Options) where
 
   -- where a run stops at no file, all are reached
   pub Reached-all : (files : List File) → (Any (Stops es options) files → ⊥) → Reached es options files files
-  Reached-all files none = subst (λ xs. Reached es options xs xs) (append-nil files) (Reached-after files [] [] none refl)
+  Reached-all files none = rw (append-nil files) at (Reached-after files [] [] none refl)
 
   -- where a run stops at a file, it is the last that is reached
   pub Reached-stopped : (front rest : List File) (file : File) → (Any (Stops es options) front → ⊥) → Stops es options file → Reached es options (front ++ file ∷ rest) (front ++ file ∷ [])

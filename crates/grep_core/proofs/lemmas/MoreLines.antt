@@ -1,5 +1,5 @@
 -- What one more line of a file adds to its selected lines, its rows and the rows of its parts.
-use Rattle.grep_core.proofs.Prelude.{◌≡◌, ℕ, ◌+◌, Bool, List, [], ◌∷◌, ◌++◌, sym, ap, subst, ◌∙◌, length, map, arith, enumerate_from, Text, Expression, Options, Ending, Selected, Chosen, head_of, numbered, SelectedLines, RowsOf, PartsOfLine, PartRowsOf, map-append}
+use Rattle.grep_core.proofs.Prelude.{◌≡◌, ℕ, ◌+◌, Bool, List, [], ◌∷◌, ◌++◌, sym, ap, ◌∙◌, length, map, arith, enumerate_from, Text, Expression, Options, Ending, Selected, head_of, numbered, SelectedLines, RowsOf, PartsOfLine, PartRowsOf, map-append}
 use Rattle.grep_io.proofs.lemmas.FileLaws.{file_with}
 use Rattle.grep_core.proofs.lemmas.ChooseLaws.{EachGives-append, EachGives-end, EachGives-exist, Chosen-end, Chosen-passed, Chosen-exist}
 use Rattle.grep_core.proofs.lemmas.Decided.{dec_selected}
@@ -21,14 +21,14 @@ module _ (es : List Expression) (options : Options) (many : Bool) (name : Text) 
   pub SelectedLines-end : (xs : List Text) (line : Text) (ls : List (ℕ × Text)) → SelectedLines es options many (file_with name xs ending) ls → Selected es options line →
       SelectedLines es options many (file_with name (xs ++ line ∷ []) ending) (ls ++ (length xs + 1, line) ∷ [])
   SelectedLines-end xs line ls h selected =
-      subst (λ zs. Chosen (λ l. Selected es options l.1) zs (ls ++ (length xs + 1, line) ∷ [])) (sym (numbered-end xs line))
+      rw (numbered-end xs line)
       (Chosen-end (λ l. Selected es options l.1) (numbered xs) (length xs + 1, line) ls h selected)
 
   -- one more line, which is not selected
   pub SelectedLines-passed : (xs : List Text) (line : Text) (ls : List (ℕ × Text)) → SelectedLines es options many (file_with name xs ending) ls → (Selected es options line → ⊥) →
       SelectedLines es options many (file_with name (xs ++ line ∷ []) ending) ls
   SelectedLines-passed xs line ls h passed =
-      subst (λ zs. Chosen (λ l. Selected es options l.1) zs ls) (sym (numbered-end xs line)) (Chosen-passed (λ l. Selected es options l.1) (numbered xs) (length xs + 1, line) ls h passed)
+      rw (numbered-end xs line) (Chosen-passed (λ l. Selected es options l.1) (numbered xs) (length xs + 1, line) ls h passed)
 
   -- the selected lines of more lines begin with those of fewer
   pub SelectedLines-front : (xs more : List Text) (ls : List (ℕ × Text)) → SelectedLines es options many (file_with name xs ending) ls →
@@ -36,7 +36,7 @@ module _ (es : List Expression) (options : Options) (many : Bool) (name : Text) 
   SelectedLines-front xs more ls h =
       let rest = Chosen-exist (λ l. Selected es options l.1) (λ l. dec_selected es options l.1) (enumerate_from (1 + length xs) more) in
       let both = EachGives-append _ (numbered xs) (enumerate_from (1 + length xs) more) ls rest.0 h rest.1 in
-      (rest.0, subst (λ zs. Chosen (λ l. Selected es options l.1) zs (ls ++ rest.0)) (sym (enumerate_from-append 1 xs more)) both)
+      (rest.0, rw (enumerate_from-append 1 xs more) both)
 
   -- the row of one more line, which is selected
   pub RowsOf-end : (xs : List Text) (line : Text) (out : List Text) → RowsOf es options many (file_with name xs ending) out → Selected es options line →

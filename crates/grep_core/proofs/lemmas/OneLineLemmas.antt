@@ -1,5 +1,5 @@
 -- What was written for one line.
-use Rattle.grep_core.proofs.Prelude.{◌≡◌, ℕ, Bool, true, false, not, MatchBool, if◌then◌else◌, Decides, List, [], ◌∷◌, ◌++◌, Option, Result, Ok, Err, IfErr, IfOk, IsErrAnd, OnErr, refl, sym, subst, inl, inr, false≢true, Text, Expression, Options, SearchFault, output_line, Writes, Matched, Selected, lines, counts, form, head_of, Writer, writer, file_so_far, selects, RowsOfSelected, WritesSelected, BreaksSelected, TakesLine, BreaksLine}
+use Rattle.grep_core.proofs.Prelude.{◌≡◌, ℕ, Bool, true, false, not, MatchBool, if◌then◌else◌, Decides, List, [], ◌∷◌, ◌++◌, Option, Result, Ok, Err, IfErr, IfOk, IsErrAnd, OnErr, refl, sym, inl, inr, false≢true, Text, Expression, Options, SearchFault, output_line, Writes, Matched, Selected, lines, counts, form, head_of, Writer, writer, file_so_far, selects, RowsOfSelected, WritesSelected, BreaksSelected, TakesLine, BreaksLine}
 use Rattle.grep_core.proofs.lemmas.PassLemmas.{TakesAll-line, TakesFront-line}
 use Rattle.grep_core.proofs.lemmas.WriterLaws.{TakesAll-nothing}
 
@@ -11,7 +11,7 @@ err_with (Err e) p = p
 -- a write failed, and that is returned
 pub unwritten : {T : Type 0} (P : SearchFault → Type 0) (r : Result T SearchFault) {why : SearchFault} → IsErrAnd r (λ fault. fault ≡ why) → P why → IfErr r P
 unwritten P (Ok v) is p = tt
-unwritten P (Err fault) is p = subst P (sym is) p
+unwritten P (Err fault) is p = rw is p
 
 module _ {W : Type 0} (contents : W → Option Text) (failures : W → ℕ) (es : List Expression) (options : Options) (many : Bool) (name : Text) (number : ℕ) (line : Text) (a b : W) (asked : form options ≡ lines) where
   -- the row of a selected line
@@ -19,7 +19,7 @@ module _ {W : Type 0} (contents : W → Option Text) (failures : W → ℕ) (es 
   head_and_line = head_of es options many (file_so_far name []) number ++ line
 
   line_row : RowsOfSelected es options many (form options) name number line (head_and_line ∷ [])
-  line_row = subst (λ shape. RowsOfSelected es options many shape name number line (head_and_line ∷ [])) (sym asked) refl
+  line_row = rw asked refl
 
   -- it was written
   pub row_written : {T E : Type 0} (r : Result T E) → Writes contents failures a b (output_line [] head_and_line) r → IfOk r (λ _. WritesSelected es options many name number line (writer contents failures a) (writer contents failures b))
@@ -35,7 +35,7 @@ module _ {W : Type 0} (contents : W → Option Text) (failures : W → ℕ) (es 
 pub line_counted : (es : List Expression) (options : Options) (many : Bool) (name : Text) (number : ℕ) (line : Text) (w : Writer) → form options ≡ counts → Selected es options line → TakesLine es options many name number line w w true
 line_counted es options many name number line w asked s = record {
   rows = [];
-  are_rows = inl (s, subst (λ shape. RowsOfSelected es options many shape name number line []) (sym asked) refl);
+  are_rows = inl (s, rw asked refl);
   wrote = TakesAll-nothing w;
   reported = ((λ _. s), (λ _. refl));
 }
@@ -56,14 +56,14 @@ pub line_selected : (es ds : List Expression) (options : Options) (many : Bool) 
     → ds ≡ es → WritesSelected ds options many name number line a b → TakesLine es options many name number line a b true
 line_selected es ds options many name number line a b verdict e d same went =
     let s = d.0 e in
-    let w = subst (λ fs. WritesSelected fs options many name number line a b) same went in
+    let w = rw same at went in
     record { rows = w.rows; are_rows = inl (s, w.are_rows); wrote = w.wrote; reported = ((λ _. s), (λ _. refl)) }
 
 -- a beginning of them was written
 pub line_broken : (es ds : List Expression) (options : Options) (many : Bool) (name : Text) (number : ℕ) (line : Text) (a b : Writer) (verdict : Bool) → verdict ≡ true → Decides verdict (Selected es options line)
     → ds ≡ es → BreaksSelected ds options many name number line a b → BreaksLine es options many name number line a b
 line_broken es ds options many name number line a b verdict e d same went =
-    let w = subst (λ fs. BreaksSelected fs options many name number line a b) same went in
+    let w = rw same at went in
     record { rows = w.rows; are_rows = inl (d.0 e, w.are_rows); wrote = w.wrote; counted = w.counted }
 
 -- a line is selected by whether it is matched
@@ -73,4 +73,4 @@ by_sign true true P d = ((λ f. absurd (false≢true f)), (λ none. absurd (none
 by_sign true false P d = ((λ _ m. false≢true (d.1 m)), (λ _. refl))
 
 pub selected_by : (es : List Expression) (options : Options) (line : Text) (matched verdict : Bool) → verdict ≡ selects options matched → Decides matched (Matched es options line) → Decides verdict (Selected es options line)
-selected_by es options line matched verdict is d = subst (λ v. Decides v (Selected es options line)) (sym is) (by_sign options.invert_match matched (Matched es options line) d)
+selected_by es options line matched verdict is d = rw is (by_sign options.invert_match matched (Matched es options line) d)

@@ -1,5 +1,5 @@
 -- A search of a source that was opened, by the search of its reader.
-use Rattle.grep_core.proofs.Prelude.{◌≡◌, ℕ, zero, suc, ◌≤◌, ◌⊎◌, Bool, true, false, List, [], ◌∷◌, length, take, Option, Result, Ok, Err, IfSome, refl, sym, ap, subst, ◌∙◌, inl, inr, arith, false≢true, Consumes-nil, Consumes, Text, Expression, Options, FileEnd, Missing, FileFound, SearchFault, one_more, Groups, Chosen, LineReader, File, Selected, Form, nothing, names, counts, parts, lines, around, form, shown_name, shown_number, numbered, Source, Reading, not_opened, fails_after, ends_after, open_source, IsReadingOf, file_of, failures_of, AreLeft, OneLeft, HasRead, Writer, TakesAll, TakesFront, first_lines, count_more, SearchGives, rows_after, IsPlain, LineRowsOf, CountsSource, BreaksSource, StopsSource, SearchesSource}
+use Rattle.grep_core.proofs.Prelude.{◌≡◌, ℕ, zero, suc, ◌≤◌, ◌⊎◌, Bool, true, false, List, [], ◌∷◌, length, take, Option, Result, Ok, Err, IfSome, refl, sym, ap, ◌∙◌, inl, inr, arith, false≢true, Consumes-nil, Text, Expression, Options, FileEnd, Missing, FileFound, SearchFault, one_more, LineReader, File, Selected, Form, nothing, names, counts, parts, lines, around, form, Source, Reading, not_opened, fails_after, ends_after, open_source, IsReadingOf, file_of, failures_of, AreLeft, OneLeft, HasRead, Writer, first_lines, count_more, SearchGives, rows_after, IsPlain, LineRowsOf, CountsSource, BreaksSource, StopsSource, SearchesSource}
 use Rattle.re_syntax.proofs.lemmas.Decisions.{Any-none}
 use Rattle.re_syntax.proofs.lemmas.LinesLaws.{all_none, lines_of-terminated}
 use Rattle.re_search.specs.Meters.{Steps}
@@ -55,7 +55,7 @@ module _ (es : List Expression) (options : Options) (many shown : Bool) (source 
     counted = counted ∙ ap (count_more before) s.counted ∙ count_on before s.own few;
     left = s.left;
     are_left = left_of source reading s.left s.are_left;
-    gave_back = subst given (sym s.gave_back) gives;
+    gave_back = rw s.gave_back gives;
   }
     where
       few : s.own ≤ 1
@@ -97,7 +97,7 @@ module _ (es : List Expression) (options : Options) (many shown : Bool) (source 
     is_reading = opened source s.reading opens s.is_reading;
     none_failed = counted ∙ ap (count_more before) s.none_failed;
     rest = s.rest;
-    gave_back = subst given (sym s.gave_back) gives;
+    gave_back = rw s.gave_back gives;
     in_file = s.in_file;
     read = read_of source s.rest _ s.read;
     rows = s.rows;
@@ -124,10 +124,10 @@ module _ (es : List Expression) (options : Options) (many shown : Bool) (source 
         rest = rest;
         gave_back = gives;
         in_file = omega arith;
-        read = record { given = []; are_given = lines_of-terminated [] all_none ∙ no_lines (file_of source.name some.0).lines; held = []; few_held = none_in_nothing; read = subst (λ r. Consumes source.bytes r []) (sym none_read) (Consumes-nil source.bytes) };
+        read = record { given = []; are_given = lines_of-terminated [] all_none ∙ no_lines (file_of source.name some.0).lines; held = []; few_held = none_in_nothing; read = rw none_read (Consumes-nil source.bytes) };
         rows = [];
         are_rows = rows_begun es options many (form options) 0 (file_of source.name some.0) [] (no_rows (form options) (first_lines 0 (file_of source.name some.0)) refl);
-        wrote = subst (TakesAll w w) (sym (after_nothing (form options) shown)) (TakesAll-nothing w);
+        wrote = rw (after_nothing (form options) shown) (TakesAll-nothing w);
         steps = unsearched_lines options (length es) (file_of source.name some.0).lines steps;
       }
     where
@@ -139,9 +139,9 @@ module _ (es : List Expression) (options : Options) (many shown : Bool) (source 
       no_rows nothing file e = refl
       no_rows names file e = refl
       no_rows counts file e = refl
-      no_rows parts file e = ([], subst (λ ls. Chosen (λ l. Selected es options l.1) (numbered ls) []) (sym e) refl, refl)
-      no_rows lines file e = ([], subst (λ ls. Chosen (λ l. Selected es options l.1) (numbered ls) []) (sym e) refl, refl)
-      no_rows (around context) file e = subst (λ ls. Groups es options context (shown_name many file) (shown_number options) ls []) (sym e) refl
+      no_rows parts file e = ([], rw e refl, refl)
+      no_rows lines file e = ([], rw e refl, refl)
+      no_rows (around context) file e = rw e refl
 
   -- a source that could not be opened
   pub source_missing : (before after : ℕ) → IfSome source.opens (λ b. b ≡ false) → after ≡ one_more before → given [] → SearchesSource es options many shown source given before after w w steps steps Missing 0
@@ -154,7 +154,7 @@ module _ (es : List Expression) (options : Options) (many shown : Bool) (source 
     ends = λ _. refl;
     rows = [];
     are_rows = output_all es options many source.name [] Missing (form options) [] [] (rows_none es options many source.name (form options)) refl;
-    wrote = subst (TakesAll w w) (sym (after_nothing (form options) shown)) (TakesAll-nothing w);
+    wrote = rw (after_nothing (form options) shown) (TakesAll-nothing w);
     steps = unsearched_lines options (length es) [] steps;
   }
 
@@ -178,7 +178,7 @@ module _ (es : List Expression) (options : Options) (many : Bool) (plain : IsPla
       ends = s.ends;
       rows = s.rows;
       are_rows = s.are_rows;
-      wrote = subst (TakesAll old new) (same_rows s.rows) s.wrote;
+      wrote = rw (same_rows s.rows) at s.wrote;
       steps = s.steps;
     }
 
@@ -189,7 +189,7 @@ module _ (es : List Expression) (options : Options) (many : Bool) (plain : IsPla
       failures = counts_anyway s.reading failed_before failed s.failures;
       rows = s.rows;
       are_rows = s.are_rows;
-      wrote = subst (TakesFront old new) (same_rows s.rows) s.wrote;
+      wrote = rw (same_rows s.rows) at s.wrote;
       counted = s.counted;
       steps = s.steps;
     }
@@ -205,7 +205,7 @@ module _ (es : List Expression) (options : Options) (many : Bool) (plain : IsPla
       read = s.read;
       rows = s.rows;
       are_rows = s.are_rows;
-      wrote = subst (TakesAll old new) (same_rows s.rows) s.wrote;
+      wrote = rw (same_rows s.rows) at s.wrote;
       steps = s.steps;
     }
 
@@ -227,6 +227,6 @@ module _ {R : Type 0} (remaining : R → Option Text) (failures : R → ℕ) (es
     -- what the search of the lines gives
     pub given_in : (r : Result FileFound SearchFault) → SearchGives es options many shown (open_source name (remaining start.reader)) (OneLeft rest) (failures start.reader) failed old new began ended r → SearchGives es options many shown source given before after old new began ended r
     given_in r s =
-        let at_source = subst (λ src. SearchGives es options many shown src (OneLeft rest) (failures start.reader) failed old new began ended r) same_source s in
-        let from_none = subst (λ n. SearchGives es options many shown (open_source source.name source.bytes) (OneLeft rest) n failed old new began ended r) fresh_start at_source in
+        let at_source = rw same_source at s in
+        let from_none = rw fresh_start at at_source in
         source_gives es options many shown source given rest gives opens old new began ended before after failed counted r from_none

@@ -1,5 +1,5 @@
 -- A run over sources, one more source at a time, and how it ends.
-use Rattle.grep_core.proofs.Prelude.{◌≡◌, ℕ, zero, suc, ◌+◌, nat_lt, nat_le, ◌<◌, ◌≤◌, Bool, true, false, ◌||◌, ◌&&◌, IsTrue, Decides, List, [], ◌∷◌, ◌++◌, length, take, drop, get_or, Option, None, Ok, Err, Any, refl, sym, ap, subst, ◌∙◌, inl, inr, arith, append-nil, append_assoc, take-suc, take-append_seam, get_or-append_seam, false≢true, cond-true, length-append, length-take-le, take_all, Text, Expression, Options, Status, RunFault, MessageWrite, FileEnd, one_more, IfHolds, File, missing, HasSelected, Form, nothing, names, counts, parts, lines, around, form, OutAs, Out, are_many, FaultMet, Stops, Reported, Messages, AnySelected, StatusOf, Source, Reading, IsReadingOf, file_of, failures_of, AreLeft, HasRead, Writer, Devices, TakesAll, TakesFront, TakesPast, files_of, AreReadings, FailuresMet, LeftMet, begun, file_at, count_more, Story, Finishes, BreaksOff, StopsAfter, RunGives, source_at, SearchesLines, SearchesFiles, GroupedAs, rows_after, is_fault, status_by, SourceGives, CountsSource, FinishesSource, BreaksSource, BreaksMessage, StopsSource}
+use Rattle.grep_core.proofs.Prelude.{◌≡◌, ℕ, zero, suc, ◌+◌, nat_lt, nat_le, ◌<◌, ◌≤◌, Bool, true, false, ◌||◌, ◌&&◌, IsTrue, Decides, List, [], ◌∷◌, ◌++◌, length, take, drop, get_or, Option, None, Ok, Err, Any, refl, sym, ap, subst, ◌∙◌, inl, inr, arith, append-nil, append_assoc, take-suc, take-append_seam, get_or-append_seam, false≢true, cond-true, length-append, length-take-le, take_all, Text, Expression, Options, Status, RunFault, MessageWrite, FileEnd, one_more, IfHolds, File, missing, HasSelected, Form, nothing, names, counts, parts, lines, around, form, OutAs, Out, are_many, FaultMet, Stops, Reported, Messages, AnySelected, StatusOf, Source, Reading, IsReadingOf, file_of, failures_of, AreLeft, HasRead, Writer, Devices, TakesAll, TakesFront, files_of, AreReadings, FailuresMet, LeftMet, begun, file_at, count_more, Story, Finishes, BreaksOff, StopsAfter, RunGives, source_at, SearchesLines, SearchesFiles, GroupedAs, rows_after, is_fault, status_by, SourceGives, CountsSource, FinishesSource, BreaksSource, BreaksMessage, StopsSource}
 use Rattle.re_syntax.proofs.lemmas.Decisions.{Any-none, Any-first, Any-later, Any-cases}
 use Rattle.grep_core.specs.declared.status.Status.TheVariants.{Selected as selected}
 use Rattle.grep_core.specs.declared.status.RunFault.TheVariants.{Write, Memory}
@@ -78,7 +78,7 @@ module _ (es : List Expression) (options : Options) (many : Bool) where
     };
     output = [];
     is_output = nothing_written (form options);
-    wrote = subst (TakesAll d.out d.out) (sym (after_nothing (form options) false)) (TakesAll-nothing d.out);
+    wrote = rw (after_nothing (form options) false) (TakesAll-nothing d.out);
     messages = [];
     are_reported = Reported-nothing es options;
     reported = TakesAll-nothing d.messages;
@@ -104,7 +104,7 @@ module _ (es : List Expression) (options : Options) (many : Bool) where
 
     takes_both : (new : Writer) (rows : List Text) → TakesAll mid.out new (rows_after (form options) some rows) → TakesAll old.out new (rows_after (form options) false (s.output ++ rows))
     takes_both new rows took =
-        subst (TakesAll old.out new) (sym (wrote_both rows)) (TakesAll-more old.out mid.out new (rows_after (form options) false s.output) (rows_after (form options) some rows) s.wrote took)
+        rw (wrote_both rows) (TakesAll-more old.out mid.out new (rows_after (form options) false s.output) (rows_after (form options) some rows) s.wrote took)
 
     -- one more source, at which the run does not stop
     pub run_next : (new : Devices) (end : FileEnd) (found : ℕ) → FinishesSource es options many some source own_given mid new end found → (options.quiet && nat_lt 0 found) ≡ false → RunSoFar (before ++ source ∷ []) all_given old new (some || nat_lt 0 found) (faulty || is_fault end)
@@ -123,17 +123,17 @@ module _ (es : List Expression) (options : Options) (many : Bool) where
             left = s.story.left ++ f.failures.left;
             are_left = LeftMet-append es options before (source ∷ []) s.story.readings (f.reading ∷ []) s.story.left f.failures.left s.story.are_readings s.goes_on s.story.are_left (LeftMet-one es options source f.reading f.failures.left f.failures.are_left);
             gave_back = join s.story.left f.failures.left s.story.gave_back f.failures.gave_back;
-            steps = subst (λ fs. SearchesFiles options (length es) fs old.steps new.steps) (sym all) (searched_up_to options (length es) files file [] old.steps mid.steps new.steps s.story.steps f.steps);
+            steps = rw all (searched_up_to options (length es) files file [] old.steps mid.steps new.steps s.story.steps f.steps);
           };
           output = s.output ++ f.rows;
-          is_output = subst (λ fs. GroupedAs es options many (form options) fs (s.output ++ f.rows)) (sym all) (GroupedAs-append es options many (form options) files (file ∷ []) s.output f.rows s.is_output f.are_rows);
+          is_output = rw all (GroupedAs-append es options many (form options) files (file ∷ []) s.output f.rows s.is_output f.are_rows);
           wrote = takes_both new.out f.rows f.wrote;
           messages = s.messages ++ f.messages;
-          are_reported = subst (λ fs. Reported es options fs (s.messages ++ f.messages)) (sym all) (Reported-append es options files (file ∷ []) s.messages f.messages s.are_reported f.are_messages);
+          are_reported = rw all (Reported-append es options files (file ∷ []) s.messages f.messages s.are_reported f.are_messages);
           reported = TakesAll-more old.messages mid.messages new.messages s.messages f.messages s.reported f.reported;
-          goes_on = subst (λ fs. Any (Stops es options) fs → ⊥) (sym all) (none_more (Stops es options) files file s.goes_on not_here);
-          some_reported = subst (λ fs. Decides (some || nat_lt 0 found) (AnySelected es options fs)) (sym all) (any_decides (HasSelected es options) files file some (nat_lt 0 found) s.some_reported f.some);
-          faulty_reported = subst (λ fs. Decides (faulty || is_fault end) (Any (FaultMet es options) fs)) (sym all) (any_decides (FaultMet es options) files file faulty (is_fault end) s.faulty_reported f.fault);
+          goes_on = rw all (none_more (Stops es options) files file s.goes_on not_here);
+          some_reported = rw all (any_decides (HasSelected es options) files file some (nat_lt 0 found) s.some_reported f.some);
+          faulty_reported = rw all (any_decides (FaultMet es options) files file faulty (is_fault end) s.faulty_reported f.fault);
         }
 
     module _ (after : List Source) (is_many : many ≡ nat_le 2 (length (before ++ source ∷ after))) (r : Reading) (is_reading : IsReadingOf source r) where
@@ -167,7 +167,7 @@ module _ (es : List Expression) (options : Options) (many : Bool) where
 
       -- the steps for the first sources and this one are within the cost of all
       spent : (new : Devices) → SearchesLines options (length es) file.lines mid.steps new.steps → SearchesFiles options (length es) (files_of all_sources readings) old.steps new.steps
-      spent new steps = subst (λ fs. SearchesFiles options (length es) fs old.steps new.steps) (sym all_files) (searched_up_to options (length es) first file following old.steps mid.steps new.steps s.story.steps steps)
+      spent new steps = rw all_files (searched_up_to options (length es) first file following old.steps mid.steps new.steps s.story.steps steps)
 
       -- the first sources and this one
       up_to_here : take (suc (length before)) all_sources ≡ before ++ source ∷ []
@@ -192,16 +192,16 @@ module _ (es : List Expression) (options : Options) (many : Bool) where
       -- what was written and reported of them
       out_before : OutAs es options (are_many (files_of all_sources readings)) (form options) (take (length before) (files_of all_sources readings)) (rows_after (form options) false s.output)
       out_before =
-          subst (λ m. OutAs es options m (form options) (take (length before) (files_of all_sources readings)) (rows_after (form options) false s.output)) all_many
-          (subst (λ fs. OutAs es options many (form options) fs (rows_after (form options) false s.output)) (sym front) (grouped_out es options many (form options) first s.output s.is_output))
+          rw (← all_many)
+          (rw front (grouped_out es options many (form options) first s.output s.is_output))
 
       reported_before : Messages es options (take (length before) (files_of all_sources readings)) s.messages
-      reported_before = subst (λ fs. Messages es options fs s.messages) (sym front) (Messages-reached es options first first s.messages (Reached-all es options first s.goes_on) s.are_reported)
+      reported_before = rw front (Messages-reached es options first first s.messages (Reached-all es options first s.goes_on) s.are_reported)
 
       -- how often the devices failed in the first sources
       met_before : FailuresMet es options (take (length before) all_sources) readings s.story.failures
       met_before =
-          subst (λ xs. FailuresMet es options xs readings s.story.failures) (sym (take-append_seam before (source ∷ after)))
+          rw (take-append_seam before (source ∷ after))
           (FailuresMet-longer es options before s.story.readings (r ∷ rest.0) s.story.failures s.story.are_readings s.story.are_failures)
 
       -- and in this one
@@ -211,13 +211,13 @@ module _ (es : List Expression) (options : Options) (many : Bool) where
           let here = FailuresMet-append es options before (source ∷ []) s.story.readings (r ∷ []) s.story.failures own s.story.are_readings s.goes_on s.story.are_failures (FailuresMet-one es options source r own are_own) in
           let are = AreReadings-append before (source ∷ []) s.story.readings (r ∷ []) s.story.are_readings (is_reading, tt) in
           let first_sources : take (suc (length before)) all_sources ≡ these = up_to_here in
-          subst (λ xs. FailuresMet es options xs readings (s.story.failures + own)) (sym first_sources)
-          (subst (λ rs. FailuresMet es options these rs (s.story.failures + own)) (append_assoc s.story.readings (r ∷ []) rest.0) (FailuresMet-longer es options these (s.story.readings ++ r ∷ []) rest.0 (s.story.failures + own) are here))
+          rw first_sources
+          (rw (append_assoc s.story.readings (r ∷ []) rest.0) at (FailuresMet-longer es options these (s.story.readings ++ r ∷ []) rest.0 (s.story.failures + own) are here))
 
       -- what the readers of the first sources had left
       left_before : LeftMet es options (take (length before) all_sources) readings s.story.left
       left_before =
-          subst (λ xs. LeftMet es options xs readings s.story.left) (sym (take-append_seam before (source ∷ after)))
+          rw (take-append_seam before (source ∷ after))
           (LeftMet-longer es options before s.story.readings (r ∷ rest.0) s.story.left s.story.are_readings s.story.are_left)
 
       -- and that of this one
@@ -227,8 +227,8 @@ module _ (es : List Expression) (options : Options) (many : Bool) where
           let here = LeftMet-append es options before (source ∷ []) s.story.readings (r ∷ []) s.story.left own s.story.are_readings s.goes_on s.story.are_left (LeftMet-one es options source r own is_left) in
           let are = AreReadings-append before (source ∷ []) s.story.readings (r ∷ []) s.story.are_readings (is_reading, tt) in
           let first_sources : take (suc (length before)) all_sources ≡ these = up_to_here in
-          subst (λ xs. LeftMet es options xs readings (s.story.left ++ own)) (sym first_sources)
-          (subst (λ rs. LeftMet es options these rs (s.story.left ++ own)) (append_assoc s.story.readings (r ∷ []) rest.0) (LeftMet-longer es options these (s.story.readings ++ r ∷ []) rest.0 (s.story.left ++ own) are here))
+          rw first_sources
+          (rw (append_assoc s.story.readings (r ∷ []) rest.0) at (LeftMet-longer es options these (s.story.readings ++ r ∷ []) rest.0 (s.story.left ++ own) are here))
 
       counted_here : (new : Devices) (own : ℕ) → new.source_failures ≡ count_more mid.source_failures own → new.source_failures ≡ count_more old.source_failures (s.story.failures + own)
       counted_here new own counted = counted ∙ ap (λ n. count_more n own) s.story.counted ∙ sym (count_more-add old.source_failures s.story.failures own)
@@ -258,9 +258,9 @@ module _ (es : List Expression) (options : Options) (many : Bool) where
           let with_parts : rows_after (form options) false (s.output ++ rows) ++ longer.0 ≡ rows_after (form options) false s.output ++ (rows_after (form options) some rows ++ longer.0) =
           ap (λ l. l ++ longer.0) (wrote_both rows) ∙ append_assoc (rows_after (form options) false s.output) (rows_after (form options) some rows) longer.0 in (
             longer.0,
-            subst (λ m. OutAs es options m (form options) (files_of all_sources readings) (rows_after (form options) false s.output ++ (rows_after (form options) some rows ++ longer.0))) all_many
-                (subst (λ fs. OutAs es options many (form options) fs (rows_after (form options) false s.output ++ (rows_after (form options) some rows ++ longer.0))) (regroup ∙ sym all_files)
-                (subst (OutAs es options many (form options) ((first ++ file ∷ []) ++ following)) (longer.1 ∙ with_parts) all)),
+            rw (← all_many)
+                (rw (regroup ∙ sym all_files) at
+                (rw (longer.1 ∙ with_parts) at all)),
           )
 
       -- a write failed within the output for this source
@@ -285,8 +285,8 @@ module _ (es : List Expression) (options : Options) (many : Bool) where
               first = s.messages;
               due_first = reported_before;
               text = s.messages ++ reported.0;
-              due = subst (λ fs. Messages es options fs (s.messages ++ reported.0)) (sym all_files) reported.1;
-              past = subst (λ w. TakesPast old.messages w s.messages (s.messages ++ reported.0)) (sym same) (TakesPast-all old.messages mid.messages s.messages reported.0 s.reported);
+              due = rw all_files reported.1;
+              past = rw same (TakesPast-all old.messages mid.messages s.messages reported.0 s.reported);
             };
           }
 
@@ -296,11 +296,11 @@ module _ (es : List Expression) (options : Options) (many : Bool) where
           elim (dec_stops es options file) [
             | yes here ↦ (
               [],
-              subst (λ fs. Messages es options fs ((s.messages ++ messages) ++ [])) (sym all_files) (subst (Messages es options (first ++ file ∷ following)) (sym (append-nil (s.messages ++ messages)))
+              rw all_files (rw (append-nil (s.messages ++ messages))
                   (Messages-reached es options (first ++ file ∷ following) (first ++ file ∷ []) (s.messages ++ messages) (Reached-stopped es options first following file s.goes_on here) both)),
             )
             | no goes ↦ (let more = Messages-front es options (first ++ file ∷ []) following (s.messages ++ messages) (none_more (Stops es options) first file s.goes_on goes) both in
-                (more.0, subst (λ fs. Messages es options fs ((s.messages ++ messages) ++ more.0)) (append_assoc first (file ∷ []) following ∙ sym all_files) more.1))
+                (more.0, rw (append_assoc first (file ∷ []) following ∙ sym all_files) at more.1))
           ]
         where
           both : Reported es options (first ++ file ∷ []) (s.messages ++ messages)
@@ -328,7 +328,7 @@ module _ (es : List Expression) (options : Options) (many : Bool) where
               first = s.messages;
               due_first = reported_before;
               text = s.messages ++ (messages ++ reported.0);
-              due = subst (Messages es options (files_of all_sources readings)) (append_assoc s.messages messages reported.0) reported.1;
+              due = rw (append_assoc s.messages messages reported.0) at reported.1;
               past = TakesPast-more old.messages mid.messages new.messages s.messages (messages ++ reported.0) s.reported (TakesFront-longer mid.messages new.messages messages reported.0 front_here);
             };
           }
@@ -354,17 +354,17 @@ module _ (es : List Expression) (options : Options) (many : Bool) where
               gave_back = join s.story.left (last ∷ []) s.story.gave_back gives;
               steps = spent new steps;
             };
-            in_file = subst (λ f. n ≤ length f.lines) (sym here) inside;
-            read = subst (λ src. HasRead src last (take n (file_at (files_of all_sources readings) (length before)).lines)) (sym listed_here) (subst (λ f. HasRead source last (take n f.lines)) (sym here) read);
+            in_file = rw here inside;
+            read = rw listed_here (rw here read);
             wrote = record {
               text = rows_after (form options) false (s.output ++ rows);
-              due = subst (λ m. OutAs es options m (form options) (take (length before) (files_of all_sources readings) ++ begun (form options) n (file_at (files_of all_sources readings) (length before))) (rows_after (form options) false (s.output ++ rows))) all_many
-                  (subst (λ fs. OutAs es options many (form options) (fs ++ begun (form options) n (file_at (files_of all_sources readings) (length before))) (rows_after (form options) false (s.output ++ rows))) (sym front)
-                  (subst (λ f. OutAs es options many (form options) (first ++ begun (form options) n f) (rows_after (form options) false (s.output ++ rows))) (sym here)
+              due = rw (← all_many)
+                  (rw front
+                  (rw here
                   (grouped_out es options many (form options) (first ++ begun (form options) n file) (s.output ++ rows) first_rows)));
               all = takes_both new.out rows took;
             };
-            reported = record { text = s.messages; due = reported_before; all = subst (λ w. TakesAll old.messages w s.messages) (sym same) s.reported };
+            reported = record { text = s.messages; due = reported_before; all = rw same s.reported };
           }
 
       -- under `-q` a line of this source is selected
@@ -373,9 +373,9 @@ module _ (es : List Expression) (options : Options) (many : Bool) where
           → new.source_failures ≡ count_more mid.source_failures own → (own_left : List (Option Text)) → AreLeft source r own_left → own_given own_left → SearchesLines options (length es) file.lines mid.steps new.steps → Finishes es options all_sources all_given old new selected
       finishes_here new end found rows messages own here is took reported_too reported are_own counted own_left is_left gives steps =
           let quiet_form : form options ≡ nothing = cond-true _ _ _ here.0 in
-          let none_out : (xs : List File) → GroupedAs es options many (form options) xs [] = λ xs. subst (λ shape. GroupedAs es options many shape xs []) (sym quiet_form) refl in
+          let none_out : (xs : List File) → GroupedAs es options many (form options) xs [] = λ xs. rw quiet_form refl in
           let grouped = GroupedAs-append es options many (form options) (first ++ file ∷ []) following (s.output ++ rows) [] (GroupedAs-append es options many (form options) first (file ∷ []) s.output rows s.is_output is) (none_out following) in
-          let output = grouped_out es options many (form options) ((first ++ file ∷ []) ++ following) (s.output ++ rows) (subst (GroupedAs es options many (form options) ((first ++ file ∷ []) ++ following)) (append-nil (s.output ++ rows)) grouped) in
+          let output = grouped_out es options many (form options) ((first ++ file ∷ []) ++ following) (s.output ++ rows) (rw (append-nil (s.output ++ rows)) at grouped) in
           let regroup : (first ++ file ∷ []) ++ following ≡ first ++ file ∷ following = append_assoc first (file ∷ []) following in
           let reached = Reached-stopped es options first following file s.goes_on here in
           let all_reported = Messages-reached es options (first ++ file ∷ following) (first ++ file ∷ []) (s.messages ++ messages) reached (Reported-append es options first (file ∷ []) s.messages messages s.are_reported reported_too) in
@@ -393,16 +393,16 @@ module _ (es : List Expression) (options : Options) (many : Bool) where
             };
             wrote = record {
               text = rows_after (form options) false (s.output ++ rows);
-              due = subst (λ m. OutAs es options m (form options) (files_of all_sources readings) (rows_after (form options) false (s.output ++ rows))) all_many
-                  (subst (λ fs. OutAs es options many (form options) fs (rows_after (form options) false (s.output ++ rows))) (regroup ∙ sym all_files) output);
+              due = rw (← all_many)
+                  (rw (regroup ∙ sym all_files) at output);
               all = takes_both new.out rows took;
             };
             reported = record {
               text = s.messages ++ messages;
-              due = subst (λ fs. Messages es options fs (s.messages ++ messages)) (sym all_files) all_reported;
+              due = rw all_files all_reported;
               all = TakesAll-more old.messages mid.messages new.messages s.messages messages s.reported reported;
             };
-            is_status = subst (λ fs. StatusOf es options fs selected) (sym all_files) (StatusOf-stopped es options first following file here.0 here.1);
+            is_status = rw all_files (StatusOf-stopped es options first following file here.0 here.1);
           }
 
     -- ---- the answers, for the sources as they are listed
@@ -413,26 +413,26 @@ module _ (es : List Expression) (options : Options) (many : Bool) where
 
       pub run_unwritten : BreaksSource es options many some source own_given mid.source_failures new.source_failures mid.out new.out mid.steps new.steps → new.messages ≡ mid.messages → BreaksOff es options sources all_given old new × (new.out.failures ≡ one_more old.out.failures) × (new.messages.failures ≡ old.messages.failures)
       run_unwritten b same = (
-        subst (λ l. BreaksOff es options l all_given old new) (sym cut) (breaks_out after many_here b.reading b.is_reading new b.rows b.are_rows b.wrote same b.failures b.steps),
+        rw cut (breaks_out after many_here b.reading b.is_reading new b.rows b.are_rows b.wrote same b.failures b.steps),
         b.counted ∙ ap one_more s.wrote.none_failed,
         ap (λ (w : Writer). w.failures) same ∙ s.reported.none_failed,
       )
 
       pub run_unreported : BreaksMessage es options many some source own_given mid new → BreaksOff es options sources all_given old new × (new.out.failures ≡ old.out.failures) × (new.messages.failures ≡ one_more old.messages.failures)
       run_unreported b = (
-        subst (λ l. BreaksOff es options l all_given old new) (sym cut) (breaks_reported after many_here b.reading b.is_reading new b.rows b.messages b.are_rows b.wrote b.are_messages b.reported b.failures b.steps),
+        rw cut (breaks_reported after many_here b.reading b.is_reading new b.rows b.messages b.are_rows b.wrote b.are_messages b.reported b.failures b.steps),
         b.wrote.none_failed ∙ s.wrote.none_failed,
         b.counted ∙ ap one_more s.reported.none_failed,
       )
 
       pub run_out_of_memory : (k n : ℕ) → k ≡ length before → StopsSource es options many some source own_given n mid.source_failures new.source_failures mid.out new.out mid.steps new.steps → new.messages ≡ mid.messages → StopsAfter es options sources all_given old new k n
       run_out_of_memory k n place b same =
-          subst (λ j. StopsAfter es options sources all_given old new j n) (sym place)
-          (subst (λ l. StopsAfter es options l all_given old new (length before) n) (sym cut) (stops after many_here b.reading b.is_reading new n b.rows b.rest b.in_file b.read b.are_rows b.wrote same b.none_failed b.gave_back b.steps))
+          rw place
+          (rw cut (stops after many_here b.reading b.is_reading new n b.rows b.rest b.in_file b.read b.are_rows b.wrote same b.none_failed b.gave_back b.steps))
 
       pub run_stopped : (end : FileEnd) (found : ℕ) → FinishesSource es options many some source own_given mid new end found → (options.quiet && nat_lt 0 found) ≡ true → Finishes es options sources all_given old new selected
       run_stopped end found f both =
-          subst (λ l. Finishes es options l all_given old new selected) (sym cut)
+          rw cut
           (finishes_here after many_here f.reading f.is_reading new end found f.rows f.messages f.failures.own (both_hold options.quiet (nat_lt 0 found) both f.some) f.are_rows f.wrote f.are_messages f.reported f.failures.are_own f.failures.counted f.failures.left f.failures.are_left f.failures.gave_back f.steps)
 
       -- the search of the source was given up
@@ -449,7 +449,7 @@ module _ (es : List Expression) (options : Options) (many : Bool) where
         story = s.story;
         wrote = record {
           text = rows_after (form options) false s.output;
-          due = subst (λ m. OutAs es options m (form options) files (rows_after (form options) false s.output)) (is_many ∙ ap (nat_le 2) (sym (length-files_of sources s.story.readings s.story.are_readings))) (grouped_out es options many (form options) files s.output s.is_output);
+          due = rw (is_many ∙ ap (nat_le 2) (sym (length-files_of sources s.story.readings s.story.are_readings))) at (grouped_out es options many (form options) files s.output s.is_output);
           all = s.wrote;
         };
         reported = record { text = s.messages; due = Messages-reached es options files files s.messages (Reached-all es options files s.goes_on) s.are_reported; all = s.reported };
@@ -479,9 +479,9 @@ module _ (es : List Expression) (options : Options) (many : Bool) where
         let next = run_next (take k sources) (source_at sources k) given own_given all_given join old mid some faulty s new end found f (ap (λ b. options.quiet && b) (sym here_is) ∙ goes) in
         let one : k + 1 ≡ suc k = omega arith in
         let longer : take (k + 1) sources ≡ take k sources ++ source_at sources k ∷ [] = ap (λ n. take n sources) one ∙ take-suc sources k (record { name = []; opens = None; bytes = None }) inside in
-        let verdicts = subst (λ b. RunSoFar (take k sources ++ source_at sources k ∷ []) all_given old new (some || b) (faulty || is_fault end)) (sym reported_is) next in
-        let both = subst (λ b. RunSoFar (take k sources ++ source_at sources k ∷ []) all_given old new (some || reported) (faulty || b)) (sym fault_is) verdicts in
-        subst (λ l. RunSoFar l all_given old new (some || reported) (faulty || fault)) (sym longer) both
+        let verdicts = rw (← reported_is) at next in
+        let both = rw (← fault_is) at verdicts in
+        rw longer both
 
     module _ (is_many : many ≡ nat_le 2 (length sources)) where
       -- under `-q` a line of it is selected
@@ -499,4 +499,4 @@ module _ (es : List Expression) (options : Options) (many : Bool) where
   pub run_ends : (sources : List Source) (given : List (Option Text) → Type 0) (k : ℕ) (old new : Devices) (some faulty : Bool) (status : Status) → many ≡ nat_le 2 (length sources) → length sources ≤ k → RunSoFar (take k sources) given old new some faulty → status ≡ status_by some faulty
       → RunGives es options sources given old new (Ok status)
   run_ends sources given k old new some faulty status is_many over s is =
-      subst (Finishes es options sources given old new) (sym is) (run_all sources given old new some faulty is_many (subst (λ l. RunSoFar l given old new some faulty) (take_all k sources over) s))
+      rw is (run_all sources given old new some faulty is_many (rw (take_all k sources over) at s))

@@ -46,7 +46,7 @@ module _ (P : Text → Type 0) (block : Text) (place : Span) (whole : IsBlock bl
   end_bytes = omega (arith, n.ends, n.starts, bytes_with n.before n.line)
 
   pub free_up_to : All HasNoNewline (n.before ++ n.line ∷ [])
-  free_up_to = first_free (n.before ++ n.line ∷ []) n.after (subst (All HasNoNewline) (n.divided ∙ sym (append_assoc n.before (n.line ∷ []) n.after)) (free_lines block whole))
+  free_up_to = first_free (n.before ++ n.line ∷ []) n.after (rw (n.divided ∙ sym (append_assoc n.before (n.line ∷ []) n.after)) at (free_lines block whole))
     where
       first_free : (xs ys : List Text) → All HasNoNewline (xs ++ ys) → All HasNoNewline xs
       first_free [] ys h = All-nil HasNoNewline
@@ -90,7 +90,7 @@ module _ (es : List Expression) (options : Options) (many : Bool) (name : Text) 
   rows_numbered asked number [] all = (refl, refl)
   rows_numbered asked number (l ∷ ls) all =
       let own : List Text = (head colon (name_shown many name) (shown_number options number) ++ l) ∷ [] in
-      let are : RowsOfSelected es options many (form options) name number l own = subst (λ shape. RowsOfSelected es options many shape name number l own) (sym asked) refl in
+      let are : RowsOfSelected es options many (form options) name number l own = rw asked refl in
       let selected = All-head (Selected es options) l ls all in
       (own, rows_selected options many name (number + 1) ls, true, length ls, inl (selected, are), decided_yes selected, rows_numbered asked (number + 1) ls (All-tail (Selected es options) l ls all), refl, (let long : length (l ∷ ls) ≡ length ls + 1 = omega arith in long))
 
@@ -107,12 +107,12 @@ module _ (es : List Expression) (options : Options) (many : Bool) (name : Text) 
   pub rows_matched : (number : ℕ) (before : List Text) (line : Text) (own : List Text) → All (λ l. ¬ Selected es options l) before → Selected es options line → (at : ℕ) → at ≡ number + length before → RowsOfSelected es options many (form options) name at line own
       → RowsOfLines es options many name number (before ++ line ∷ []) own 1
   rows_matched number before line own none selected at is are =
-      rows_one_more number before line [] own 0 true (rows_unselected number before none) (subst (λ n. RowsOfLine es options many name n line own) is (inl (selected, are))) (decided_yes selected)
+      rows_one_more number before line [] own 0 true (rows_unselected number before none) (rw (← is) (inl (selected, are))) (decided_yes selected)
 
   -- under `-v` those lines are selected, and the one after them is not
   pub rows_unmatched : (number : ℕ) (before rows : List Text) (line : Text) → RowsOfLines es options many name number before rows (length before) → ¬ Selected es options line → RowsOfLines es options many name number (before ++ line ∷ []) rows (length before)
   rows_unmatched number before rows line are out =
-      subst (λ r. RowsOfLines es options many name number (before ++ line ∷ []) r (length before)) (append-nil rows) (rows_one_more number before line rows [] (length before) false are (inr (out, refl)) (decided_no out))
+      rw (append-nil rows) at (rows_one_more number before line rows [] (length before) false are (inr (out, refl)) (decided_no out))
 
 -- bare rows are the lines with their newlines
 pub bare_bytes : (options : Options) (many : Bool) (name : Text) → IsBare options many → (number : ℕ) (ls : List Text) → written [] (rows_selected options many name number ls) ≡ terminated ls
@@ -157,11 +157,11 @@ bare_if false bare none is e = absurd (false≢true e)
 
 -- a stretch is divided as well for matchers that search for the same
 pub divided_kept : {old new : Sought} {stretch : SearchedBlock} {before all : List Text} → new ≡ old → IsDivided old stretch before all → IsDivided new stretch before all
-divided_kept {old} {new} {stretch} {before} {all} same d = subst (λ s. IsDivided s stretch before all) (sym same) d
+divided_kept {old} {new} {stretch} {before} {all} same d = rw same d
 
 -- its search took at most a step for each of its bytes and each expression, and passed no more bytes
 pub stretch_spent : {s : Sought} {stretch : SearchedBlock} {before all : List Text} (es ds : List Expression) (old new : Steps) → ds ≡ es → IsDivided s stretch before all → AddsAtMost (length ds * stretch.bytes) old new → AddsAtMost (length es * length (terminated all)) old new
-stretch_spent {s} {stretch} {before} {all} es ds old new same d few = subst (λ n. AddsAtMost (length es * n) old new) d.width (subst (λ fs. AddsAtMost (length fs * stretch.bytes) old new) same few)
+stretch_spent {s} {stretch} {before} {all} es ds old new same d few = rw d.width at (rw same at few)
 
 -- a stretch that ends with a line has one
 pub line_within : {s : Sought} {stretch : SearchedBlock} {before all : List Text} → IsDivided s stretch before all → is_some stretch.line ≡ true → 1 ≤ length all
@@ -197,8 +197,8 @@ module _ {s : Sought} {stretch : SearchedBlock} {before all : List Text} (d : Is
   within_next (Some l) (holds, is) = omega (arith, ap length is, length-append before (l.now ∷ []))
 
   free_next : (line : Option (Bor Text)) → MatchOption line (all ≡ before) (λ l. IsSought s l.now × (all ≡ before ++ l.now ∷ [])) → All HasNoNewline before
-  free_next None same = subst (All HasNoNewline) same d.free
-  free_next (Some l) (holds, is) = free_before before (l.now ∷ []) (subst (All HasNoNewline) is d.free)
+  free_next None same = rw same at d.free
+  free_next (Some l) (holds, is) = free_before before (l.now ∷ []) (rw is at d.free)
 
   pub before_within : length before ≤ stretch.count
   before_within = omega (arith, within_next stretch.line d.next, d.counted)
@@ -222,15 +222,15 @@ module _ {s : Sought} {stretch : SearchedBlock} {before all : List Text} (d : Is
   stretch_inverted es options same many name inverts number (inl empty) =
       let none : all ≡ [] = nil_from_length all (omega (arith, empty, d.counted)) in
       let none_before : before ≡ [] = nil_from_length before (omega (arith, empty, before_within)) in
-      ([], subst (λ ls. RowsOfLines es options many name number ls [] (length before)) (sym none) (refl, ap length none_before), d.bytes ∙ ap terminated none_before)
+      ([], rw none (refl, ap length none_before), d.bytes ∙ ap terminated none_before)
   stretch_inverted es options same many name inverts number (inr bare) =
       (rows_selected options many name number before, rest stretch.line d.next, d.bytes ∙ sym (bare_bytes options many name bare number before))
     where
       first : RowsOfLines es options many name number before (rows_selected options many name number before) (length before)
-      first = rows_numbered es options many name bare.asked number before (selected_unmatched es options inverts before (subst (λ t. All (λ line. ¬ IsSought t line) before) same d.none))
+      first = rows_numbered es options many name bare.asked number before (selected_unmatched es options inverts before (rw same at d.none))
 
       rest : (line : Option (Bor Text)) → MatchOption line (all ≡ before) (λ l. IsSought s l.now × (all ≡ before ++ l.now ∷ [])) → RowsOfLines es options many name number all (rows_selected options many name number before) (length before)
-      rest None is = subst (λ ls. RowsOfLines es options many name number ls (rows_selected options many name number before) (length before)) (sym is) first
+      rest None is = rw is first
       rest (Some l) (holds, is) =
-          subst (λ ls. RowsOfLines es options many name number ls (rows_selected options many name number before) (length before)) (sym is)
-          (rows_unmatched es options many name number before (rows_selected options many name number before) l.now first (unselected_matched es options inverts l.now (subst (λ t. IsSought t l.now) same holds)))
+          rw is
+          (rows_unmatched es options many name number before (rows_selected options many name number before) l.now first (unselected_matched es options inverts l.now (rw same at holds)))

@@ -1,5 +1,5 @@
 -- Which lines are shown around selected ones as a file has more lines, and what is shown of them.
-use Rattle.grep_core.proofs.Prelude.{◌≡◌, ℕ, zero, suc, ◌+◌, ◌-◌, ◌<◌, ◌≤◌, ◌⊎◌, List, [], ◌∷◌, ◌++◌, All, Option, length, inl, inr, refl, sym, subst, arith, enumerate_from, Text, Expression, Context, Options, IfHolds, EachGives, Selected, IsShown, BeginsGroup, Shows, cases_lt, length-append, get_or_append_left, get_or-append_right, get_or_push, All-get_or}
+use Rattle.grep_core.proofs.Prelude.{◌≡◌, ℕ, zero, suc, ◌+◌, ◌-◌, ◌<◌, ◌≤◌, ◌⊎◌, List, [], ◌∷◌, ◌++◌, All, Option, length, inl, inr, refl, arith, enumerate_from, Text, Expression, Context, Options, IfHolds, EachGives, Selected, IsShown, BeginsGroup, Shows, cases_lt, length-append, get_or_append_left, get_or-append_right, get_or_push, All-get_or}
 
 -- ---- lists made from numbered elements
 
@@ -35,7 +35,7 @@ module _ (es : List Expression) (options : Options) (context : Context) where
   shown_more lines more k h = record {
     place = h.place;
     on = omega (arith, h.on, length-append lines more);
-    selected = subst (Selected es options) (sym (get_or_append_left lines more [] h.place h.on)) h.selected;
+    selected = rw (get_or_append_left lines more [] h.place h.on) h.selected;
     before = h.before;
     after = h.after;
   }
@@ -46,12 +46,12 @@ module _ (es : List Expression) (options : Options) (context : Context) where
     | inl on ↦ record {
       place = h.place;
       on = on;
-      selected = subst (Selected es options) (get_or_append_left lines more [] h.place on) h.selected;
+      selected = rw (get_or_append_left lines more [] h.place on) at h.selected;
       before = h.before;
       after = h.after;
     }
     | inr out ↦ absurd (All-get_or (λ line. ¬ Selected es options line) more (h.place - length lines) [] (omega (arith, out, h.on, length-append lines more)) none
-        (subst (Selected es options) (get_or-append_right lines more (length lines) h.place [] refl out) h.selected))
+        (rw (get_or-append_right lines more (length lines) h.place [] refl out) at h.selected))
   ]
 
   -- what one more line shows is near it
@@ -60,7 +60,7 @@ module _ (es : List Expression) (options : Options) (context : Context) where
     | inl on ↦ inl (record {
       place = h.place;
       on = on;
-      selected = subst (Selected es options) (get_or_append_left lines (line ∷ []) [] h.place on) h.selected;
+      selected = rw (get_or_append_left lines (line ∷ []) [] h.place on) at h.selected;
       before = h.before;
       after = h.after;
     })
@@ -74,7 +74,7 @@ module _ (es : List Expression) (options : Options) (context : Context) where
   shown_near lines line k selected before after = record {
     place = length lines;
     on = omega (arith, length-append lines (line ∷ []));
-    selected = subst (Selected es options) (sym (get_or_push lines line [] (length lines) refl)) selected;
+    selected = rw (get_or_push lines line [] (length lines) refl) selected;
     before = before;
     after = after;
   }
@@ -87,7 +87,7 @@ module _ (es : List Expression) (options : Options) (context : Context) where
   -- where a group begins the line just before is not shown
   pub begins_at : (lines : List Text) (k j : ℕ) → BeginsGroup es options context lines k → k ≡ j + 1 → ¬ IsShown es options context lines j
   begins_at lines zero j h e = absurd (omega (arith, e))
-  begins_at lines (suc k) j h e = let same : k ≡ j = omega (arith, e) in subst (λ n. ¬ IsShown es options context lines n) same h
+  begins_at lines (suc k) j h e = let same : k ≡ j = omega (arith, e) in rw same at h
 
   -- groups begin alike where the lines before are shown alike
   pub begins_same : (lines others : List Text) (k : ℕ) → ((j : ℕ) → j < k → IsShown es options context others j → IsShown es options context lines j)

@@ -1,5 +1,5 @@
 -- The files of more sources, and how often the devices failed in them.
-use Rattle.grep_core.proofs.Prelude.{◌≡◌, ℕ, zero, suc, ◌+◌, List, [], ◌∷◌, ◌++◌, inl, inr, Option, refl, sym, ap, subst, ◌∙◌, length, Any, arith, append-nil, append_assoc, Expression, Options, one_more, IfHolds, FaultMet, Stops, Source, Reading, file_of, failures_of, AreLeft, files_of, AreReadings, FailuresMet, LeftMet, count_more, Returns, Text}
+use Rattle.grep_core.proofs.Prelude.{◌≡◌, ℕ, zero, suc, ◌+◌, List, [], ◌∷◌, ◌++◌, inl, inr, Option, refl, sym, ap, ◌∙◌, length, Any, arith, append-nil, append_assoc, Expression, Options, one_more, IfHolds, FaultMet, Stops, Source, Reading, file_of, failures_of, AreLeft, files_of, AreReadings, FailuresMet, LeftMet, count_more, Returns, Text}
 use Rattle.re_syntax.proofs.lemmas.Decisions.{Any-first, Any-later}
 use Rattle.grep_core.proofs.lemmas.Decided.{dec_stops}
 
@@ -33,7 +33,7 @@ module _ (es : List Expression) (options : Options) where
   -- how often the devices failed in sources at which a run does not stop, and in others after them
   pub FailuresMet-append : (xs ys : List Source) (rs ss : List Reading) (n m : ℕ) → AreReadings xs rs → (Any (Stops es options) (files_of xs rs) → ⊥) →
       FailuresMet es options xs rs n → FailuresMet es options ys ss m → FailuresMet es options (xs ++ ys) (rs ++ ss) (n + m)
-  FailuresMet-append [] ys [] ss n m h none f g = let none_failed : n ≡ 0 = f in let e : m ≡ n + m = omega arith in subst (FailuresMet es options ys ss) e g
+  FailuresMet-append [] ys [] ss n m h none f g = let none_failed : n ≡ 0 = f in let e : m ≡ n + m = omega arith in rw e at g
   FailuresMet-append [] ys (r ∷ rs) ss n m h none f g = absurd h
   FailuresMet-append (x ∷ xs) ys [] ss n m h none f g = absurd h
   FailuresMet-append (x ∷ xs) ys (r ∷ rs) ss n m h none f g =
@@ -69,7 +69,7 @@ module _ (es : List Expression) (options : Options) where
   -- what the readers of sources at which a run does not stop had left, and of others after them
   pub LeftMet-append : (xs ys : List Source) (rs ss : List Reading) (a b : List (Option Text)) → AreReadings xs rs → (Any (Stops es options) (files_of xs rs) → ⊥) →
       LeftMet es options xs rs a → LeftMet es options ys ss b → LeftMet es options (xs ++ ys) (rs ++ ss) (a ++ b)
-  LeftMet-append [] ys [] ss a b h none f g = subst (LeftMet es options ys ss) (ap (λ l. l ++ b) (sym f)) g
+  LeftMet-append [] ys [] ss a b h none f g = rw (ap (λ l. l ++ b) (sym f)) at g
   LeftMet-append [] ys (r ∷ rs) ss a b h none f g = absurd h
   LeftMet-append (x ∷ xs) ys [] ss a b h none f g = absurd h
   LeftMet-append (x ∷ xs) ys (r ∷ rs) ss a b h none f g =
@@ -106,8 +106,8 @@ module _ (es : List Expression) (options : Options) where
 module _ {S : Type 0} (returned_readers : S → List (Option Text) → Type 0) where
   -- none was
   pub gives_none : (state : S) → Returns returned_readers state state []
-  gives_none state before h = subst (returned_readers state) (sym (append-nil before)) h
+  gives_none state before h = rw (append-nil before) h
 
   -- some were, and then others
   pub gives_both : (old mid new : S) (a b : List (Option Text)) → Returns returned_readers old mid a → Returns returned_readers mid new b → Returns returned_readers old new (a ++ b)
-  gives_both old mid new a b f g before h = subst (returned_readers new) (append_assoc before a b) (g (before ++ a) (f before h))
+  gives_both old mid new a b f g before h = rw (append_assoc before a b) at (g (before ++ a) (f before h))

@@ -1,5 +1,5 @@
 -- One source is done: its summary and its message, after the rows of its lines.
-use Rattle.grep_core.proofs.Prelude.{◌≡◌, ℕ, Bool, true, false, Decides, IsTrue, List, [], ◌∷◌, ◌++◌, MatchBool, nat_le, length, refl, sym, ap, subst, ◌∙◌, inl, inr, Option, Result, Ok, Err, false≢true, cases_Bool, cond-true, cond-false, Text, lines_of, ended_lines_of, Expression, Options, FileEnd, Missing, Whole, Broken, Left, FileFound, RunFault, MessageWrite, SearchFault, one_more, EachGives, File, Ending, whole, broken, form, message, FaultMet, Message, Reported, Source, Reading, not_opened, fails_after, ends_after, most_lines, up_to_limit, file_of, Devices, Writer, TakesAll, TakesFront, rows_after, SearchGives, is_fault, ending_of, summary_as, reported_of, SearchesSource, StopsSource, FinishesSource, BreaksSource, BreaksMessage, EndsSource, SourceGives}
+use Rattle.grep_core.proofs.Prelude.{◌≡◌, ℕ, Bool, true, false, Decides, IsTrue, List, [], ◌∷◌, ◌++◌, MatchBool, nat_le, length, refl, sym, ap, ◌∙◌, inl, inr, Option, Result, Ok, Err, false≢true, cases_Bool, cond-true, cond-false, Text, lines_of, ended_lines_of, Expression, Options, FileEnd, Missing, Whole, Broken, Left, FileFound, RunFault, MessageWrite, SearchFault, one_more, EachGives, File, Ending, whole, broken, form, message, FaultMet, Message, Reported, Source, Reading, not_opened, fails_after, ends_after, most_lines, up_to_limit, file_of, Devices, Writer, TakesAll, TakesFront, rows_after, SearchGives, is_fault, ending_of, summary_as, reported_of, SearchesSource, FinishesSource, BreaksSource, BreaksMessage, EndsSource, SourceGives}
 use Rattle.re_search.specs.Meters.{Steps}
 use Rattle.grep_core.specs.declared.status.RunFault.TheVariants.{Write, Memory}
 use Rattle.grep_core.specs.declared.status.SearchFault.TheVariants as search_fault
@@ -39,14 +39,14 @@ module _ (es : List Expression) (options : Options) where
         → BreaksSource es options many shown source given before after old new began ended
     source_unwritten before after old mid new began ended s front failed =
         let summary = summary_as (form options) many source.name end found in
-        let front_here = subst (λ n. TakesFront mid new (summary_as (form options) many n end found)) named front in
+        let front_here = rw named at front in
         record {
           reading = s.reading;
           is_reading = s.is_reading;
           failures = s.failures;
           rows = s.rows ++ summary;
           are_rows = s.are_rows;
-          wrote = subst (TakesFront old new) (sym (after_summary (form options) shown many source.name end found s.rows)) (TakesFront-more old mid new (rows_after (form options) shown s.rows) summary s.wrote front_here);
+          wrote = rw (after_summary (form options) shown many source.name end found s.rows) (TakesFront-more old mid new (rows_after (form options) shown s.rows) summary s.wrote front_here);
           counted = failed ∙ ap one_more s.wrote.none_failed;
           steps = s.steps;
         }
@@ -58,8 +58,8 @@ module _ (es : List Expression) (options : Options) where
 
       all_out : TakesAll old.out new.out (rows_after (form options) shown (s.rows ++ summary))
       all_out =
-          subst (TakesAll old.out new.out) (sym (after_summary (form options) shown many source.name end found s.rows))
-          (TakesAll-more old.out mid new.out (rows_after (form options) shown s.rows) summary s.wrote (subst (λ n. TakesAll mid new.out (summary_as (form options) many n end found)) named took))
+          rw (after_summary (form options) shown many source.name end found s.rows)
+          (TakesAll-more old.out mid new.out (rows_after (form options) shown s.rows) summary s.wrote (rw named at took))
 
       reported_too : Reported es options (file_of source.name s.reading ∷ []) (reported_of options.no_messages end source.name)
       reported_too = file_reported end (file_of source.name s.reading) source.name (one_reported end (file_of source.name s.reading) source.name s.fault s.ends (file_named source.name s.reading))
@@ -77,7 +77,7 @@ module _ (es : List Expression) (options : Options) where
         wrote = all_out;
         messages = reported_of options.no_messages end source.name;
         are_messages = reported_too;
-        reported = subst (λ n. TakesAll old.messages new.messages (reported_of options.no_messages end n)) named reported;
+        reported = rw named at reported;
         steps = s.steps;
       }
 
@@ -92,7 +92,7 @@ module _ (es : List Expression) (options : Options) where
         wrote = all_out;
         messages = reported_of options.no_messages end source.name;
         are_messages = reported_too;
-        reported = subst (λ n. TakesFront old.messages new.messages (reported_of options.no_messages end n)) named reported;
+        reported = rw named at reported;
         counted = failed;
         steps = s.steps;
       }
@@ -101,17 +101,17 @@ module _ (es : List Expression) (options : Options) (many shown : Bool) (source 
   -- the source is done, by what its search gave and what was written after it
   source_ended : (found : Result FileFound SearchFault) (result : Result FileFound RunFault) → SearchGives es options many shown source given old.source_failures new.source_failures old.out mid old.steps new.steps found
       → EndsSource options many name k mid new.out old.messages new.messages found result → SourceGives es options many shown source given k old new result
-  source_ended (Ok found) (Ok same) s e = subst (λ (f : FileFound). FinishesSource es options many shown source given old new f.end f.selected) (sym e.0) (source_done es options many shown source given name named found.end found.selected old new mid s e.1 e.2)
+  source_ended (Ok found) (Ok same) s e = rw e.0 (source_done es options many shown source given name named found.end found.selected old new mid s e.1 e.2)
   source_ended (Ok found) (Err Write) s e = (source_unwritten es options many shown source given name named found.end found.selected old.source_failures new.source_failures old.out mid new.out old.steps new.steps s e.0 e.1, e.2)
   source_ended (Ok found) (Err MessageWrite) s e = source_unreported es options many shown source given name named found.end found.selected old new mid s e.0 e.1 e.2
   source_ended (Ok found) (Err (Memory at n)) s e = absurd e
   source_ended (Err search_fault.Write) result s e =
-      subst (SourceGives es options many shown source given k old new) (sym e.0) (subst (λ w. BreaksSource es options many shown source given old.source_failures new.source_failures old.out w old.steps new.steps) (sym e.1) s, e.2)
+      rw e.0 (rw e.1 s, e.2)
   source_ended (Err (search_fault.Memory n)) result s e =
-      subst (SourceGives es options many shown source given k old new) (sym e.0) (refl, subst (λ w. StopsSource es options many shown source given n old.source_failures new.source_failures old.out w old.steps new.steps) (sym e.1) s, e.2)
+      rw e.0 (refl, rw e.1 s, e.2)
 
   -- the same for the options of all sources, of which its own are a copy
   pub source_ended_as : (asked : Options) (all_many : Bool) → options ≡ asked → many ≡ all_many → (found : Result FileFound SearchFault) (result : Result FileFound RunFault)
       → SearchGives es options many shown source given old.source_failures new.source_failures old.out mid old.steps new.steps found → EndsSource options many name k mid new.out old.messages new.messages found result → SourceGives es asked all_many shown source given k old new result
   source_ended_as asked all_many same_options same_many found result s e =
-      subst (λ o. SourceGives es o all_many shown source given k old new result) same_options (subst (λ m. SourceGives es options m shown source given k old new result) same_many (source_ended found result s e))
+      rw same_options at (rw same_many at (source_ended found result s e))

@@ -1,6 +1,6 @@
 -- What is written at a line, where lines around selected ones are shown, and which lines wait after
 -- it.
-use Rattle.grep_core.proofs.Prelude.{◌≡◌, ℕ, zero, suc, ◌+◌, ◌-◌, ◌<◌, ◌≤◌, nat_lt, min, Bool, true, false, not, List, [], ◌∷◌, ◌++◌, Option, Result, Ok, Err, IfOk, length, take, drop, get_or, refl, sym, ap, ◌∙◌, subst, append-nil, append_assoc, arith, take-append-drop, if◌then◌else◌, IsErr, is_err, Text, Options, Progress, SearchFault, Writer, LastLines, BreaksShown, ShowGives, IsErrAnd, hyphen, output_line, written, GoesOut, StopsWithin, Writes, next_shown, after_line, with_waiting, last_of, row_with, rows_around, false≢true, ltb-true, ltb-false, length-drop, length_push, drop-drop, drop-append-le, drop_all, take_more, take_all}
+use Rattle.grep_core.proofs.Prelude.{◌≡◌, ℕ, zero, suc, ◌+◌, ◌-◌, ◌<◌, ◌≤◌, nat_lt, min, Bool, true, false, not, List, [], ◌∷◌, ◌++◌, Option, Result, Ok, Err, IfOk, length, take, drop, get_or, refl, sym, ap, ◌∙◌, append-nil, append_assoc, arith, take-append-drop, if◌then◌else◌, IsErr, is_err, Text, Options, Progress, SearchFault, Writer, LastLines, BreaksShown, ShowGives, IsErrAnd, hyphen, output_line, written, GoesOut, StopsWithin, Writes, next_shown, after_line, with_waiting, last_of, row_with, rows_around, false≢true, ltb-true, ltb-false, length-drop, length_push, drop-drop, drop-append-le, drop_all, take_more, take_all}
 use Rattle.grep_core.specs.declared.status.SearchFault.TheVariants.{Write}
 use Rattle.grep_core.proofs.lemmas.RowLemmas.{goes_nowhere, goes_on, stops_early, stops_later, writes_last}
 use Rattle.grep_core.proofs.lemmas.WriterLaws.{written-append}
@@ -84,7 +84,7 @@ module _ {W : Type 0} (contents : W → Option Text) (failures : W → ℕ) wher
     row_out more =
         let one : take (k + 1) rows ≡ take k rows ++ row ∷ [] = take_more rows k [] within ∙ ap (λ r. take k rows ++ r ∷ []) is in
         let bytes : written [] (take (k + 1) rows) ≡ written [] (take k rows) ++ output_line [] row = ap (written []) one ∙ written-append [] (take k rows) (row ∷ []) ∙ ap (λ t. written [] (take k rows) ++ t) (append-nil (output_line [] row)) in
-        subst (GoesOut contents failures a c) (sym bytes) (goes_on contents failures a b c (written [] (take k rows)) (output_line [] row) before more)
+        rw bytes (goes_on contents failures a b c (written [] (take k rows)) (output_line [] row) before more)
 
     -- a write failed in it
     pub row_stops : StopsWithin contents failures b c (output_line [] row) → StopsWithin contents failures a c (written [] rows)
@@ -92,13 +92,13 @@ module _ {W : Type 0} (contents : W → Option Text) (failures : W → ℕ) wher
         let one : take (k + 1) rows ≡ take k rows ++ row ∷ [] = take_more rows k [] within ∙ ap (λ r. take k rows ++ r ∷ []) is in
         let with_parts : rows ≡ take k rows ++ row ∷ drop (k + 1) rows = sym (take-append-drop (k + 1) rows) ∙ ap (λ t. t ++ drop (k + 1) rows) one ∙ append_assoc (take k rows) (row ∷ []) (drop (k + 1) rows) in
         let bytes : written [] rows ≡ written [] (take k rows) ++ (output_line [] row ++ written [] (drop (k + 1) rows)) = ap (written []) with_parts ∙ written-append [] (take k rows) (row ∷ drop (k + 1) rows) in
-        subst (StopsWithin contents failures a c) (sym bytes)
+        rw bytes
         (stops_later contents failures a b c (written [] (take k rows)) (output_line [] row ++ written [] (drop (k + 1) rows)) before
         (stops_early contents failures b c (output_line [] row) (written [] (drop (k + 1) rows)) stop))
 
   -- all rows
   pub rows_all_out : (a b : W) (rows : List Text) (k : ℕ) → length rows ≤ k → GoesOut contents failures a b (written [] (take k rows)) → GoesOut contents failures a b (written [] rows)
-  rows_all_out a b rows k all g = subst (λ rs. GoesOut contents failures a b (written [] rs)) (take_all k rows all) g
+  rows_all_out a b rows k all g = rw (take_all k rows all) at g
 
   -- what an error stops
   pub stops_err : {T E : Type 0} (a b : W) (bytes : Text) (r : Result T E) → IsErr r → StopsWithin contents failures a b bytes → Writes contents failures a b bytes r
@@ -114,7 +114,7 @@ module _ {W : Type 0} (contents : W → Option Text) (failures : W → ℕ) wher
     -- a write failed in the separator
     pub stops_between : (itself : Bool) (a b : W) → StopsWithin contents failures a b (written [] between) → StopsWithin contents failures a b (written [] (all_at itself))
     stops_between itself a b s =
-        subst (StopsWithin contents failures a b) (sym (written-append [] between (if itself then waiting ++ row ∷ [] else []))) (stops_early contents failures a b (written [] between) (written [] (if itself then waiting ++ row ∷ [] else [])) s)
+        rw (written-append [] between (if itself then waiting ++ row ∷ [] else [])) (stops_early contents failures a b (written [] between) (written [] (if itself then waiting ++ row ∷ [] else [])) s)
 
     bytes_at : written [] (all_at true) ≡ written [] between ++ (written [] waiting ++ output_line [] row)
     bytes_at =
@@ -123,18 +123,18 @@ module _ {W : Type 0} (contents : W → Option Text) (failures : W → ℕ) wher
     -- a write failed in the rows of the lines that wait
     pub stops_waiting : (itself : Bool) → itself ≡ true → (a b c : W) → GoesOut contents failures a b (written [] between) → StopsWithin contents failures b c (written [] waiting) → StopsWithin contents failures a c (written [] (all_at itself))
     stops_waiting itself e a b c g s =
-        subst (λ t. StopsWithin contents failures a c (written [] t)) (sym (ap all_at e)) (subst (StopsWithin contents failures a c) (sym bytes_at)
+        rw (ap all_at e) (rw bytes_at
         (stops_later contents failures a b c (written [] between) (written [] waiting ++ output_line [] row) g (stops_early contents failures b c (written [] waiting) (output_line [] row) s)))
 
     -- the line's row is the last
     pub row_last : {T E : Type 0} (itself : Bool) → itself ≡ true → (a b c d : W) (r : Result T E) → GoesOut contents failures a b (written [] between) → GoesOut contents failures b c (written [] waiting) → Writes contents failures c d (output_line [] row) r
         → Writes contents failures a d (written [] (all_at itself)) r
     row_last itself e a b c d r g h w =
-        subst (λ t. Writes contents failures a d (written [] t) r) (sym (ap all_at e)) (subst (λ t. Writes contents failures a d t r) (sym bytes_at)
+        rw (ap all_at e) (rw bytes_at
         (writes_last contents failures a b d (written [] between) (written [] waiting ++ output_line [] row) r g (writes_last contents failures b c d (written [] waiting) (output_line [] row) r h w)))
 
 -- a write failed in what is shown at a line, and that is returned
 pub breaks_shown : (options : Options) (many : Bool) (name : Text) (found : Bool) (number : ℕ) (line : Text) (p q : Progress) (recent held : LastLines) (old new : Writer) → {T : Type 0} → (r : Result T SearchFault) → IsErrAnd r (λ fault. fault ≡ Write)
     → BreaksShown options many name found number line p recent old new → ShowGives options many name found number line p q recent held old new r
 breaks_shown options many name found number line p q recent held old new {T} (Ok v) kept broke = absurd kept
-breaks_shown options many name found number line p q recent held old new {T} (Err fault) kept broke = subst (λ f. ShowGives options many name found number line {T = T} p q recent held old new (Err f)) (sym kept) broke
+breaks_shown options many name found number line p q recent held old new {T} (Err fault) kept broke = rw kept broke

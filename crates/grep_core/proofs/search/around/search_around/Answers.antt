@@ -1,4 +1,4 @@
-use Rattle.grep_core.proofs.Prelude.{Decides, ◌≡◌, ◌+◌, ◌≤◌, ◌∙◌, [], ◌∷◌, ◌++◌, true, length, length-append, append_assoc, take, refl, sym, ap, subst, arith, if◌then◌else◌, terminated, SearchesLines, Selected, writer, IsOneLineAndFew, LastLines, Text, Waits, Numbered, HasHanded, next_shown, last_of, IsNextOf, expressions_of}
+use Rattle.grep_core.proofs.Prelude.{Decides, ◌≡◌, ◌+◌, ◌≤◌, ◌∙◌, [], ◌∷◌, ◌++◌, true, length, length-append, append_assoc, take, refl, sym, ap, arith, if◌then◌else◌, terminated, SearchesLines, Selected, writer, IsOneLineAndFew, LastLines, Text, Numbered, HasHanded, next_shown, last_of, expressions_of}
 use Rattle.re_search.proofs.lemmas.KeptMatchers.{none_asked, same_over, same_sought}
 use Rattle.grep_io.proofs.lemmas.WindowLemmas.{none_in_nothing, few_after}
 use Rattle.grep_core.proofs.lemmas.WaitingRows.{if_kept}
@@ -32,16 +32,16 @@ at_selected g c =
     let forward = asked_forward c.lines.surroundings.progress.left w.options.invert_match count held.none in
     let kept = divided_kept (sym (same_sought i.same)) d in
     let unselected = unselected_before es w.options count forward before (before_within d) kept.none in
-    let waits = subst (λ ls. Waits ls c.lines.surroundings.progress c.wait.new.surroundings.progress c.lines.surroundings.recent c.wait.new.surroundings.recent) (before_lines d) (if_kept c.wait.result c.is_err.result c.is_err.ensures.value c.if-is_err.false c.wait.ensures) in
+    let waits = rw (before_lines d) at (if_kept c.wait.result c.is_err.result c.is_err.ensures.value c.if-is_err.false c.wait.ensures) in
     let line = c.in-Some.text.now in
     let (holds, is) = rw c.in-Some.is at kept.next in
     let some : 1 ≤ count = omega (arith, d.counted, ap length is, length-append before (line ∷ [])) in
     let reported = decided_yes (selected_matched es w.options (plain_if w.options.invert_match count forward some) line holds) in
-    let first = next_first c.lines.lines before (line ∷ []) (subst (IsNextOf c.lines.lines) is n) in
+    let first = next_first c.lines.lines before (line ∷ []) (rw is at n) in
     let (s, are) = followed_waiting i.limit i.so_far (handed_with first (before_free d) i.so_far.handed) unselected waits (unsearched_lines w.options (length es) before c.lines.meter) in
     let same : i.so_far.lines ++ all ≡ s.lines ++ line ∷ [] = ap (λ ls. i.so_far.lines ++ ls) is ∙ sym (append_assoc i.so_far.lines before (line ∷ [])) ∙ ap (λ ls. ls ++ line ∷ []) (sym are) in
-    let all_spent = subst (λ ls. SearchesLines w.options (length es) ls c.args.meter.now c.next_held-stretch.new.meter) same (searched_more_lines w.options (length es) i.so_far.lines all c.args.meter.now c.lines.meter c.next_held-stretch.new.meter i.so_far.steps spent) in
-    let next = subst (λ ls. HasHanded g.R.CountedRead.remaining g.R.CountedRead.failures reader (passed_state n d.free) ls) same (handed_with n d.free i.so_far.handed) in
+    let all_spent = rw same at (searched_more_lines w.options (length es) i.so_far.lines all c.args.meter.now c.lines.meter c.next_held-stretch.new.meter i.so_far.steps spent) in
+    let next = rw same at (handed_with n d.free i.so_far.handed) in
     (passed_state first (before_free d), s, same, next, all_spent, reported, some)
 
 -- the lines that are held were searched, and none of them is selected
@@ -58,11 +58,11 @@ held_searched g c =
     let forward = asked_forward c.lines.surroundings.progress.left w.options.invert_match count held.none in
     let kept = divided_kept (sym (same_sought i.same)) d in
     let unselected = unselected_before es w.options count forward before (before_within d) kept.none in
-    let waits = subst (λ ls. Waits ls c.lines.surroundings.progress c.wait.new.surroundings.progress c.lines.surroundings.recent c.wait.new.surroundings.recent) (before_lines d) (if_kept c.wait.result c.is_err.result c.is_err.ensures.value c.if-is_err.false c.wait.ensures) in
+    let waits = rw (before_lines d) at (if_kept c.wait.result c.is_err.result c.is_err.ensures.value c.if-is_err.false c.wait.ensures) in
     let is : all ≡ before = rw c.in_default.is at d.next in
     let now = c.pass-in-lines.new.self in
-    let passed = subst (λ ls. HasHanded g.R.CountedRead.remaining g.R.CountedRead.failures reader now (i.so_far.lines ++ ls)) is (handed_passed n d.free i.so_far.handed d.width c.pass-in-lines.ensures.passed) in
-    (followed_waiting i.limit i.so_far passed unselected waits (subst (λ ls. SearchesLines w.options (length es) ls c.lines.meter c.next_held-stretch.new.meter) is spent)).0
+    let passed = rw is at (handed_passed n d.free i.so_far.handed d.width c.pass-in-lines.ensures.passed) in
+    (followed_waiting i.limit i.so_far passed unselected waits (rw is at spent)).0
 
 -- buffered output was sent, and one more line was handed out
 next_line : (g : given.Over) (c : In-Ok-None g) (line : Text) → line ≡ c.take_next.new.lines.lines.line
@@ -74,13 +74,13 @@ next_line g c line is =
     let taken = rw c.in-Ok-None.field-0-is at c.in-Ok-None.ensures in
     let s = followed_sent p (TakesAll-written g.W.CountedWrite.contents g.W.CountedWrite.failures c.lines.out c.take_next.new.out [] (taken reader p.lines p.handed).2) in
     let (next, few, went, before) = taken reader s.lines s.handed in
-    (s, subst (λ l. HasHanded g.R.CountedRead.remaining g.R.CountedRead.failures reader c.take_next.new.lines (s.lines ++ l ∷ [])) (sym is) next, few)
+    (s, rw is next, few)
 
 pub lines-init : goal.lines-init
 lines-init g c = record {
   so_far = rw c.requires.none_done (followed_none c.requires.is_asked refl c.requires.none_ahead c.requires.still_open c.requires.none_numbered (ap (λ (h : LastLines). h.lines) c.requires.none_after));
   limit = ap (λ (h : LastLines). h.limit) c.requires.none_after;
-  few_held = subst IsOneLineAndFew (sym c.requires.none_ahead) none_in_nothing;
+  few_held = rw c.requires.none_ahead none_in_nothing;
   same = none_asked;
 }
 
@@ -122,25 +122,25 @@ returns-in_err-show_line-clause-given g c =
     let (mid, s, same, next, all_spent, reported, some) = at_selected g (goal.at.returns-in_err-show_line-clause-given g c).In-Some in
     let is_number : c.number-in-Some.result + c.next_held-stretch.result.count ≡ (passed_state n d.free).number = omega (arith, c.number-in-Some.ensures, d.counted) in
     followed_stops s c.in-Some.text.now next is_number reported all_spent
-    (few_after (terminated all) n.rest (subst IsOneLineAndFew n.ahead c.lines.invariant.few_held)) _ c.wait.new.surroundings.recent refl c.in_err-show_line.field-0.0 c.in_err-show_line.ensures c.from_residual.result c.from_residual.ensures.1
+    (few_after (terminated all) n.rest (rw n.ahead at c.lines.invariant.few_held)) _ c.wait.new.surroundings.recent refl c.in_err-show_line.field-0.0 c.in_err-show_line.ensures c.from_residual.result c.from_residual.ensures.1
 
 pub lines-preserved-in-Some : goal.lines-preserved-in-Some
 lines-preserved-in-Some g c =
     let reader = c.args.lines.now.lines.reader in
     let i = c.lines.invariant in
     let (before, all, d, n) = c.next_held-stretch.ensures.divided in
-    let waits = subst (λ ls. Waits ls c.lines.surroundings.progress c.wait.new.surroundings.progress c.lines.surroundings.recent c.wait.new.surroundings.recent) (before_lines d) (if_kept c.wait.result c.is_err.result c.is_err.ensures.value c.if-is_err.false c.wait.ensures) in
+    let waits = rw (before_lines d) at (if_kept c.wait.result c.is_err.result c.is_err.ensures.value c.if-is_err.false c.wait.ensures) in
     let line = c.in-Some.text.now in
     let (mid, s, same, next, all_spent, reported, some) = at_selected g (goal.at.lines-preserved-in-Some g c).In-Some in
     let now = c.pass.new.self in
-    let next = subst (λ ls. HasHanded g.R.CountedRead.remaining g.R.CountedRead.failures reader now ls) same (handed_passed n d.free i.so_far.handed d.width c.pass.ensures.passed) in
+    let next = rw same at (handed_passed n d.free i.so_far.handed d.width c.pass.ensures.passed) in
     let is_number : c.number-in-Some.result + c.next_held-stretch.result.count ≡ now.number = omega (arith, c.number-in-Some.ensures, d.counted, next.counted, i.so_far.handed.counted, ap length same, length-append i.so_far.lines all) in
     let shown = c.in_ok-show_line.ensures in
     let limit = waiting_limit waits i.limit in
     record {
       so_far = rw shown.goes_on (followed_line s line next is_number reported all_spent shown.wrote c.count_found-selected.ensures (shown.holds ∙ ap (λ n. if (next_shown c.wait.new.surroundings.progress true).itself then [] else last_of n (c.wait.new.surroundings.recent.lines ++ line ∷ [])) limit));
       limit = shown.same_limit ∙ limit;
-      few_held = few_after (take c.next_held-stretch.result.bytes c.lines.lines.lines.ahead) now.lines.ahead (subst IsOneLineAndFew c.pass.ensures.ahead i.few_held);
+      few_held = few_after (take c.next_held-stretch.result.bytes c.lines.lines.lines.ahead) now.lines.ahead (rw c.pass.ensures.ahead at i.few_held);
       same = same_over c.next_held-stretch.ensures.same i.same;
     }
 
@@ -151,7 +151,7 @@ lines-smaller-in-Some g c =
     let (before, all, d, n) = c.next_held-stretch.ensures.divided in
     let (mid, s, same, next, all_spent, reported, some) = at_selected g (goal.at.lines-smaller-in-Some g c).In-Some in
     let now = c.pass.new.self in
-    let next = subst (λ ls. HasHanded g.R.CountedRead.remaining g.R.CountedRead.failures reader now ls) same (handed_passed n d.free i.so_far.handed d.width c.pass.ensures.passed) in
+    let next = rw same at (handed_passed n d.free i.so_far.handed d.width c.pass.ensures.passed) in
     let is_number : c.number-in-Some.result + c.next_held-stretch.result.count ≡ now.number = omega (arith, c.number-in-Some.ensures, d.counted, next.counted, i.so_far.handed.counted, ap length same, length-append i.so_far.lines all) in
     omega (arith, is_number, some, next.few, next.counted, c.number-in-Some.ensures)
 
@@ -210,7 +210,7 @@ lines-preserved g c =
     let all_spent = searched_one_line c.args.request.now.options (length es) s.lines line _ _ _ s.steps once in
     let shown = c.in_ok-show_line-2.ensures in
     let (before, all, d, n) = held.divided in
-    let waits = subst (λ ls. Waits ls c.lines.surroundings.progress c.wait.new.surroundings.progress c.lines.surroundings.recent c.wait.new.surroundings.recent) (before_lines d) (if_kept c.wait.result c.is_err.result c.is_err.ensures.value c.if-is_err.false c.wait.ensures) in
+    let waits = rw (before_lines d) at (if_kept c.wait.result c.is_err.result c.is_err.ensures.value c.if-is_err.false c.wait.ensures) in
     let limit = waiting_limit waits i.limit in
     record {
       so_far = rw shown.goes_on (followed_line s line next c.number-number.ensures reported all_spent shown.wrote c.count_found-selected-in-lines.ensures (shown.holds ∙ ap (λ n. if (next_shown c.wait.new.surroundings.progress c.is_selected-found.result).itself then [] else last_of n (c.wait.new.surroundings.recent.lines ++ line ∷ [])) limit));

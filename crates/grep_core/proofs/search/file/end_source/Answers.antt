@@ -1,5 +1,4 @@
-use Rattle.grep_core.proofs.Prelude.{◌≡◌, ◌∙◌, Result, Err, refl, sym, ap, subst, FileFound, SearchFault, writer, EndsSource}
-use Rattle.grep_core.specs.declared.status.RunFault.TheVariants.{Write, Memory}
+use Rattle.grep_core.proofs.Prelude.{◌≡◌, ◌∙◌, Err, refl, ap, writer}
 use Rattle.grep_core.specs.declared.status.SearchFault.TheVariants as search_fault
 use Rattle.grep_core.proofs.lemmas.WrittenLemmas.{TakesAll-written, TakesFront-written}
 use Rattle.grep_core.proofs.search.file.end_source.Goals as goal
@@ -10,7 +9,7 @@ returns-in-Err-Write g c =
     let out = writer g.W.CountedWrite.contents g.W.CountedWrite.failures c.args.out.now in
     let messages = writer g.N.CountedWrite.contents g.N.CountedWrite.failures c.args.messages.now in
     let known : c.in-Err-Write.field-0 ≡ search_fault.Write = rw c.in-Err-Write.is at c.in-Err-Write.field-0-is in
-    subst (λ (found : Result FileFound SearchFault). EndsSource w.options w.many w.name.now c.args.place out out messages messages found (Err Write)) (sym (c.in-Err-Write.is ∙ ap Err known)) (refl, refl, refl)
+    rw (c.in-Err-Write.is ∙ ap Err known) (refl, refl, refl)
 
 pub returns-in-Err-Memory : goal.returns-in-Err-Memory
 returns-in-Err-Memory g c =
@@ -18,7 +17,7 @@ returns-in-Err-Memory g c =
     let out = writer g.W.CountedWrite.contents g.W.CountedWrite.failures c.args.out.now in
     let messages = writer g.N.CountedWrite.contents g.N.CountedWrite.failures c.args.messages.now in
     let known : c.in-Err-Memory.field-0 ≡ search_fault.Memory c.in-Err-Memory.lines = rw c.in-Err-Memory.is at c.in-Err-Memory.field-0-is in
-    subst (λ (found : Result FileFound SearchFault). EndsSource w.options w.many w.name.now c.args.place out out messages messages found (Err (Memory c.args.place c.in-Err-Memory.lines))) (sym (c.in-Err-Memory.is ∙ ap Err known)) (refl, refl, refl)
+    rw (c.in-Err-Memory.is ∙ ap Err known) (refl, refl, refl)
 
 pub returns-in-Err : goal.returns-in-Err
 returns-in-Err g c = rw c.in-Ok.is (TakesFront-written g.W.CountedWrite.contents g.W.CountedWrite.failures _ c.end_output.new.out _ c.in-Err.ensures, c.in-Err.ensures.counted, refl)

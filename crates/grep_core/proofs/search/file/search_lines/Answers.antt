@@ -1,4 +1,4 @@
-use Rattle.grep_core.proofs.Prelude.{◌∙◌, [], false, take, refl, sym, subst, arith, writer, IsOneLineAndFew, leaves_early, expressions_of}
+use Rattle.grep_core.proofs.Prelude.{◌∙◌, [], false, take, refl, sym, arith, writer, leaves_early, expressions_of}
 use Rattle.grep_io.proofs.lemmas.WindowLemmas.{none_in_nothing, few_after}
 use Rattle.re_search.proofs.lemmas.KeptMatchers.{none_asked, same_over, still_alike}
 use Rattle.grep_core.proofs.lemmas.WrittenLemmas.{TakesAll-written}
@@ -30,7 +30,7 @@ pub lines-init : goal.lines-init
 lines-init g c = record {
   so_far = searched_none (written_plain _ _ _ _ _ _ c.requires.plain [] [] (rows_none _ _ _ _ _)) refl c.requires.none_ahead c.requires.still_open c.requires.none_numbered;
   same = none_asked;
-  few_held = subst IsOneLineAndFew (sym c.requires.none_ahead) none_in_nothing;
+  few_held = rw c.requires.none_ahead none_in_nothing;
   is_early = c.leaves_early-early.ensures;
 }
 
@@ -64,7 +64,7 @@ lines-preserved-then-held g c =
     record {
       so_far = among g (goal.at.lines-preserved-then-held g c).Else-held-early;
       same = same_over c.write_held.ensures.same i.same;
-      few_held = few_after (take c.in_ok-held.held.bytes c.lines.lines.lines.ahead) c.pass.new.self.lines.ahead (subst IsOneLineAndFew c.pass.ensures.ahead i.few_held);
+      few_held = few_after (take c.in_ok-held.held.bytes c.lines.lines.lines.ahead) c.pass.new.self.lines.ahead (rw c.pass.ensures.ahead at i.few_held);
       is_early = i.is_early;
     }
 

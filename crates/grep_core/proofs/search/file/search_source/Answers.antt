@@ -1,4 +1,4 @@
-use Rattle.grep_core.proofs.Prelude.{◌+◌, [], ◌∷◌, Ok, refl, sym, ap, subst, ◌∙◌, Bor, Text, Numbered, Options, Missing, writer, devices, count_more, source_at, Returns, expressions_of, AreAlike}
+use Rattle.grep_core.proofs.Prelude.{◌+◌, [], Ok, refl, ap, ◌∙◌, Bor, Text, Numbered, Missing, writer, devices, count_more, source_at, Returns, expressions_of}
 use Rattle.grep_core.proofs.lemmas.SourceLaws.{gives_both}
 use Rattle.grep_core.proofs.lemmas.OpenedLemmas.{source_missing, source_unread, given_in}
 use Rattle.grep_core.proofs.lemmas.SummaryLemmas.{source_ended_as}
@@ -41,7 +41,7 @@ returns-clause-given g c =
     let new = devices (writer g.W.CountedWrite.contents g.W.CountedWrite.failures c.end_source-ended.new.out) (writer g.N.CountedWrite.contents g.N.CountedWrite.failures c.end_source-ended.new.messages) (g.S.Sources.failures c.close-2.new.self) c.search_opened-found.new.meter in
     let named = ap (λ (b : Bor Text). b.now) c.of_file-request.ensures.name ∙ c.name-2.ensures ∙ ap (λ l. (source_at l w.place).name) c.open.ensures.listed in
     let counted = c.close-2.ensures.counted ∙ (λ i. count_more (opened.3 i) (g.S.Reader.CountedRead.failures (c.into_reader.ensures i))) in
-    let gives = subst (λ rest. Returns g.S.Sources.returned_readers c.args.sources.now c.close-2.new.self (rest ∷ [])) (ap g.S.Reader.CountedRead.remaining c.into_reader.ensures)
+    let gives = rw (ap g.S.Reader.CountedRead.remaining c.into_reader.ensures) at
     (gives_both g.S.Sources.returned_readers c.args.sources.now c.open.new.self c.close-2.new.self [] _ c.open.ensures.none_back c.close-2.ensures.back) in
     let searched = given_in g.S.Reader.CountedRead.remaining g.S.Reader.CountedRead.failures es request.options request.many w.shown source (Returns g.S.Sources.returned_readers c.args.sources.now c.close-2.new.self) _ gives opened.0 c.in-Some.reader opened.1 opened.2 c.in-Ok.lines.lines (ap (λ (n : Numbered _). n.lines.reader) c.in-Ok.ensures.ok)
     request.name.now named start mid c.args.meter.now c.search_opened-found.new.meter (g.S.Sources.failures c.args.sources.now) (g.S.Sources.failures c.close-2.new.self) _ counted c.search_opened-found.result c.search_opened-found.ensures.given in
@@ -57,7 +57,7 @@ pub returns-clause-next : goal.returns-clause-next
 returns-clause-next g c = c.close-2.ensures.same_place (c.args.source.now.place + 1) c.open.ensures.next
 
 pub search_opened-found-requires-clause-alike : goal.search_opened-found-requires-clause-alike
-search_opened-found-requires-clause-alike g c = subst (λ (o : Options). AreAlike o.line_regexp c.args.matchers.now) (sym c.of_file-request.ensures.options) c.requires.alike
+search_opened-found-requires-clause-alike g c = rw c.of_file-request.ensures.options c.requires.alike
 
 pub search_opened-found-requires-clause-still_open : goal.search_opened-found-requires-clause-still_open
 search_opened-found-requires-clause-still_open g c = ap (λ (n : Numbered _). n.lines.stage) c.in-Ok.ensures.ok

@@ -1,4 +1,4 @@
-use Rattle.grep_core.proofs.Prelude.{◌≡◌, ◌+◌, ◌∷◌, ◌++◌, List, [], length, take, refl, sym, ap, ◌∙◌, subst, arith, append_assoc, length-append, All-nil, Text, lines_of, terminated, HasNoNewline, sought_of, Sought, IsSought}
+use Rattle.grep_core.proofs.Prelude.{◌≡◌, ◌+◌, ◌∷◌, ◌++◌, List, [], length, take, refl, sym, ap, ◌∙◌, arith, append_assoc, length-append, All-nil, Text, lines_of, terminated, HasNoNewline, sought_of, Sought, IsSought}
 use Rattle.re_search.proofs.lemmas.NextLines.{block_lines, free_lines}
 use Rattle.grep_io.proofs.lemmas.PassedLemmas.{count_block, count_lines}
 use Rattle.grep_core.proofs.lemmas.SearchedBlockLemmas.{lines_within, first_bytes, before_bytes, line_bytes, end_bytes, free_up_to, free_before}
@@ -64,7 +64,7 @@ returns-clause-divided g c =
         width = width;
         counted = omega (arith, many, length-append n.before (n.line ∷ []));
         none = n.passed;
-        next = (subst (IsSought s) (sym line) n.holds, ap (λ l. n.before ++ l ∷ []) (sym line));
+        next = (rw line n.holds, ap (λ l. n.before ++ l ∷ []) (sym line));
       },
       record {
         rest = terminated n.after ++ rest;

@@ -1,4 +1,4 @@
-use Rattle.grep_core.proofs.Prelude.{◌≡◌, ◌+◌, ◌++◌, None, Some, length, drop, ap, subst, arith, length-drop, lines_of, Sought, IsSought, sought_of, expressions_of, GoesOut}
+use Rattle.grep_core.proofs.Prelude.{◌≡◌, ◌+◌, ◌++◌, None, length, drop, ap, subst, arith, length-drop, lines_of, Sought, IsSought, sought_of, expressions_of}
 use Rattle.std.proofs.lemmas.List.{take_rest}
 use Rattle.re_search.specs.Working.Sought.{FindsSought}
 use Rattle.re_search.proofs.lemmas.KeptMatchers.{same_over, same_sought}
@@ -20,7 +20,7 @@ returns-in_default-clause-written g c =
     let (sent, runs, went) = i.writes in
     let none = subst (λ q. FindsSought q (lines_of (drop c.lines.start c.args.block.now)) None) (same_sought i.same) (rw take_rest at c.in_default.ensures.reported) in
     let (all, are, bytes, many) = runs_out (IsSought s) runs none in
-    (all, are, subst (GoesOut g.W.CountedWrite.contents g.W.CountedWrite.failures c.args.out.now c.push_all.new.out) bytes (goes_on g.W.CountedWrite.contents g.W.CountedWrite.failures c.args.out.now c.lines.out c.push_all.new.out sent _ went c.in_ok-push_all.ensures), many)
+    (all, are, rw bytes at (goes_on g.W.CountedWrite.contents g.W.CountedWrite.failures c.args.out.now c.lines.out c.push_all.new.out sent _ went c.in_ok-push_all.ensures), many)
 
 pub returns-in_err-run-clause-written : goal.returns-in_err-run-clause-written
 returns-in_err-run-clause-written g c =
@@ -48,7 +48,7 @@ lines-preserved g c =
     let at = c.in-Some.at in
     let many : length (expressions_of c.lines.matchers) ≡ n = ap length i.same.same_expressions in
     let within = (rw take_rest at c.in-Some.ensures.within).1 in
-    let next = subst (λ q. FindsSought q (lines_of (drop c.lines.start c.args.block.now)) (Some at)) (same_sought i.same) (rw take_rest at c.in-Some.ensures.reported) in
+    let next = rw (same_sought i.same) at (rw take_rest at c.in-Some.ensures.reported) in
     let (low, x, cut, more) = c.in_ok-run.ensures.ok in
     record {
       writes = (sent ++ x, runs_next (IsSought s) runs at within next c.in_ok-run.run' x low cut, goes_on g.W.CountedWrite.contents g.W.CountedWrite.failures c.args.out.now c.lines.out c.write_run.new.out sent x went more);

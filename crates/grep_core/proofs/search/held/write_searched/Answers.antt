@@ -1,4 +1,4 @@
-use Rattle.grep_core.proofs.Prelude.{◌≡◌, ◌+◌, ◌∷◌, [], length, refl, sym, ap, subst, arith, length-append, GoesOut, StopsWithin, RowsOfLines, StopsLines, expressions_of}
+use Rattle.grep_core.proofs.Prelude.{◌≡◌, ◌+◌, ◌∷◌, [], length, refl, ap, arith, length-append, StopsLines, expressions_of}
 use Rattle.grep_core.proofs.lemmas.CostLaws.{searched_bytes, searched_bytes_and_parts}
 use Rattle.grep_core.proofs.lemmas.OneLineLemmas.{unwritten}
 use Rattle.grep_core.proofs.lemmas.SearchedBlockLemmas.{rows_unselected, rows_matched, stretch_inverted, selected_matched, unselected_unmatched}
@@ -35,14 +35,14 @@ returns-then-request-clause-ok g c = λ before all d.
     let w = c.args.request.now in
     let es = expressions_of c.args.matchers.now in
     let (rows, are, bytes) = stretch_inverted d es w.options refl w.many w.name.now c.if-request.true (c.args.number + 1) (c.requires.bare c.if-request.true) in
-    record { rows = rows; are_rows = subst (RowsOfLines es w.options w.many w.name.now (c.args.number + 1) all rows) (sym d.many) are; wrote = TakesAll-written g.W.CountedWrite.contents g.W.CountedWrite.failures c.args.out.now c.push_all.new.out rows (subst (λ t. GoesOut g.W.CountedWrite.contents g.W.CountedWrite.failures c.args.out.now c.push_all.new.out t) bytes c.in_ok-push_all.ensures) }
+    record { rows = rows; are_rows = rw (← d.many) at are; wrote = TakesAll-written g.W.CountedWrite.contents g.W.CountedWrite.failures c.args.out.now c.push_all.new.out rows (rw bytes at c.in_ok-push_all.ensures) }
 
 pub returns-in_err-push_all-clause-err : goal.returns-in_err-push_all-clause-err
 returns-in_err-push_all-clause-err g c = λ before all d.
     let w = c.args.request.now in
     let es = expressions_of c.args.matchers.now in
     let (rows, are, bytes) = stretch_inverted d es w.options refl w.many w.name.now c.if-request.true (c.args.number + 1) (c.requires.bare c.if-request.true) in
-    let unsent = subst (λ t. StopsWithin g.W.CountedWrite.contents g.W.CountedWrite.failures c.args.out.now c.push_all.new.out t) bytes c.in_err-push_all.ensures in
+    let unsent = rw bytes at c.in_err-push_all.ensures in
     unwritten (StopsLines es w.options w.many w.name.now (c.args.number + 1) all _ _) c.from_residual.result c.from_residual.ensures.1 (record { rows = rows; found = length before; are_rows = are; wrote = TakesFront-written g.W.CountedWrite.contents g.W.CountedWrite.failures c.args.out.now c.push_all.new.out rows unsent; counted = unsent.counted })
 
 pub returns-clause-ok : goal.returns-clause-ok
