@@ -10,7 +10,7 @@ use Rattle.grep_core.proofs.lemmas.Decided.{dec_selected}
 -- what holds of the element at a place holds of some element
 any_at : {A : Type 0} (P : A → Type 0) (xs : List A) (k : ℕ) (d : A) → k < length xs → P (get_or xs k d) → Any P xs
 any_at P [] k d inside p = absurd (omega (arith, inside))
-any_at P (x ∷ xs) zero d inside p = Any-first P x xs p
+any_at P (x ∷ xs) zero d _ p = Any-first P x xs p
 any_at P (x ∷ xs) (suc k) d inside p = Any-later P x xs (any_at P xs k d (omega (arith, inside)) p)
 
 -- and what holds of some element holds of one at a place
@@ -24,12 +24,12 @@ place_of P (x ∷ xs) d some =
 
 -- where two lists joined are empty, both are
 pub first_empty : {A : Type 0} (xs ys : List A) → xs ++ ys ≡ [] → xs ≡ []
-first_empty [] ys e = refl
-first_empty (x ∷ xs) ys e = absurd (let no : ⊥ = cc in no)
+first_empty [] _ e = refl
+first_empty (x ∷ xs) ys e = absurd (cc)
 
 pub second_empty : {A : Type 0} (xs ys : List A) → xs ++ ys ≡ [] → ys ≡ []
-second_empty [] ys e = e
-second_empty (x ∷ xs) ys e = absurd (let no : ⊥ = cc in no)
+second_empty [] _ e = e
+second_empty (x ∷ xs) ys e = absurd (cc)
 
 -- where all elements together give nothing, each of them gives nothing
 nothing_at : (R : ℕ × Text → List Text → Type 0) (n : ℕ) (text : List Text) (k : ℕ) (out : List Text) → k < length text → EachGives R (enumerate_from n text) out → out ≡ [] → R (n + k, get_or text k []) []
@@ -56,7 +56,7 @@ module _ (es : List Expression) (options : Options) (context : Context) where
 
   -- whether a group begins at a place is decided
   dec_begins : (text : List Text) (k : ℕ) → Dec (BeginsGroup es options context text k)
-  dec_begins text zero = yes tt
+  dec_begins _ zero = yes tt
   dec_begins text (suc k) = dec_not (dec_shown text k)
 
   module _ (name : Option Text) where
@@ -77,7 +77,7 @@ module _ (es : List Expression) (options : Options) (context : Context) where
 
     -- and nothing else is
     Shows-determined : (number : Option ℕ) (text : List Text) (k : ℕ) (line : Text) (out more : List Text) → Shows es options context name number text k line out → Shows es options context name number text k line more → out ≡ more
-    Shows-determined number text k line out more a b =
+    Shows-determined _ _ k _ _ _ a b =
         IfHolds-both a b
         (λ p q. (let same : p.0 ≡ q.0 = IfHolds-both p.1 q.1 same_value same_value in
         IfHolds-both p.2 q.2 (λ c d. c ∙ ap (λ (row : Text). group_separator ∷ row ∷ []) same ∙ sym d) (λ c d. c ∙ ap (λ (row : Text). row ∷ []) same ∙ sym d)))
@@ -105,8 +105,8 @@ module _ (es : List Expression) (options : Options) (context : Context) where
           (enumerate_from 0 text) groups h
 
       -- a selected line is shown
-      pub groups_some : (text groups : List Text) → Groups es options context name shown_number text groups → Any (Selected es options) text → groups ≡ [] → ⊥
-      groups_some text groups h some nothing =
+      pub groups_some : {groups : List Text} (text : List Text) → Groups es options context name shown_number text groups → Any (Selected es options) text → groups ≡ [] → ⊥
+      groups_some {groups} text h some nothing =
           let at = place_of (Selected es options) text [] some in
           let first : 0 + at.0 ≡ at.0 = omega arith in
           let here : Shows es options context name (shown_number (at.0 + 1)) text at.0 (get_or text at.0 []) [] =
@@ -120,4 +120,4 @@ module _ (es : List Expression) (options : Options) (context : Context) where
           ]
         where
           some_row : {row : Text} {rows : List Text} → ◌≡◌ {A = List Text} [] (row ∷ rows) → ⊥
-          some_row e = let no : ⊥ = cc in no
+          some_row e = cc

@@ -1,6 +1,6 @@
 -- A search that shows lines around selected ones: what is written of a file's first lines, one more
 -- line at a time.
-use Rattle.grep_core.proofs.Prelude.{◌≡◌, ℕ, ◌+◌, ◌-◌, nat_lt, ◌<◌, ◌≤◌, ◌⊎◌, ◌↔◌, min, Bool, true, false, ◌&&◌, ◌||◌, IsTrue, Decides, List, [], ◌∷◌, ◌++◌, All, length, take, drop, inl, inr, refl, sym, ap, subst, ◌∙◌, append_assoc, arith, if◌then◌else◌, enumerate_from, Text, Expression, Context, Options, Progress, EachGives, Selected, group_separator, IsShown, BeginsGroup, Groups, around, shown_number, name_shown, rows_after, progress_from, next_shown, with_waiting, after_line, last_of, rows_around, row_by, rows_at, min-eq_left, min-eq_right, cases_lt, false≢true, lt-ltb, le-ltb, or_right, false_from_ne_true, length-append, length-take-le, length-drop, append-nil, take-append-drop, drop_at, All-nil, All-cons, All-append, All-drop}
+use Rattle.grep_core.proofs.Prelude.{AreUnselected, ◌≡◌, ℕ, ◌+◌, ◌-◌, nat_lt, ◌<◌, ◌≤◌, ◌⊎◌, ◌↔◌, min, Bool, true, false, ◌&&◌, ◌||◌, IsTrue, Decides, List, [], ◌∷◌, ◌++◌, length, take, drop, inl, inr, refl, sym, ap, subst, ◌∙◌, append_assoc, arith, if◌then◌else◌, enumerate_from, Text, Expression, Context, Options, Progress, EachGives, Selected, group_separator, IsShown, BeginsGroup, Groups, around, shown_number, name_shown, rows_after, progress_from, next_shown, with_waiting, after_line, last_of, rows_around, row_by, rows_at, min-eq_left, min-eq_right, cases_lt, false≢true, lt-ltb, le-ltb, or_right, false_from_ne_true, length-append, length-take-le, length-drop, append-nil, take-append-drop, drop_at, All-nil, All-cons, All-append, All-drop}
 use Rattle.grep_core.proofs.lemmas.ChooseLaws.{EachGives-append}
 use Rattle.grep_core.proofs.lemmas.Decided.{dec_selected}
 use Rattle.grep_core.proofs.lemmas.Verdicts.{decided_yes, decided_no}
@@ -21,7 +21,7 @@ module _ (es : List Expression) (options : Options) (many : Bool) (name : Text) 
     pub held : List Text
     pub with_parts : lines ≡ front ++ held
     pub many_held : length held ≡ p.waiting
-    pub none_held : All (λ line. ¬ Selected es options line) held
+    pub none_held : AreUnselected es options held
     pub kept : (k : ℕ) → length front ≤ k → k < length lines → ¬ IsShown es options context lines k
     pub missing : (k : ℕ) → k < length front → IsShown es options context lines k ⊎ (k + context.before < length lines)
     pub left : (d : ℕ) → (d < p.left) ↔ IsShown es options context lines (length lines + d)
@@ -43,7 +43,7 @@ module _ (es : List Expression) (options : Options) (many : Bool) (name : Text) 
     with_parts = refl;
     many_held = refl;
     none_held = All-nil (λ line. ¬ Selected es options line);
-    kept = λ k low high _. let bad : ⊥ = omega (arith, high) in bad;
+    kept = λ k low high _. omega (arith, high);
     missing = λ k below. absurd (omega (arith, below));
     left = λ d. ((λ below. absurd (omega (arith, below))), (λ s. absurd (omega (arith, s.on))));
     gap = ((λ _. tt), (λ _. refl));
@@ -55,23 +55,23 @@ module _ (es : List Expression) (options : Options) (many : Bool) (name : Text) 
   }
 
   -- lines that wait are the last of all
-  held_last : (p : Progress) (lines rows : List Text) (t : Tracks p lines rows) → last_of p.waiting lines ≡ t.held
-  held_last p lines rows t =
+  held_last : (p : Progress) {lines rows : List Text} (t : Tracks p lines rows) → last_of p.waiting lines ≡ t.held
+  held_last p {lines} t =
       let front_long : length t.front ≡ length lines - p.waiting = omega (arith, ap length t.with_parts, length-append t.front t.held, t.many_held) in
       ap (drop (length lines - p.waiting)) t.with_parts ∙ drop_at t.front t.held (length lines - p.waiting) front_long
 
   -- the rows of these are before that of the next line
-  rows_held : (p : Progress) (lines rows : List Text) (t : Tracks p lines rows) (row : Text)
+  rows_held : {p : Progress} {lines rows : List Text} (t : Tracks p lines rows) (row : Text)
       → rows_around options many name ((length lines + 1) - length (last_of p.waiting lines)) (last_of p.waiting lines) ++ row ∷ [] ≡ rows_around options many name (length t.front + 1) t.held ++ row ∷ []
-  rows_held p lines rows t row =
+  rows_held {p} {lines} t row =
       let number : (length lines + 1) - length t.held ≡ length t.front + 1 = omega (arith, ap length t.with_parts, length-append t.front t.held) in
-      ap (λ w. rows_around options many name ((length lines + 1) - length w) w ++ row ∷ []) (held_last p lines rows t)
+      ap (λ w. rows_around options many name ((length lines + 1) - length w) w ++ row ∷ []) (held_last p t)
       ∙ ap (λ n. rows_around options many name n t.held ++ row ∷ []) number
 
   -- the next line is selected
-  tracks_selected : (p : Progress) (lines rows : List Text) (line : Text) → Selected es options line → Tracks p lines rows
+  tracks_selected : (p : Progress) {lines rows : List Text} (line : Text) → Selected es options line → Tracks p lines rows
       → Tracks (after_line p true) (lines ++ line ∷ []) (rows ++ rows_at options many name true (next_shown p true) (last_of p.waiting lines) (length lines + 1) line)
-  tracks_selected p lines rows line selected t =
+  tracks_selected p {lines} {rows} line selected t =
       let all : List Text = lines ++ line ∷ [] in
       let one_more : length all ≡ length lines + 1 = length-append lines (line ∷ []) in
       let row : Text = row_by options many name true (length lines + 1) line in
@@ -81,7 +81,7 @@ module _ (es : List Expression) (options : Options) (many : Bool) (name : Text) 
       let few : p.waiting ≤ context.before = rw t.same_context at t.few in
       let back : (k : ℕ) → k < length t.front → IsShown es options context all k → IsShown es options context lines k = λ k below s. elim (t.missing k below) [
         | inl shown ↦ shown
-        | inr far ↦ elim (shown_cases es options context lines line k s) [ inl shown ↦ shown | inr near ↦ absurd (omega (arith, far, near.0)) ]
+        | inr far ↦ elim (shown_cases es options context lines line s) [ inl shown ↦ shown | inr near ↦ absurd (omega (arith, far, near.0)) ]
       ] in
       let near : (k : ℕ) → length t.front ≤ k → k ≤ length lines → IsShown es options context all k = λ k low high.
       shown_near es options context lines line k selected (omega (arith, low, long, few, t.many_held)) (omega (arith, high)) in
@@ -94,7 +94,7 @@ module _ (es : List Expression) (options : Options) (many : Bool) (name : Text) 
         with_parts = sym (append-nil all);
         many_held = refl;
         none_held = All-nil (λ line. ¬ Selected es options line);
-        kept = λ k low high _. let bad : ⊥ = omega (arith, low, high) in bad;
+        kept = λ k low high _. omega (arith, low, high);
         missing = λ k below. elim (cases_lt k (length t.front)) [
           | inl early ↦ elim (t.missing k early) [ inl shown ↦ inl (shown_more es options context lines (line ∷ []) k shown) | inr far ↦ inr (omega (arith, far, one_more)) ]
           | inr late ↦ inl (near k late (omega (arith, below, one_more)))
@@ -105,23 +105,23 @@ module _ (es : List Expression) (options : Options) (many : Bool) (name : Text) 
         );
         gap = ((λ e. absurd (false≢true e)), (λ b. absurd (begins_at es options context all (length all) (length lines) b one_more (near (length lines) (omega (arith, long)) (omega arith)))));
         groups = t.groups ++ (separator ++ written);
-        given = groups_grown es options many name context lines t.front t.held line row t.groups p.gap t.with_parts t.none_held t.given back near t.gap (inl (selected, refl));
-        written = ap (λ w. rows ++ ((if p.gap && p.shown then group_separator ∷ [] else []) ++ w)) (rows_held p lines rows t row)
+        given = groups_grown es options many name context t.front t.held line row t.groups t.with_parts t.none_held t.given back near t.gap (inl (selected, refl));
+        written = ap (λ w. rows ++ ((if p.gap && p.shown then group_separator ∷ [] else []) ++ w)) (rows_held t row)
             ∙ ap (λ r. r ++ ((if p.gap && p.shown then group_separator ∷ [] else []) ++ written)) t.written ∙ after_group context before p.gap p.shown t.groups written t.shown t.first;
         shown = ((λ _. inr (more_nonempty t.groups separator (rows_around options many name (length t.front + 1) t.held) row)), (λ _. refl));
         first = λ e. absurd (more_nonempty t.groups separator (rows_around options many name (length t.front + 1) t.held) row e);
       }
 
   -- the next line is not selected, and is shown after one that is
-  tracks_after : (p : Progress) (lines rows : List Text) (line : Text) → ¬ Selected es options line → 0 < p.left → Tracks p lines rows
+  tracks_after : (p : Progress) {lines rows : List Text} (line : Text) → ¬ Selected es options line → 0 < p.left → Tracks p lines rows
       → Tracks (record p { left = p.left - 1 }) (lines ++ line ∷ []) (rows ++ (rows_around options many name ((length lines + 1) - length (last_of p.waiting lines)) (last_of p.waiting lines) ++ row_by options many name false (length lines + 1) line ∷ []))
-  tracks_after p lines rows line passed some t =
+  tracks_after p {lines} {rows} line passed some t =
       let all : List Text = lines ++ line ∷ [] in
       let one_more : length all ≡ length lines + 1 = length-append lines (line ∷ []) in
       let row : Text = row_by options many name false (length lines + 1) line in
       let written : List Text = rows_around options many name (length t.front + 1) t.held ++ row ∷ [] in
       let long : length lines ≡ length t.front + length t.held = ap length t.with_parts ∙ length-append t.front t.held in
-      let none : All (λ l. ¬ Selected es options l) (line ∷ []) = All-cons (λ l. ¬ Selected es options l) line [] passed (All-nil (λ l. ¬ Selected es options l)) in
+      let none : AreUnselected es options (line ∷ []) = All-cons (λ l. ¬ Selected es options l) line [] passed (All-nil (λ l. ¬ Selected es options l)) in
       let here : IsShown es options context lines (length lines + 0) = (t.left 0).0 some in
       let here_on : here.place < length lines = here.on in
       let last_one : IsShown es options context lines (length lines - 1) = record { place = here.place; on = here.on; selected = here.selected; before = omega (arith, here_on); after = omega (arith, here.after) } in
@@ -146,7 +146,7 @@ module _ (es : List Expression) (options : Options) (many : Bool) (name : Text) 
         with_parts = sym (append-nil all);
         many_held = omega (arith, long, all_before, t.many_held);
         none_held = All-nil (λ l. ¬ Selected es options l);
-        kept = λ k low high _. let bad : ⊥ = omega (arith, low, high) in bad;
+        kept = λ k low high _. omega (arith, low, high);
         missing = λ k below. elim (cases_lt k (length t.front)) [
           | inl early ↦ elim (t.missing k early) [ inl shown ↦ inl (shown_more es options context lines (line ∷ []) k shown) | inr far ↦ inr (omega (arith, far, one_more)) ]
           | inr late ↦ inl (near k late (omega (arith, below, one_more)))
@@ -158,18 +158,18 @@ module _ (es : List Expression) (options : Options) (many : Bool) (name : Text) 
             );
         gap = ((λ e. absurd (false≢true (sym no_gap ∙ e))), (λ b. absurd (begins_not b)));
         groups = t.groups ++ group;
-        given = groups_grown es options many name context lines t.front t.held line row t.groups p.gap t.with_parts t.none_held t.given (λ k _ s. shown_passed es options context lines (line ∷ []) k none s) near t.gap (inr (passed, refl));
-        written = ap (λ w. rows ++ w) (rows_held p lines rows t row) ∙ ap (λ r. r ++ written) t.written ∙ ap (λ w. rows_after (around context) before t.groups ++ w) (sym ungapped)
+        given = groups_grown es options many name context t.front t.held line row t.groups t.with_parts t.none_held t.given (λ k _ s. shown_passed es options context lines (line ∷ []) k none s) near t.gap (inr (passed, refl));
+        written = ap (λ w. rows ++ w) (rows_held t row) ∙ ap (λ r. r ++ written) t.written ∙ ap (λ w. rows_after (around context) before t.groups ++ w) (sym ungapped)
             ∙ after_group context before p.gap p.shown t.groups written t.shown t.first;
         shown = ((λ _. inr (more_nonempty t.groups (if p.gap then group_separator ∷ [] else []) (rows_around options many name (length t.front + 1) t.held) row)), (λ _. t.shown.1 (inr some_before)));
         first = λ e. absurd (more_nonempty t.groups (if p.gap then group_separator ∷ [] else []) (rows_around options many name (length t.front + 1) t.held) row e);
       }
 
   -- lines that are not selected, and not shown after one that is, wait as far as they may
-  waits : (p : Progress) (lines rows passed : List Text) (gap : Bool) (n : ℕ) → All (λ line. ¬ Selected es options line) passed → p.left ≡ 0
+  waits : (p : Progress) {lines rows : List Text} (passed : List Text) (gap : Bool) (n : ℕ) → AreUnselected es options passed → p.left ≡ 0
       → ((p.waiting + length passed ≤ context.before) × (n ≡ p.waiting + length passed) × (gap ≡ p.gap)) ⊎ ((context.before < p.waiting + length passed) × (n ≡ context.before) × (gap ≡ true))
       → Tracks p lines rows → Tracks (record p { gap = gap; waiting = n }) (lines ++ passed) rows
-  waits p lines rows passed gap n none left_none step t =
+  waits p {lines} passed gap n none left_none step t =
       let all : List Text = lines ++ passed in
       let waiting : List Text = t.held ++ passed in
       let longer : length all ≡ length lines + length passed = length-append lines passed in
@@ -233,11 +233,11 @@ module _ (es : List Expression) (options : Options) (many : Bool) (name : Text) 
       }
 
   -- lines without a selected one were passed, where no line is shown any more after a selected one
-  pub tracks_passed : (p : Progress) (lines rows passed : List Text) → All (λ line. ¬ Selected es options line) passed → p.left ≡ 0 → Tracks p lines rows
+  pub tracks_passed : {p : Progress} {lines rows : List Text} (passed : List Text) → AreUnselected es options passed → p.left ≡ 0 → Tracks p lines rows
       → Tracks (with_waiting (length passed) p) (lines ++ passed) rows
-  tracks_passed p lines rows passed none left_none t =
+  tracks_passed {p} passed none left_none t =
       let room : p.context.before ≡ context.before = ap (λ (c : Context). c.before) t.same_context in
-      waits p lines rows passed (p.gap || nat_lt p.context.before (p.waiting + length passed)) (min (p.waiting + length passed) p.context.before) none left_none
+      waits p passed (p.gap || nat_lt p.context.before (p.waiting + length passed)) (min (p.waiting + length passed) p.context.before) none left_none
       (elim (cases_lt p.context.before (p.waiting + length passed)) [
         | inl over ↦ inr (omega (arith, over, room), min-eq_right (omega (arith, over)) ∙ room, or_right p.gap _ (lt-ltb _ _ over))
         | inr fits ↦ inl (omega (arith, fits, room), min-eq_left fits, ap (λ b. p.gap || b) (le-ltb _ _ fits) ∙ or_false p.gap)
@@ -248,28 +248,24 @@ module _ (es : List Expression) (options : Options) (many : Bool) (name : Text) 
       or_false false = refl
 
   -- the next line is not selected
-  tracks_unselected : (p : Progress) (lines rows : List Text) (line : Text) → ¬ Selected es options line → Tracks p lines rows
+  tracks_unselected : (p : Progress) {lines rows : List Text} (line : Text) → ¬ Selected es options line → Tracks p lines rows
       → Tracks (after_line p false) (lines ++ line ∷ []) (rows ++ rows_at options many name false (next_shown p false) (last_of p.waiting lines) (length lines + 1) line)
-  tracks_unselected p lines rows line passed t = elim (cases_lt 0 p.left) [
-    | inl some ↦ rw (lt-ltb 0 p.left some) (tracks_after p lines rows line passed some t)
+  tracks_unselected p {rows = rows} line passed t = elim (cases_lt 0 p.left) [
+    | inl some ↦ rw (lt-ltb 0 p.left some) (tracks_after p line passed some t)
     | inr none ↦ rw (le-ltb 0 p.left none) (rw (append-nil rows)
-        (tracks_passed p lines rows (line ∷ []) (All-cons (λ l. ¬ Selected es options l) line [] passed (All-nil (λ l. ¬ Selected es options l))) (omega (arith, none)) t))
+        (tracks_passed (line ∷ []) (All-cons (λ l. ¬ Selected es options l) line [] passed (All-nil (λ l. ¬ Selected es options l))) (omega (arith, none)) t))
   ]
-    where
-      after : Bool → Type 0
-      after some = Tracks (if some then record p { left = p.left - 1 } else with_waiting 1 p) (lines ++ line ∷ [])
-          (rows ++ ([] ++ (if some then rows_around options many name ((length lines + 1) - length (last_of p.waiting lines)) (last_of p.waiting lines) ++ row_by options many name false (length lines + 1) line ∷ [] else [])))
 
   -- the next line
-  pub tracks_line : (p : Progress) (lines rows : List Text) (line : Text) (selected : Bool) → Decides selected (Selected es options line) → Tracks p lines rows
+  pub tracks_line : (p : Progress) {rows : List Text} (lines : List Text) (line : Text) (selected : Bool) → Decides selected (Selected es options line) → Tracks p lines rows
       → Tracks (after_line p selected) (lines ++ line ∷ []) (rows ++ rows_at options many name selected (next_shown p selected) (last_of p.waiting lines) (length lines + 1) line)
-  tracks_line p lines rows line true reported t = tracks_selected p lines rows line (reported.0 refl) t
-  tracks_line p lines rows line false reported t = tracks_unselected p lines rows line (λ s. false≢true (reported.1 s)) t
+  tracks_line p lines line true reported t = tracks_selected p line (reported.0 refl) t
+  tracks_line p lines line false reported t = tracks_unselected p line (λ s. false≢true (reported.1 s)) t
 
   -- what was written of the lines is what is shown of them, as if the file ended there
-  pub tracked_groups : (p : Progress) (lines rows : List Text) → Tracks p lines rows
+  pub tracked_groups : {p : Progress} {lines rows : List Text} → Tracks p lines rows
       → (groups : List Text) × Groups es options context (name_shown many name) (shown_number options) lines groups × (rows ≡ rows_after (around context) before groups)
-  tracked_groups p lines rows t =
+  tracked_groups {p} {lines} t =
       let long : length lines ≡ length t.front + length t.held = ap length t.with_parts ∙ length-append t.front t.held in
       let rest = EachGives-placed_nothing (Given es options many name context lines) (length t.front) t.held (λ k x low high. inr (t.kept k low (omega (arith, high, long)), refl)) in
       let zeroed : 0 + length t.front ≡ length t.front = omega arith in
@@ -287,7 +283,7 @@ module _ (es : List Expression) (options : Options) (many : Bool) (name : Text) 
   tracks_further p lines rows [] t = (p, [], rw (append-nil lines) (rw (append-nil rows) t))
   tracks_further p lines rows (line ∷ more) t =
       let reported = decided (dec_selected es options line) in
-      let next = tracks_line p lines rows line reported.0 reported.1 t in
+      let next = tracks_line p lines line reported.0 reported.1 t in
       let written : List Text = rows_at options many name reported.0 (next_shown p reported.0) (last_of p.waiting lines) (length lines + 1) line in
       let rest = tracks_further (after_line p reported.0) (lines ++ line ∷ []) (rows ++ written) more next in
       (rest.0, written ++ rest.1, rw (append_assoc rows written rest.1) at (rw (append_assoc lines (line ∷ []) more) at rest.2))

@@ -50,8 +50,8 @@ pub holds_none : (h : LastLines) → length h.lines ≤ h.limit → h ≡ with_l
 holds_none h few = ap (λ ls. let r : LastLines = record { limit = h.limit; lines = ls } in r) (sym (ap (last_of h.limit) (append-nil h.lines) ∙ last_of-few h.limit h.lines few))
 
 -- one more
-pub holds_more : (h held now : LastLines) (done : List Text) (line : Text) → held ≡ with_lines h done → now ≡ with_lines held (line ∷ []) → now ≡ with_lines h (done ++ line ∷ [])
-holds_more h held now done line e is =
+pub holds_more : {held now : LastLines} (h : LastLines) (done : List Text) (line : Text) → held ≡ with_lines h done → now ≡ with_lines held (line ∷ []) → now ≡ with_lines h (done ++ line ∷ [])
+holds_more h done line e is =
     is ∙ ap (λ (x : LastLines). with_lines x (line ∷ [])) e
     ∙ ap (λ ls. let r : LastLines = record { limit = h.limit; lines = ls } in r) (last_of-again h.limit (h.lines ++ done) (line ∷ []) ∙ ap (last_of h.limit) (append_assoc h.lines done (line ∷ [])))
 
@@ -117,8 +117,8 @@ module _ (block : Text) (h : IsBlock block) where
   begins_all k most is below = block_is ∙ ap terminated (sym (last_of-few most lines (omega (arith, few_lines k (sym is), below))))
 
   -- the last `most` lines were looked at
-  pub begins_last : (start most : ℕ) → start ≡ from_last most → drop start block ≡ terminated (last_of most lines)
-  begins_last start most is =
+  pub begins_last : {start : ℕ} (most : ℕ) → start ≡ from_last most → drop start block ≡ terminated (last_of most lines)
+  begins_last {start} most is =
       let m = length lines - most in
       let with_parts : block ≡ terminated (take m lines) ++ terminated (drop m lines) = block_is ∙ ap terminated (sym (take-append-drop m lines)) ∙ terminated-append (take m lines) (drop m lines) in
       ap (drop start) with_parts ∙ ap (λ n. drop n (terminated (take m lines) ++ terminated (drop m lines))) is ∙ drop-append_seam (terminated (take m lines)) (terminated (drop m lines))

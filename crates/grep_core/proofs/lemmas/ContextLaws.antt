@@ -6,12 +6,12 @@ abbrev form_by : Bool → Bool → Bool → Bool → Bool → Form → Form
 form_by quiet listed counted only inverted rows = if quiet then nothing else if listed then names else if counted then counts else if only && inverted then nothing else if only then parts else rows
 
 form_apart : (quiet listed counted only inverted : Bool) (a b : Form) → IsTrue (quiet || (listed || (counted || only))) → form_by quiet listed counted only inverted a ≡ form_by quiet listed counted only inverted b
-form_apart true listed counted only inverted a b some = refl
-form_apart false true counted only inverted a b some = refl
-form_apart false false true only inverted a b some = refl
-form_apart false false false true true a b some = refl
-form_apart false false false true false a b some = refl
-form_apart false false false false inverted a b some = absurd (false≢true some)
+form_apart true _ _ _ _ a b _ = refl
+form_apart false true _ _ _ a b _ = refl
+form_apart false false true _ _ a b _ = refl
+form_apart false false false true true a b _ = refl
+form_apart false false false true false a b _ = refl
+form_apart false false false false _ a b some = absurd (false≢true some)
 
 -- where lines are asked for without those around them, nothing else asks for these
 is_around : Form → Bool
@@ -20,23 +20,23 @@ is_around _ = false
 
 form_alone : (quiet listed counted only inverted : Bool) → is_around (form_by quiet listed counted only inverted lines) ≡ false
 unfolding is_around
-form_alone true listed counted only inverted = refl
-form_alone false true counted only inverted = refl
-form_alone false false true only inverted = refl
+form_alone true _ _ _ _ = refl
+form_alone false true _ _ _ = refl
+form_alone false false true _ _ = refl
 form_alone false false false true true = refl
 form_alone false false false true false = refl
-form_alone false false false false inverted = refl
+form_alone false false false false _ = refl
 
 -- in each other form the output rests on other options than the context
 out_apart : (es : List Expression) (options : Options) (context : Option Context) (many : Bool) (shape : Form) (files : List File) (out : List Text) → is_around shape ≡ false
     → OutAs es (record options { context = context }) many shape files out → OutAs es options many shape files out
 unfolding is_around
-out_apart es options context many nothing files out other h = h
-out_apart es options context many names files out other h = h
-out_apart es options context many counts files out other h = h
-out_apart es options context many parts files out other h = h
-out_apart es options context many lines files out other h = h
-out_apart es options context many (around c) files out other h = absurd (false≢true (sym other))
+out_apart _ _ _ _ nothing _ _ _ h = h
+out_apart _ _ _ _ names _ _ _ h = h
+out_apart _ _ _ _ counts _ _ _ h = h
+out_apart _ _ _ _ parts _ _ _ h = h
+out_apart _ _ _ _ lines _ _ _ h = h
+out_apart _ _ _ _ (around c) _ _ other h = absurd (false≢true (sym other))
 
 -- where one of these options is set, the output is the same with any context
 context_ignored : (es : List Expression) (options : Options) (context : Option Context) (files : List File) (out : List Text)

@@ -8,17 +8,17 @@ use Rattle.grep_core.proofs.lemmas.AroundLaws.{Groups-determined}
 module _ (es : List Expression) (options : Options) (many : Bool) where
   -- a file has at most one count
   pub CountOf-determined : (file : File) (ending : Ending) (out more : List Text) → CountOf es options many ending file out → CountOf es options many ending file more → out ≡ more
-  CountOf-determined file missing out more a b = same_value a b
-  CountOf-determined file whole out more a b = a.2 ∙ ap (λ s. (prefix colon (shown_name many file) ++ decimal (length s)) ∷ []) (Chosen-determined _ _ a.0 b.0 a.1 b.1) ∙ sym b.2
-  CountOf-determined file broken out more a b = a.2 ∙ ap (λ s. (prefix colon (shown_name many file) ++ decimal (length s)) ∷ []) (Chosen-determined _ _ a.0 b.0 a.1 b.1) ∙ sym b.2
+  CountOf-determined _ missing _ _ a b = same_value a b
+  CountOf-determined file whole _ _ a b = a.2 ∙ ap (λ s. (prefix colon (shown_name many file) ++ decimal (length s)) ∷ []) (Chosen-determined _ _ a.0 b.0 a.1 b.1) ∙ sym b.2
+  CountOf-determined file broken _ _ a b = a.2 ∙ ap (λ s. (prefix colon (shown_name many file) ++ decimal (length s)) ∷ []) (Chosen-determined _ _ a.0 b.0 a.1 b.1) ∙ sym b.2
 
   -- a file has at most one list of rows
   pub RowsOf-determined : (file : File) (out more : List Text) → RowsOf es options many file out → RowsOf es options many file more → out ≡ more
-  RowsOf-determined file out more a b = a.2 ∙ ap (map (λ line. head_of es options many file line.0 ++ line.1)) (Chosen-determined _ _ a.0 b.0 a.1 b.1) ∙ sym b.2
+  RowsOf-determined file _ _ a b = a.2 ∙ ap (map (λ line. head_of es options many file line.0 ++ line.1)) (Chosen-determined _ _ a.0 b.0 a.1 b.1) ∙ sym b.2
 
   -- a line has at most one list of rows of its parts
   pub PartsOfLine-determined : (file : File) (line : ℕ × Text) (out more : List Text) → PartsOfLine es options many file line out → PartsOfLine es options many file line more → out ≡ more
-  PartsOfLine-determined file line out more a b =
+  PartsOfLine-determined file line _ _ a b =
       a.2 ∙ ap (map (λ p. head_of es options many file line.0 ++ slice_range line.1 p.0 p.1)) (ArePartsFrom-unique es line.1 options.line_regexp a.0 b.0 0 a.1 b.1) ∙ sym b.2
 
   -- a file has at most one list of rows of its parts
@@ -30,12 +30,12 @@ module _ (es : List Expression) (options : Options) (many : Bool) where
 
   -- files have at most one output in each form
   pub OutAs-determined : (shape : Form) (files : List File) (out more : List Text) → OutAs es options many shape files out → OutAs es options many shape files more → out ≡ more
-  OutAs-determined nothing files out more a b = same_value a b
-  OutAs-determined names files out more a b = a.2 ∙ ap (map (λ file. file.name)) (Chosen-determined _ _ a.0 b.0 a.1 b.1) ∙ sym b.2
+  OutAs-determined nothing _ _ _ a b = same_value a b
+  OutAs-determined names _ _ _ a b = a.2 ∙ ap (map (λ file. file.name)) (Chosen-determined _ _ a.0 b.0 a.1 b.1) ∙ sym b.2
   OutAs-determined counts files out more a b = EachGives-determined _ (λ file. CountOf-determined file file.ending) files out more a b
   OutAs-determined parts files out more a b = EachGives-determined _ PartRowsOf-determined files out more a b
   OutAs-determined lines files out more a b = EachGives-determined _ RowsOf-determined files out more a b
-  OutAs-determined (around context) files out more a b =
+  OutAs-determined (around context) files _ _ a b =
       let groups : a.0 ≡ b.0 = EachGives-determined (GroupsOf es options many context) (λ file. Groups-determined es options context (shown_name many file) (shown_number options) file.lines) files a.0 b.0 a.1 b.1 in
       a.2 ∙ ap (drop 1) groups ∙ sym b.2
 
@@ -53,7 +53,7 @@ module _ (es : List Expression) (options : Options) where
 
   -- a file has at most one list of messages about it
   pub Message-determined : (file : File) (reported more : List Text) → Message es options file reported → Message es options file more → reported ≡ more
-  Message-determined file reported more a b = IfHolds-both a b same_value same_value
+  Message-determined _ _ _ a b = IfHolds-both a b same_value same_value
 
   -- files have at most one list of messages
   pub Messages-determined : (files : List File) (reported more : List Text) → Messages es options files reported → Messages es options files more → reported ≡ more
@@ -71,4 +71,4 @@ module _ (es : List Expression) (options : Options) where
 
   -- there is at most one status
   pub StatusOf-determined : (files : List File) (s t : Status) → StatusOf es options files s → StatusOf es options files t → s ≡ t
-  StatusOf-determined files s t a b = IfHolds-both a b same_value (λ c d. IfHolds-both c d same_value (λ e f. IfHolds-both e f same_value same_value))
+  StatusOf-determined _ s t a b = IfHolds-both a b same_value (λ c d. IfHolds-both c d same_value (λ e f. IfHolds-both e f same_value same_value))

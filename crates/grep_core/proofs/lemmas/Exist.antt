@@ -14,7 +14,7 @@ module _ (es : List Expression) (options : Options) (many : Bool) where
 
   -- a file has its count
   pub CountOf-exist : (ending : Ending) (file : File) → (out : List Text) × CountOf es options many ending file out
-  CountOf-exist missing file = ([], refl)
+  CountOf-exist missing _ = ([], refl)
   CountOf-exist whole file = let ls = SelectedLines-exist file in ((prefix colon (shown_name many file) ++ decimal (length ls.0)) ∷ [], (ls.0, ls.1, refl))
   CountOf-exist broken file = let ls = SelectedLines-exist file in ((prefix colon (shown_name many file) ++ decimal (length ls.0)) ∷ [], (ls.0, ls.1, refl))
 
@@ -41,7 +41,7 @@ module _ (es : List Expression) (options : Options) (many : Bool) where
 
   -- files have an output in each form
   pub OutAs-exist : (shape : Form) (files : List File) → (out : List Text) × OutAs es options many shape files out
-  OutAs-exist nothing files = ([], refl)
+  OutAs-exist nothing _ = ([], refl)
   OutAs-exist names files = let fs = Chosen-exist _ (dec_has_selected es options) files in (map (λ file. file.name) fs.0, (fs.0, fs.1, refl))
   OutAs-exist counts files = EachGives-exist _ (λ file. CountOf-exist file.ending file) files
   OutAs-exist parts files = EachGives-exist _ PartRowsOf-exist files

@@ -25,11 +25,11 @@ IsMeant-determined syntax fold text d e p q =
 
 -- patterns mean at most one list of expressions
 pub means_one : (syntax : Syntax) (options : Options) → MeansOne syntax options
-means_one syntax options [] [] [] p q = refl
-means_one syntax options [] [] (e ∷ es) p q = absurd q
-means_one syntax options [] (d ∷ ds) es p q = absurd p
-means_one syntax options (text ∷ texts) [] es p q = absurd p
-means_one syntax options (text ∷ texts) (d ∷ ds) [] p q = absurd q
+means_one _ _ [] [] [] p q = refl
+means_one _ _ [] [] (e ∷ es) p q = absurd q
+means_one _ _ [] (d ∷ ds) _ p q = absurd p
+means_one _ _ (text ∷ texts) [] _ p q = absurd p
+means_one _ _ (text ∷ texts) (d ∷ ds) [] p q = absurd q
 means_one syntax options (text ∷ texts) (d ∷ ds) (e ∷ es) p q =
     let first : d ≡ e = IsMeant-determined syntax options.ignore_case text d e p.0 q.0 in
     let rest : ds ≡ es = means_one syntax options texts ds es p.1 q.1 in

@@ -4,9 +4,9 @@ use Rattle.re_search.proofs.lemmas.ReadingLaws.{refused_unreadable}
 
 -- two lists, element by element, joined
 pub AllZip-append : {X Y : Type 0} (P : X → Y → Type 0) (xs vs : List X) (ys ws : List Y) → AllZip P xs ys → AllZip P vs ws → AllZip P (xs ++ vs) (ys ++ ws)
-AllZip-append P [] vs [] ws h k = k
-AllZip-append P [] vs (y ∷ ys) ws h k = absurd h
-AllZip-append P (x ∷ xs) vs [] ws h k = absurd h
+AllZip-append P [] _ [] _ h k = k
+AllZip-append P [] _ (y ∷ ys) _ h k = absurd h
+AllZip-append P (x ∷ xs) _ [] _ h k = absurd h
 AllZip-append P (x ∷ xs) vs (y ∷ ys) ws h k = (h.0, AllZip-append P xs vs ys ws h.1 k)
 
 -- what is after the elements of a list

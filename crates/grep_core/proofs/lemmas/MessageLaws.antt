@@ -7,7 +7,7 @@ use Rattle.grep_core.proofs.lemmas.Exist.{Reached-exist, Message-exist}
 module _ (es : List Expression) (options : Options) where
   -- after files at which a run does not stop, the files that are reached follow
   pub Reached-after : (front rest reached : List File) → (Any (Stops es options) front → ⊥) → Reached es options rest reached → Reached es options (front ++ rest) (front ++ reached)
-  Reached-after [] rest reached none r = r
+  Reached-after [] _ _ none r = r
   Reached-after (file ∷ front) rest reached none r =
       (front ++ reached, refl, inr ((λ s. none (Any-first (Stops es options) file front s)), Reached-after front rest reached (λ a. none (Any-later (Stops es options) file front a)) r))
 

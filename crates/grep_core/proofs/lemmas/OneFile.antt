@@ -11,9 +11,9 @@ not_whole name ls =
 
 -- a source that stands for a whole file did not fail
 pub whole-failures : (name : Text) (r : Reading) → (file_of name r).ending ≡ whole → failures_of r ≡ 0
-whole-failures name not_opened e = absurd (let no : ⊥ = cc in no)
-whole-failures name (fails_after bytes) e = let is = not_whole name (ended_lines_of bytes) in absurd (let no : ⊥ = cc in no)
-whole-failures name (ends_after bytes) e = refl
+whole-failures name not_opened e = absurd (cc)
+whole-failures name (fails_after bytes) e = let is = not_whole name (ended_lines_of bytes) in absurd (cc)
+whole-failures _ (ends_after bytes) e = refl
 
 -- ---- a file that was left
 

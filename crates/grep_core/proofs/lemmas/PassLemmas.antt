@@ -27,4 +27,4 @@ pub or_decides : {P Q : Type 0} (a b : Bool) → Decides a P → Decides b Q →
 or_decides true b p q f g none = ((λ _. f (p.0 refl)), (λ _. refl))
 or_decides false true p q f g none = ((λ _. g (q.0 refl)), (λ _. refl))
 or_decides false false p q f g none =
-    ((λ e. absurd (let no : ⊥ = cc in no)), (λ s. absurd (none s (λ x. let e = p.1 x in let no : ⊥ = cc in no) (λ y. let e = q.1 y in let no : ⊥ = cc in no))))
+    ((λ e. absurd (cc)), (λ s. absurd (none s (λ x. let e = p.1 x in cc) (λ y. let e = q.1 y in cc))))

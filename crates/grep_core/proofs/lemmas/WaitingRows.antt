@@ -1,14 +1,14 @@
 -- What is written at a line, where lines around selected ones are shown, and which lines wait after
 -- it.
-use Rattle.grep_core.proofs.Prelude.{◌≡◌, ℕ, zero, suc, ◌+◌, ◌-◌, ◌<◌, ◌≤◌, nat_lt, min, Bool, true, false, not, List, [], ◌∷◌, ◌++◌, Option, Result, Ok, Err, IfOk, length, take, drop, get_or, refl, sym, ap, ◌∙◌, append-nil, append_assoc, arith, take-append-drop, if◌then◌else◌, IsErr, is_err, Text, Options, Progress, SearchFault, Writer, LastLines, BreaksShown, ShowGives, IsErrAnd, hyphen, output_line, written, GoesOut, StopsWithin, Writes, next_shown, after_line, with_waiting, last_of, row_with, rows_around, false≢true, ltb-true, ltb-false, length-drop, length_push, drop-drop, drop-append-le, drop_all, take_more, take_all}
+use Rattle.grep_core.proofs.Prelude.{◌≡◌, ℕ, zero, suc, ◌+◌, ◌-◌, ◌<◌, ◌≤◌, nat_lt, min, Bool, true, false, not, List, [], ◌∷◌, ◌++◌, Option, Result, Ok, Err, IfOk, length, take, drop, get_or, refl, sym, ap, ◌∙◌, append-nil, append_assoc, arith, take-append-drop, if◌then◌else◌, is_err, Text, Options, Progress, SearchFault, Writer, LastLines, BreaksShown, ShowGives, IsErrAnd, hyphen, output_line, written, GoesOut, StopsWithin, Writes, next_shown, after_line, with_waiting, last_of, row_with, rows_around, false≢true, ltb-true, ltb-false, length-drop, length_push, drop-drop, drop-append-le, drop_all, take_more}
 use Rattle.grep_core.specs.declared.status.SearchFault.TheVariants.{Write}
-use Rattle.grep_core.proofs.lemmas.RowLemmas.{goes_nowhere, goes_on, stops_early, stops_later, writes_last}
+use Rattle.grep_core.proofs.lemmas.RowLemmas.{goes_on, stops_early, stops_later, writes_last}
 use Rattle.grep_core.proofs.lemmas.WriterLaws.{written-append}
 
 -- what holds at an Ok
-pub if_kept : {T E P : Type 0} (r : Result T E) (refused : Bool) → refused ≡ is_err r → refused ≡ false → IfOk r (λ _. P) → P
-if_kept (Ok v) refused e none h = h
-if_kept (Err x) refused e none h = absurd (false≢true (sym none ∙ e))
+pub if_kept : {T E P : Type 0} (r : Result T E) {refused : Bool} → refused ≡ is_err r → refused ≡ false → IfOk r (λ _. P) → P
+if_kept (Ok v) e none h = h
+if_kept (Err x) e none h = absurd (false≢true (sym none ∙ e))
 
 -- a Bool that does not fail to hold
 pub holds_too : (b : Bool) → not b ≡ false → b ≡ true
@@ -48,7 +48,7 @@ pub waits_not_next : (p : Progress) (selected : Bool) → WaitsNot p → WaitsNo
 waits_not_next p true h = λ _. refl
 waits_not_next p false h = waits_not_by p (nat_lt 0 p.left) refl h
 
-module _ (p : Progress) (lines : List Text) (line : Text) (recent new : List Text) (held : recent ≡ last_of p.waiting lines) (few : p.waiting ≤ p.context.before) (within : p.waiting ≤ length lines) (apart : WaitsNot p) where
+module _ (p : Progress) (lines : List Text) (line : Text) {recent new : List Text} (held : recent ≡ last_of p.waiting lines) (few : p.waiting ≤ p.context.before) (within : p.waiting ≤ length lines) (apart : WaitsNot p) where
   held_by : (more : Bool) → nat_lt 0 p.left ≡ more → new ≡ (if more then [] else last_of p.context.before (recent ++ line ∷ []))
       → new ≡ last_of (let q : Progress = if more then record p { left = p.left - 1 } else with_waiting 1 p in q.waiting) (lines ++ line ∷ [])
   held_by true e is = is ∙ sym (last_of-none (lines ++ line ∷ [])) ∙ ap (λ n. last_of n (lines ++ line ∷ [])) (sym (apart (ltb-true 0 p.left e)))
@@ -63,7 +63,7 @@ module _ (p : Progress) (lines : List Text) (line : Text) (recent new : List Tex
 
 module _ (options : Options) (many : Bool) (name : Text) where
   pub length_rows : (first : ℕ) (xs : List Text) → length (rows_around options many name first xs) ≡ length xs
-  length_rows first [] = refl
+  length_rows _ [] = refl
   length_rows first (x ∷ xs) = ap suc (length_rows (first + 1) xs)
 
   pub row_at : (first : ℕ) (xs : List Text) (k : ℕ) → k < length xs → get_or (rows_around options many name first xs) k [] ≡ row_with options many name hyphen (first + k) (get_or xs k [])
@@ -74,11 +74,7 @@ module _ (options : Options) (many : Bool) (name : Text) where
       row_at (first + 1) xs k (omega (arith, h)) ∙ ap (λ n. row_with options many name hyphen n (get_or xs k [])) e
 
 module _ {W : Type 0} (contents : W → Option Text) (failures : W → ℕ) where
-  -- no row yet
-  pub rows_none_out : (a : W) (rows : List Text) → GoesOut contents failures a a (written [] (take 0 rows))
-  rows_none_out a rows = goes_nowhere contents failures a
-
-  module _ (a b c : W) (rows : List Text) (k : ℕ) (within : k < length rows) (row : Text) (is : get_or rows k [] ≡ row) (before : GoesOut contents failures a b (written [] (take k rows))) where
+  module _ {a b c : W} (rows : List Text) (k : ℕ) (within : k < length rows) {row : Text} (is : get_or rows k [] ≡ row) (before : GoesOut contents failures a b (written [] (take k rows))) where
     -- one row more
     pub row_out : GoesOut contents failures b c (output_line [] row) → GoesOut contents failures a c (written [] (take (k + 1) rows))
     row_out more =
@@ -96,15 +92,6 @@ module _ {W : Type 0} (contents : W → Option Text) (failures : W → ℕ) wher
         (stops_later contents failures a b c (written [] (take k rows)) (output_line [] row ++ written [] (drop (k + 1) rows)) before
         (stops_early contents failures b c (output_line [] row) (written [] (drop (k + 1) rows)) stop))
 
-  -- all rows
-  pub rows_all_out : (a b : W) (rows : List Text) (k : ℕ) → length rows ≤ k → GoesOut contents failures a b (written [] (take k rows)) → GoesOut contents failures a b (written [] rows)
-  rows_all_out a b rows k all g = rw (take_all k rows all) at g
-
-  -- what an error stops
-  pub stops_err : {T E : Type 0} (a b : W) (bytes : Text) (r : Result T E) → IsErr r → StopsWithin contents failures a b bytes → Writes contents failures a b bytes r
-  stops_err a b bytes (Ok v) is s = absurd (false≢true is)
-  stops_err a b bytes (Err e) is s = s
-
   -- ---- what is written at a line
 
   module _ (between waiting : List Text) (row : Text) where
@@ -112,8 +99,8 @@ module _ {W : Type 0} (contents : W → Option Text) (failures : W → ℕ) wher
     all_at itself = between ++ (if itself then waiting ++ row ∷ [] else [])
 
     -- a write failed in the separator
-    pub stops_between : (itself : Bool) (a b : W) → StopsWithin contents failures a b (written [] between) → StopsWithin contents failures a b (written [] (all_at itself))
-    stops_between itself a b s =
+    pub stops_between : (itself : Bool) {a b : W} → StopsWithin contents failures a b (written [] between) → StopsWithin contents failures a b (written [] (all_at itself))
+    stops_between itself {a} {b} s =
         rw (written-append [] between (if itself then waiting ++ row ∷ [] else [])) (stops_early contents failures a b (written [] between) (written [] (if itself then waiting ++ row ∷ [] else [])) s)
 
     bytes_at : written [] (all_at true) ≡ written [] between ++ (written [] waiting ++ output_line [] row)
@@ -121,20 +108,20 @@ module _ {W : Type 0} (contents : W → Option Text) (failures : W → ℕ) wher
         written-append [] between (waiting ++ row ∷ []) ∙ ap (λ t. written [] between ++ t) (written-append [] waiting (row ∷ []) ∙ ap (λ t. written [] waiting ++ t) (append-nil (output_line [] row)))
 
     -- a write failed in the rows of the lines that wait
-    pub stops_waiting : (itself : Bool) → itself ≡ true → (a b c : W) → GoesOut contents failures a b (written [] between) → StopsWithin contents failures b c (written [] waiting) → StopsWithin contents failures a c (written [] (all_at itself))
-    stops_waiting itself e a b c g s =
+    pub stops_waiting : {itself : Bool} → itself ≡ true → {a b c : W} → GoesOut contents failures a b (written [] between) → StopsWithin contents failures b c (written [] waiting) → StopsWithin contents failures a c (written [] (all_at itself))
+    stops_waiting e {a} {b} {c} g s =
         rw (ap all_at e) (rw bytes_at
         (stops_later contents failures a b c (written [] between) (written [] waiting ++ output_line [] row) g (stops_early contents failures b c (written [] waiting) (output_line [] row) s)))
 
     -- the line's row is the last
-    pub row_last : {T E : Type 0} (itself : Bool) → itself ≡ true → (a b c d : W) (r : Result T E) → GoesOut contents failures a b (written [] between) → GoesOut contents failures b c (written [] waiting) → Writes contents failures c d (output_line [] row) r
+    pub row_last : {T E : Type 0} {itself : Bool} → itself ≡ true → {a b c : W} (d : W) (r : Result T E) → GoesOut contents failures a b (written [] between) → GoesOut contents failures b c (written [] waiting) → Writes contents failures c d (output_line [] row) r
         → Writes contents failures a d (written [] (all_at itself)) r
-    row_last itself e a b c d r g h w =
+    row_last e {a} {b} {c} d r g h w =
         rw (ap all_at e) (rw bytes_at
         (writes_last contents failures a b d (written [] between) (written [] waiting ++ output_line [] row) r g (writes_last contents failures b c d (written [] waiting) (output_line [] row) r h w)))
 
 -- a write failed in what is shown at a line, and that is returned
 pub breaks_shown : (options : Options) (many : Bool) (name : Text) (found : Bool) (number : ℕ) (line : Text) (p q : Progress) (recent held : LastLines) (old new : Writer) → {T : Type 0} → (r : Result T SearchFault) → IsErrAnd r (λ fault. fault ≡ Write)
     → BreaksShown options many name found number line p recent old new → ShowGives options many name found number line p q recent held old new r
-breaks_shown options many name found number line p q recent held old new {T} (Ok v) kept broke = absurd kept
+breaks_shown _ _ _ _ _ _ p q _ _ _ _ {T} (Ok v) kept _ = absurd kept
 breaks_shown options many name found number line p q recent held old new {T} (Err fault) kept broke = rw kept broke

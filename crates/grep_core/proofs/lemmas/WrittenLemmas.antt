@@ -21,11 +21,12 @@ module _ {W : Type 0} (contents : W → Option Text) (failures : W → ℕ) wher
   stops_in_margin a b margin text s =
       rw (append_assoc margin text (newline ∷ [])) (stops_early contents failures a b margin (text ++ newline ∷ []) s)
 
+module _ {W : Type 0} {contents : W → Option Text} {failures : W → ℕ} where
   -- lines without a margin
-  pub TakesAll-written : (a b : W) (text : List Text) → GoesOut contents failures a b (written [] text) → TakesAll (writer contents failures a) (writer contents failures b) text
-  TakesAll-written a b text g = record { written_all = g.written; none_failed = g.none_failed }
+  pub TakesAll-written : {a b : W} (text : List Text) → GoesOut contents failures a b (written [] text) → TakesAll (writer contents failures a) (writer contents failures b) text
+  TakesAll-written _ g = record { written_all = g.written; none_failed = g.none_failed }
 
-  pub TakesFront-written : (a b : W) (text : List Text) → StopsWithin contents failures a b (written [] text) → TakesFront (writer contents failures a) (writer contents failures b) text
-  TakesFront-written a b text s = record { front = s.front; rest = s.rest; cut = s.cut; written_front = s.written }
+  pub TakesFront-written : {a b : W} (text : List Text) → StopsWithin contents failures a b (written [] text) → TakesFront (writer contents failures a) (writer contents failures b) text
+  TakesFront-written _ s = record { front = s.front; rest = s.rest; cut = s.cut; written_front = s.written }
 
 pub ruleset as_written = (writes_no_line, writes_one_line, writes_after_margin, stops_in_margin)

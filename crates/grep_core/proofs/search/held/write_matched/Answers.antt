@@ -3,15 +3,16 @@ use Rattle.std.proofs.lemmas.List.{take_rest}
 use Rattle.re_search.specs.Working.Sought.{FindsSought}
 use Rattle.re_search.proofs.lemmas.KeptMatchers.{same_over, same_sought}
 use Rattle.grep_core.proofs.lemmas.RowLemmas.{goes_on}
-use Rattle.grep_core.proofs.lemmas.MatchedLemmas.{runs_next, runs_out, run_stops, stopped_result, steps_for_more, steps_within}
+use Rattle.grep_core.proofs.lemmas.OneLineLemmas.{is_err}
+use Rattle.grep_core.proofs.lemmas.MatchedLemmas.{runs_next, runs_out, run_stops, steps_for_more, steps_within}
 use Rattle.grep_core.proofs.search.held.write_matched.Goals as goal
 
 pub returns-in_err-push_all-clause-written : goal.returns-in_err-push_all-clause-written
 returns-in_err-push_all-clause-written g c =
     let s : Sought = sought_of c.args.whole c.args.matchers.now in
     let (sent, runs, went) = c.lines.invariant.writes in
-    stopped_result g.W.CountedWrite.contents g.W.CountedWrite.failures s c.args.block.now c.args.out.now c.push_all.new.out c.from_residual.result c.from_residual.ensures.0
-    (run_stops g.W.CountedWrite.contents g.W.CountedWrite.failures s c.args.out.now c.lines.out c.push_all.new.out runs went c.in_err-push_all.ensures)
+    let (all, are, stopped) = run_stops s runs went c.in_err-push_all.ensures in
+    rw (is_err c.from_residual.result c.from_residual.ensures.1) (all, are, stopped, tt)
 
 pub returns-in_default-clause-written : goal.returns-in_default-clause-written
 returns-in_default-clause-written g c =
@@ -26,8 +27,8 @@ pub returns-in_err-run-clause-written : goal.returns-in_err-run-clause-written
 returns-in_err-run-clause-written g c =
     let s : Sought = sought_of c.args.whole c.args.matchers.now in
     let (sent, runs, went) = c.lines.invariant.writes in
-    stopped_result g.W.CountedWrite.contents g.W.CountedWrite.failures s c.args.block.now c.args.out.now c.write_run.new.out c.from_residual-in_err-run.result c.from_residual-in_err-run.ensures.0
-    (run_stops g.W.CountedWrite.contents g.W.CountedWrite.failures s c.args.out.now c.lines.out c.write_run.new.out runs went c.in_err-run.ensures.err)
+    let (all, are, stopped) = run_stops s runs went c.in_err-run.ensures.err in
+    rw (is_err c.from_residual-in_err-run.result c.from_residual-in_err-run.ensures.1) (all, are, stopped, tt)
 
 pub returns-in_err-run-clause-steps : goal.returns-in_err-run-clause-steps
 returns-in_err-run-clause-steps g c =
@@ -37,7 +38,7 @@ returns-in_err-run-clause-steps g c =
     let at = c.in-Some.at in
     let many : length (expressions_of c.lines.matchers) ≡ n = ap length i.same.same_expressions in
     let within = (rw take_rest at c.in-Some.ensures.within).1 in
-    steps_within n (c.lines.start + (at.end + 1)) (length c.args.block.now) _ _ (omega (arith, within, length-drop c.lines.start c.args.block.now, runs.within)) (steps_for_more n c.lines.start (at.end + 1) _ _ _ i.steps (rw many at c.in-Some.ensures.steps))
+    steps_within n (c.lines.start + (at.end + 1)) (length c.args.block.now) _ _ (omega (arith, within, length-drop c.lines.start c.args.block.now, runs.within)) (steps_for_more n c.lines.start (at.end + 1) i.steps (rw many at c.in-Some.ensures.steps))
 
 pub lines-preserved : goal.lines-preserved
 lines-preserved g c =
@@ -53,5 +54,5 @@ lines-preserved g c =
     record {
       writes = (sent ++ x, runs_next (IsSought s) runs at within next c.in_ok-run.run' x low cut, goes_on g.W.CountedWrite.contents g.W.CountedWrite.failures c.args.out.now c.lines.out c.write_run.new.out sent x went more);
       same = same_over c.next_matched.ensures.same_matchers i.same;
-      steps = steps_for_more n c.lines.start (at.end + 1) _ _ _ i.steps (rw many at c.in-Some.ensures.steps);
+      steps = steps_for_more n c.lines.start (at.end + 1) i.steps (rw many at c.in-Some.ensures.steps);
     }

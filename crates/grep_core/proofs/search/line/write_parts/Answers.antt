@@ -43,7 +43,7 @@ returns-in_err-write_part-clause-err g c =
     let part = c.in-Some.part in
     let reported = rw same.same_expressions at c.in-Some.ensures.reported in
     let out = c.in_err-write_part.ensures in
-    err_with c.from_residual.result (parts_broken es w.options w.many w.name.now c.args.number c.args.line.now c.requires.asked c.loop-part.from part.start part.end _ _ _ c.loop-part.invariant.parts reported
+    err_with c.from_residual.result (parts_broken es w.options w.many w.name.now c.args.number c.args.line.now c.requires.asked _ _ _ c.loop-part.invariant.parts reported
     (TakesFront-line g.W.CountedWrite.contents g.W.CountedWrite.failures c.loop-part.out c.write_part.new.out _ out)
     out.counted)
 
@@ -57,7 +57,7 @@ loop-part-preserved g c =
     let steps = rw (as_many same) at c.in-Some.ensures.steps in
     record {
       parts =
-          parts_next es w.options w.many w.name.now c.args.number c.args.line.now c.loop-part.from part.start part.end _ _ _ c.loop-part.invariant.parts reported
+          parts_next es w.options w.many w.name.now c.args.number c.args.line.now _ _ _ c.loop-part.invariant.parts reported
           (TakesAll-line g.W.CountedWrite.contents g.W.CountedWrite.failures c.loop-part.out c.write_part.new.out _ c.in_ok-write_part.ensures);
       room = rw c.in-Some.ensures.room c.loop-part.invariant.room;
       right = rw same.same_expressions at c.in-Some.ensures.right;
@@ -71,7 +71,7 @@ returns-clause-ok g c =
     let es = expressions_of c.args.matchers.now in
     let same = c.loop-part.invariant.same in
     let reported = rw same.same_expressions at c.in_default.ensures.reported in
-    parts_done es w.options w.many w.name.now c.args.number c.args.line.now c.requires.asked c.loop-part.from _ _ c.loop-part.invariant.parts reported
+    parts_done es w.options w.many w.name.now c.args.number c.args.line.now c.requires.asked c.loop-part.invariant.parts reported
 
 pub returns-in_err-write_part-clause-same : goal.returns-in_err-write_part-clause-same
 returns-in_err-write_part-clause-same g c = same_over c.in-Some.ensures.same_matchers c.loop-part.invariant.same

@@ -17,4 +17,4 @@ returns-in-Lines-clause-err g c =
 
 pub returns-in-Parts-clause-steps : goal.returns-in-Parts-clause-steps
 returns-in-Parts-clause-steps g c =
-    parts_searched c.args.request.now.options (length (expressions_of c.args.matchers.now)) c.args.line.now c.args.meter.now c.write_parts.new.meter c.in-Parts.ensures c.write_parts.ensures.steps
+    parts_searched c.args.request.now.options (length (expressions_of c.args.matchers.now)) c.args.line.now c.in-Parts.ensures c.write_parts.ensures.steps

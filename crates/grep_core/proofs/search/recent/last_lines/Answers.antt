@@ -23,4 +23,4 @@ pub returns-clause-begin : goal.returns-clause-begin
 returns-clause-begin c =
     let lines = lines_of c.args.block.now in
     let all : c.loop.counter ≡ c.args.most = omega (arith, c.loop-test.false, c.loop.auto.counter-end) in
-    begins_last c.args.block.now c.requires c.loop.start c.args.most (c.loop.invariant.recent ∙ ap (λ k. length (terminated (take (length lines - k) lines))) all)
+    begins_last c.args.block.now c.requires c.args.most (c.loop.invariant.recent ∙ ap (λ k. length (terminated (take (length lines - k) lines))) all)

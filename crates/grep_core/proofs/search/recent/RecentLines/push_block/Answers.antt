@@ -18,7 +18,7 @@ loop-line-preserved c =
     let s = c.loop-line.invariant in
     let line = c.in-Some.line.now in
     let left = append_assoc s.2 (line ∷ []) c.next.new.self ∙ ap (λ l. s.2 ++ l) (sym c.in-Some.ensures.steps) ∙ s.3 in
-    (tt, tt, s.2 ++ line ∷ [], left, holds_more c.args.self.now c.loop-line.self c.push.new.self s.2 line s.4 c.in_ok-push.ensures.ok)
+    (tt, tt, s.2 ++ line ∷ [], left, holds_more c.args.self.now s.2 line s.4 c.in_ok-push.ensures.ok)
 
 pub returns : goal.returns
 returns c =
