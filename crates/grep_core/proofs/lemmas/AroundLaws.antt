@@ -36,7 +36,7 @@ nothing_at : (R : ℕ × Text → List Text → Type 0) (n : ℕ) (text : List T
 nothing_at R n [] k out inside h none = absurd (omega (arith, inside))
 nothing_at R n (line ∷ text) zero out inside h none =
     let here : n ≡ n + 0 = omega arith in
-    let nothing : h.0 ≡ [] = first_empty h.0 h.1 (sym h.4 ∙ none) in
+    let nothing = first_empty h.0 h.1 (sym h.4 ∙ none) in
     rw here at (rw nothing at h.2)
 nothing_at R n (line ∷ text) (suc k) out inside h none =
     let later : (n + 1) + k ≡ n + suc k = omega arith in
@@ -79,7 +79,7 @@ module _ (es : List Expression) (options : Options) (context : Context) where
     Shows-determined : (number : Option ℕ) (text : List Text) (k : ℕ) (line : Text) (out more : List Text) → Shows es options context name number text k line out → Shows es options context name number text k line more → out ≡ more
     Shows-determined _ _ k _ _ _ a b =
         IfHolds-both a b
-        (λ p q. (let same : p.0 ≡ q.0 = IfHolds-both p.1 q.1 same_value same_value in
+        (λ p q. (let same = IfHolds-both p.1 q.1 same_value same_value in
         IfHolds-both p.2 q.2 (λ c d. c ∙ ap (λ (row : Text). group_separator ∷ row ∷ []) same ∙ sym d) (λ c d. c ∙ ap (λ (row : Text). row ∷ []) same ∙ sym d)))
         same_value
 
@@ -109,7 +109,7 @@ module _ (es : List Expression) (options : Options) (context : Context) where
       groups_some {groups} text h some nothing =
           let at = place_of (Selected es options) text [] some in
           let first : 0 + at.0 ≡ at.0 = omega arith in
-          let here : Shows es options context name (shown_number (at.0 + 1)) text at.0 (get_or text at.0 []) [] =
+          let here =
           rw first at (nothing_at _ 0 text at.0 groups at.1 h nothing) in
           elim here [
             | inl shown ↦ elim shown.1.2 [

@@ -72,13 +72,13 @@ module _ (es : List Expression) (options : Options) (many : Bool) (name : Text) 
   tracks_selected : (p : Progress) {lines rows : List Text} (line : Text) → Selected es options line → Tracks p lines rows
       → Tracks (after_line p true) (lines ++ line ∷ []) (rows ++ rows_at options many name true (next_shown p true) (last_of p.waiting lines) (length lines + 1) line)
   tracks_selected p {lines} {rows} line selected t =
-      let all : List Text = lines ++ line ∷ [] in
-      let one_more : length all ≡ length lines + 1 = length-append lines (line ∷ []) in
-      let row : Text = row_by options many name true (length lines + 1) line in
+      let all = lines ++ line ∷ [] in
+      let one_more = length-append lines (line ∷ []) in
+      let row = row_by options many name true (length lines + 1) line in
       let separator : List Text = if p.gap then group_separator ∷ [] else [] in
-      let written : List Text = rows_around options many name (length t.front + 1) t.held ++ row ∷ [] in
-      let long : length lines ≡ length t.front + length t.held = ap length t.with_parts ∙ length-append t.front t.held in
-      let few : p.waiting ≤ context.before = rw t.same_context at t.few in
+      let written = rows_around options many name (length t.front + 1) t.held ++ row ∷ [] in
+      let long = ap length t.with_parts ∙ length-append t.front t.held in
+      let few = rw t.same_context at t.few in
       let back : (k : ℕ) → k < length t.front → IsShown es options context all k → IsShown es options context lines k = λ k below s. elim (t.missing k below) [
         | inl shown ↦ shown
         | inr far ↦ elim (shown_cases es options context lines line s) [ inl shown ↦ shown | inr near ↦ absurd (omega (arith, far, near.0)) ]
@@ -116,27 +116,27 @@ module _ (es : List Expression) (options : Options) (many : Bool) (name : Text) 
   tracks_after : (p : Progress) {lines rows : List Text} (line : Text) → ¬ Selected es options line → 0 < p.left → Tracks p lines rows
       → Tracks (record p { left = p.left - 1 }) (lines ++ line ∷ []) (rows ++ (rows_around options many name ((length lines + 1) - length (last_of p.waiting lines)) (last_of p.waiting lines) ++ row_by options many name false (length lines + 1) line ∷ []))
   tracks_after p {lines} {rows} line passed some t =
-      let all : List Text = lines ++ line ∷ [] in
-      let one_more : length all ≡ length lines + 1 = length-append lines (line ∷ []) in
-      let row : Text = row_by options many name false (length lines + 1) line in
-      let written : List Text = rows_around options many name (length t.front + 1) t.held ++ row ∷ [] in
-      let long : length lines ≡ length t.front + length t.held = ap length t.with_parts ∙ length-append t.front t.held in
-      let none : AreUnselected es options (line ∷ []) = All-cons (λ l. ¬ Selected es options l) line [] passed (All-nil (λ l. ¬ Selected es options l)) in
-      let here : IsShown es options context lines (length lines + 0) = (t.left 0).0 some in
+      let all = lines ++ line ∷ [] in
+      let one_more = length-append lines (line ∷ []) in
+      let row = row_by options many name false (length lines + 1) line in
+      let written = rows_around options many name (length t.front + 1) t.held ++ row ∷ [] in
+      let long = ap length t.with_parts ∙ length-append t.front t.held in
+      let none = All-cons (λ l. ¬ Selected es options l) line [] passed (All-nil (λ l. ¬ Selected es options l)) in
+      let here = (t.left 0).0 some in
       let here_on : here.place < length lines = here.on in
       let last_one : IsShown es options context lines (length lines - 1) = record { place = here.place; on = here.on; selected = here.selected; before = omega (arith, here_on); after = omega (arith, here.after) } in
       let all_before : length lines ≤ length t.front = elim (cases_lt (length t.front) (length lines)) [
         | inl low ↦ absurd (t.kept (length lines - 1) (omega (arith, low)) (omega (arith, low)) last_one)
         | inr high ↦ high
       ] in
-      let no_gap : p.gap ≡ false = false_from_ne_true p.gap (λ e. begins_at es options context lines (length t.front) (length lines - 1) (t.gap.0 e) (omega (arith, all_before, long, here_on)) last_one) in
-      let shown_here : IsShown es options context all (length lines) = shown_more es options context lines (line ∷ []) (length lines) (rw (let e : length lines + 0 ≡ length lines = omega arith in e) at here) in
+      let no_gap = false_from_ne_true p.gap (λ e. begins_at es options context lines (length t.front) (length lines - 1) (t.gap.0 e) (omega (arith, all_before, long, here_on)) last_one) in
+      let shown_here = shown_more es options context lines (line ∷ []) (length lines) (rw (let e : length lines + 0 ≡ length lines = omega arith in e) at here) in
       let near : (k : ℕ) → length t.front ≤ k → k ≤ length lines → IsShown es options context all k = λ k low high.
       rw (let e : length lines ≡ k = omega (arith, low, high, all_before) in e) at shown_here in
       let begins_not : BeginsGroup es options context all (length all) → ⊥ = λ b. begins_at es options context all (length all) (length lines) b one_more shown_here in
       let some_before : t.groups ≡ [] → ⊥ = λ e. false≢true (sym no_gap ∙ t.first e) in
       let group : List Text = (if p.gap then group_separator ∷ [] else []) ++ written in
-      let ungapped : (if p.gap && p.shown then group_separator ∷ [] else []) ++ written ≡ written = ap (λ b. (if b && p.shown then group_separator ∷ [] else []) ++ written) no_gap in
+      let ungapped = ap (λ b. (if b && p.shown then group_separator ∷ [] else []) ++ written) no_gap in
       record {
         same_context = t.same_context;
         few = t.few;
@@ -170,24 +170,24 @@ module _ (es : List Expression) (options : Options) (many : Bool) (name : Text) 
       → ((p.waiting + length passed ≤ context.before) × (n ≡ p.waiting + length passed) × (gap ≡ p.gap)) ⊎ ((context.before < p.waiting + length passed) × (n ≡ context.before) × (gap ≡ true))
       → Tracks p lines rows → Tracks (record p { gap = gap; waiting = n }) (lines ++ passed) rows
   waits p {lines} passed gap n none left_none step t =
-      let all : List Text = lines ++ passed in
-      let waiting : List Text = t.held ++ passed in
-      let longer : length all ≡ length lines + length passed = length-append lines passed in
-      let long : length lines ≡ length t.front + length t.held = ap length t.with_parts ∙ length-append t.front t.held in
-      let waiting_long : length waiting ≡ p.waiting + length passed = length-append t.held passed ∙ ap (λ w. w + length passed) t.many_held in
-      let gone : ℕ = (p.waiting + length passed) - n in
+      let all = lines ++ passed in
+      let waiting = t.held ++ passed in
+      let longer = length-append lines passed in
+      let long = ap length t.with_parts ∙ length-append t.front t.held in
+      let waiting_long = length-append t.held passed ∙ ap (λ w. w + length passed) t.many_held in
+      let gone = (p.waiting + length passed) - n in
       let few : n ≤ p.waiting + length passed = elim step [ inl s ↦ omega (arith, s.1) | inr s ↦ omega (arith, s.0, s.1) ] in
       let few_before : n ≤ context.before = elim step [ inl s ↦ omega (arith, s.0, s.1) | inr s ↦ omega (arith, s.1) ] in
-      let gone_long : length (take gone waiting) ≡ gone = length-take-le gone waiting (omega (arith, waiting_long)) in
-      let front : List Text = t.front ++ take gone waiting in
-      let front_long : length front ≡ length t.front + gone = length-append t.front (take gone waiting) ∙ ap (λ m. length t.front + m) gone_long in
+      let gone_long = length-take-le gone waiting (omega (arith, waiting_long)) in
+      let front = t.front ++ take gone waiting in
+      let front_long = length-append t.front (take gone waiting) ∙ ap (λ m. length t.front + m) gone_long in
       let none_shown : (k : ℕ) → length t.front ≤ k → ¬ IsShown es options context all k = λ k low s.
-      let shown : IsShown es options context lines k = shown_passed es options context lines passed k none s in
+      let shown = shown_passed es options context lines passed k none s in
       elim (cases_lt k (length lines)) [
         | inl on ↦ t.kept k low on shown
         | inr out ↦
             let at : k ≡ length lines + (k - length lines) = omega (arith, out) in
-            let some : k - length lines < p.left = (t.left (k - length lines)).1 (subst (IsShown es options context lines) at shown) in
+            let some = (t.left (k - length lines)).1 (subst (IsShown es options context lines) at shown) in
             absurd (omega (arith, some, left_none))
       ] in
       let to = λ (k : ℕ). shown_more es options context lines passed k in
@@ -196,7 +196,7 @@ module _ (es : List Expression) (options : Options) (many : Bool) (name : Text) 
       (λ k x zs low high. shows_same es options context (name_shown many name) (shown_number options) lines all k x zs (λ j _. to j) (λ j _. from j)) t.given in
       let rest = EachGives-placed_nothing (Given es options many name context all) (length t.front) (take gone waiting) (λ k x low high. inr (none_shown k low, refl)) in
       let zeroed : 0 + length t.front ≡ length t.front = omega arith in
-      let placed : enumerate_from 0 front ≡ enumerate_from 0 t.front ++ enumerate_from (length t.front) (take gone waiting) =
+      let placed =
       enumerate_from-append 0 t.front (take gone waiting) ∙ ap (λ m. enumerate_from 0 t.front ++ enumerate_from m (take gone waiting)) zeroed in
       record {
         same_context = t.same_context;
@@ -236,7 +236,7 @@ module _ (es : List Expression) (options : Options) (many : Bool) (name : Text) 
   pub tracks_passed : {p : Progress} {lines rows : List Text} (passed : List Text) → AreUnselected es options passed → p.left ≡ 0 → Tracks p lines rows
       → Tracks (with_waiting (length passed) p) (lines ++ passed) rows
   tracks_passed {p} passed none left_none t =
-      let room : p.context.before ≡ context.before = ap (λ (c : Context). c.before) t.same_context in
+      let room = ap (λ (c : Context). c.before) t.same_context in
       waits p passed (p.gap || nat_lt p.context.before (p.waiting + length passed)) (min (p.waiting + length passed) p.context.before) none left_none
       (elim (cases_lt p.context.before (p.waiting + length passed)) [
         | inl over ↦ inr (omega (arith, over, room), min-eq_right (omega (arith, over)) ∙ room, or_right p.gap _ (lt-ltb _ _ over))
@@ -266,10 +266,10 @@ module _ (es : List Expression) (options : Options) (many : Bool) (name : Text) 
   pub tracked_groups : {p : Progress} {lines rows : List Text} → Tracks p lines rows
       → (groups : List Text) × Groups es options context (name_shown many name) (shown_number options) lines groups × (rows ≡ rows_after (around context) before groups)
   tracked_groups {p} {lines} t =
-      let long : length lines ≡ length t.front + length t.held = ap length t.with_parts ∙ length-append t.front t.held in
+      let long = ap length t.with_parts ∙ length-append t.front t.held in
       let rest = EachGives-placed_nothing (Given es options many name context lines) (length t.front) t.held (λ k x low high. inr (t.kept k low (omega (arith, high, long)), refl)) in
       let zeroed : 0 + length t.front ≡ length t.front = omega arith in
-      let placed : enumerate_from 0 lines ≡ enumerate_from 0 t.front ++ enumerate_from (length t.front) t.held =
+      let placed =
       ap (enumerate_from 0) t.with_parts ∙ enumerate_from-append 0 t.front t.held ∙ ap (λ m. enumerate_from 0 t.front ++ enumerate_from m t.held) zeroed in (
         t.groups,
         rw placed
@@ -284,7 +284,7 @@ module _ (es : List Expression) (options : Options) (many : Bool) (name : Text) 
   tracks_further p lines rows (line ∷ more) t =
       let reported = decided (dec_selected es options line) in
       let next = tracks_line p lines line reported.0 reported.1 t in
-      let written : List Text = rows_at options many name reported.0 (next_shown p reported.0) (last_of p.waiting lines) (length lines + 1) line in
+      let written = rows_at options many name reported.0 (next_shown p reported.0) (last_of p.waiting lines) (length lines + 1) line in
       let rest = tracks_further (after_line p reported.0) (lines ++ line ∷ []) (rows ++ written) more next in
       (rest.0, written ++ rest.1, rw (append_assoc rows written rest.1) at (rw (append_assoc lines (line ∷ []) more) at rest.2))
     where

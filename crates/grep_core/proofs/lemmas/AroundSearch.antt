@@ -120,7 +120,7 @@ module _ {R : Type 0} {f : Following R} where
           held = elim waits [
             | inl none ↦ ap (λ (x : LastLines). x.lines) none.2 ∙ s.held ∙ ap (λ ls. last_of p.waiting ls) (sym (ap (λ ls. before.lines ++ ls) none.0 ∙ append-nil before.lines)) ∙ ap (λ (r : Progress). last_of r.waiting (before.lines ++ passed)) (sym none.1)
             | inr some ↦
-                (let room : recent.limit ≡ p.context.before = limit ∙ sym (ap (λ (c : Context). c.before) s.tracks.same_context) in
+                (let room = limit ∙ sym (ap (λ (c : Context). c.before) s.tracks.same_context) in
                 ap (λ (x : LastLines). x.lines) some.2 ∙ ap (λ n. last_of n (recent.lines ++ passed)) room ∙ ap (λ ls. last_of p.context.before (ls ++ passed)) s.held
                 ∙ last_of-many p.context.before p.waiting before.lines passed s.tracks.within s.tracks.few ∙ ap (λ (r : Progress). last_of r.waiting (before.lines ++ passed)) (sym some.1))
           ];

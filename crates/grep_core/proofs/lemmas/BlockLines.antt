@@ -16,9 +16,9 @@ pub last_of-many : {A : Type 0} (most n : ℕ) (xs ys : List A) → n ≤ length
 last_of-many most n xs ys within few =
     let k = length xs - n in
     let front : k ≤ length xs = omega arith in
-    let joined : last_of n xs ++ ys ≡ drop k (xs ++ ys) = sym (drop-append-le k xs ys front) in
-    let long : length (last_of n xs ++ ys) ≡ n + length ys = length-append (last_of n xs) ys ∙ ap (λ m. m + length ys) (length-last_of n xs within) in
-    let all : length (xs ++ ys) ≡ length xs + length ys = length-append xs ys in
+    let joined = sym (drop-append-le k xs ys front) in
+    let long = length-append (last_of n xs) ys ∙ ap (λ m. m + length ys) (length-last_of n xs within) in
+    let all = length-append xs ys in
     let places : k + (n + length ys - most) ≡ length xs + length ys - min (n + length ys) most = omega (arith, within, few) in
     ap (λ m. drop (m - most) (last_of n xs ++ ys)) long ∙ ap (drop (n + length ys - most)) joined ∙ drop-drop (n + length ys - most) k (xs ++ ys) ∙ ap (λ m. drop m (xs ++ ys)) places ∙ ap (λ m. drop (m - min (n + length ys) most) (xs ++ ys)) (sym all)
 
@@ -36,7 +36,7 @@ pub last_of-late : {A : Type 0} (most : ℕ) (xs ys : List A) → last_of most (
 last_of-late most xs ys = elim (cases_lt most (length ys)) [
   | inl over ↦
       (let k = length ys - most in
-      let long : length (xs ++ last_of most ys) ≡ length xs + most = length-append xs (last_of most ys) ∙ ap (λ m. length xs + m) (length-last_of most ys (omega (arith, over))) in
+      let long = length-append xs (last_of most ys) ∙ ap (λ m. length xs + m) (length-last_of most ys (omega (arith, over))) in
       let short : length xs + most - most ≡ length xs + 0 = omega arith in
       let places : length xs + k ≡ length (xs ++ ys) - most = omega (arith, over, length-append xs ys) in
       ap (λ m. drop (m - most) (xs ++ last_of most ys)) long ∙ ap (λ m. drop m (xs ++ last_of most ys)) short ∙ drop_past xs (last_of most ys) 0 ∙ sym (drop_past xs ys k) ∙ ap (λ m. drop m (xs ++ ys)) places)
@@ -120,7 +120,7 @@ module _ (block : Text) (h : IsBlock block) where
   pub begins_last : {start : ℕ} (most : ℕ) → start ≡ from_last most → drop start block ≡ terminated (last_of most lines)
   begins_last {start} most is =
       let m = length lines - most in
-      let with_parts : block ≡ terminated (take m lines) ++ terminated (drop m lines) = block_is ∙ ap terminated (sym (take-append-drop m lines)) ∙ terminated-append (take m lines) (drop m lines) in
+      let with_parts = block_is ∙ ap terminated (sym (take-append-drop m lines)) ∙ terminated-append (take m lines) (drop m lines) in
       ap (drop start) with_parts ∙ ap (λ n. drop n (terminated (take m lines) ++ terminated (drop m lines))) is ∙ drop-append_seam (terminated (take m lines)) (terminated (drop m lines))
 
   -- one line more

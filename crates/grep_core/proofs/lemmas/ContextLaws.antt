@@ -42,9 +42,9 @@ out_apart _ _ _ _ (around c) _ _ other h = absurd (false≢true (sym other))
 context_ignored : (es : List Expression) (options : Options) (context : Option Context) (files : List File) (out : List Text)
     → IsTrue (options.quiet || (options.files_with_matches || (options.count || options.only_matching))) → Out es (record options { context = context }) files out → Out es options files out
 context_ignored es options context files out some h =
-    let asked : Form → Form = form_by options.quiet options.files_with_matches options.count options.only_matching options.invert_match in
+    let asked = form_by options.quiet options.files_with_matches options.count options.only_matching options.invert_match in
     let apart : (a b : Form) → asked a ≡ asked b = λ a b. form_apart options.quiet options.files_with_matches options.count options.only_matching options.invert_match a b some in
-    let alone : is_around (asked lines) ≡ false = form_alone options.quiet options.files_with_matches options.count options.only_matching options.invert_match in
+    let alone = form_alone options.quiet options.files_with_matches options.count options.only_matching options.invert_match in
     rw (apart (lines_with context) (lines_with options.context)) at
     (out_apart es options context (are_many files) (asked (lines_with context)) files out (ap is_around (apart (lines_with context) lines) ∙ alone) h)
 
@@ -57,6 +57,6 @@ context_is_for_lines options = record {
     context_ignored es (record options { context = context }) options.context files out some,
   );
   none_around = λ none context same.
-      let asked : Form → Form = form_by options.quiet options.files_with_matches options.count options.only_matching options.invert_match in
+      let asked = form_by options.quiet options.files_with_matches options.count options.only_matching options.invert_match in
       false≢true (sym (form_alone options.quiet options.files_with_matches options.count options.only_matching options.invert_match) ∙ ap (λ c. is_around (asked (lines_with c))) (sym none) ∙ ap is_around same);
 }

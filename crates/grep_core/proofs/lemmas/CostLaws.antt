@@ -64,7 +64,7 @@ module _ (options : Options) (matchers : ℕ) where
   bytes_within [] = omega arith
   bytes_within (line ∷ ls) =
       let long : length (terminated (line ∷ ls)) ≡ length line + 1 + length (terminated ls) = omega (arith, length-append line (newline ∷ terminated ls)) in
-      let bytes : matchers * length (terminated (line ∷ ls)) ≡ search_cost matchers line + matchers * length (terminated ls) = ap (λ n. matchers * n) long ∙ spread (length line + 1) (length (terminated ls)) in
+      let bytes = ap (λ n. matchers * n) long ∙ spread (length line + 1) (length (terminated ls)) in
       omega (arith, bytes, bytes_within ls, sum_by-cons (line_cost options matchers) line ls)
     where
       spread : (a b : ℕ) → matchers * (a + b) ≡ matchers * a + matchers * b
@@ -77,7 +77,7 @@ module _ (options : Options) (matchers : ℕ) where
   -- the same, and the parts of the last line were looked for besides
   pub searched_bytes_and_parts : (text : List Text) (line : Text) {old mid new : Steps} → AddsAtMost (matchers * length (terminated (text ++ line ∷ []))) old mid → AddsAtMost (parts_cost options matchers line) mid new → SearchesLines options matchers (text ++ line ∷ []) old new
   searched_bytes_and_parts text line a asked =
-      let width : length (terminated (text ++ line ∷ [])) ≡ length (terminated text) + (length line + 1) = ap length (terminated-append text (line ∷ [])) ∙ length-append (terminated text) (line ++ newline ∷ []) ∙ ap (λ n. length (terminated text) + n) (length-append line (newline ∷ [])) in
+      let width = ap length (terminated-append text (line ∷ [])) ∙ length-append (terminated text) (line ++ newline ∷ []) ∙ ap (λ n. length (terminated text) + n) (length-append line (newline ∷ [])) in
       let bytes : matchers * length (terminated (text ++ line ∷ [])) ≡ matchers * length (terminated text) + search_cost matchers line = ap (λ n. matchers * n) width ∙ (omega arith) in
       let own = parts_cost options matchers line in
       cost_within (matchers * length (terminated (text ++ line ∷ [])) + own) (lines_cost options matchers (text ++ line ∷ [])) (omega (arith, bytes, bytes_within text, sum_by_push (line_cost options matchers) text line)) (cost_after (matchers * length (terminated (text ++ line ∷ []))) own a asked)

@@ -24,7 +24,7 @@ module _ (es : List Expression) (options : Options) (many : Bool) where
   -- a file has at most one list of rows of its parts
   pub PartRowsOf-determined : (file : File) (out more : List Text) → PartRowsOf es options many file out → PartRowsOf es options many file more → out ≡ more
   PartRowsOf-determined file out more a b =
-      let same : a.0 ≡ b.0 = Chosen-determined _ _ a.0 b.0 a.1 b.1 in
+      let same = Chosen-determined _ _ a.0 b.0 a.1 b.1 in
       let of_same : EachGives (PartsOfLine es options many file) a.0 more = rw same b.2 in
       EachGives-determined _ (PartsOfLine-determined file) a.0 out more a.2 of_same
 
@@ -36,7 +36,7 @@ module _ (es : List Expression) (options : Options) (many : Bool) where
   OutAs-determined parts files out more a b = EachGives-determined _ PartRowsOf-determined files out more a b
   OutAs-determined lines files out more a b = EachGives-determined _ RowsOf-determined files out more a b
   OutAs-determined (around context) files _ _ a b =
-      let groups : a.0 ≡ b.0 = EachGives-determined (GroupsOf es options many context) (λ file. Groups-determined es options context (shown_name many file) (shown_number options) file.lines) files a.0 b.0 a.1 b.1 in
+      let groups = EachGives-determined (GroupsOf es options many context) (λ file. Groups-determined es options context (shown_name many file) (shown_number options) file.lines) files a.0 b.0 a.1 b.1 in
       a.2 ∙ ap (drop 1) groups ∙ sym b.2
 
 module _ (es : List Expression) (options : Options) where
@@ -48,7 +48,7 @@ module _ (es : List Expression) (options : Options) where
   pub Reached-determined : (files r s : List File) → Reached es options files r → Reached es options files s → r ≡ s
   Reached-determined [] r s a b = same_value a b
   Reached-determined (file ∷ files) r s a b =
-      let rest : a.0 ≡ b.0 = IfHolds-both a.2 b.2 same_value (Reached-determined files a.0 b.0) in
+      let rest = IfHolds-both a.2 b.2 same_value (Reached-determined files a.0 b.0) in
       a.1 ∙ ap (λ t. file ∷ t) rest ∙ sym b.1
 
   -- a file has at most one list of messages about it
@@ -65,7 +65,7 @@ module _ (es : List Expression) (options : Options) where
       by_flag : (none : Bool) → Reported none reported → Reported none more → reported ≡ more
       by_flag true c d = same_value c d
       by_flag false c d =
-          let same : c.0 ≡ d.0 = Reached-determined files c.0 d.0 c.1 d.1 in
+          let same = Reached-determined files c.0 d.0 c.1 d.1 in
           let of_same : EachGives (Message es options) c.0 more = rw same d.2 in
           EachGives-determined _ Message-determined c.0 reported more c.2 of_same
 

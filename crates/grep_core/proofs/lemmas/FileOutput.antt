@@ -31,7 +31,7 @@ module _ (es : List Expression) (options : Options) (many : Bool) where
   some_chosen n (x ∷ xs) chosen h some =
       elim h.2 [
         | inl here ↦ Any-first (Selected es options) x xs here.0
-        | inr not_here ↦ (let same : chosen ≡ h.1 = h.4 ∙ ap (λ f. f ++ h.1) not_here.1 in
+        | inr not_here ↦ (let same = h.4 ∙ ap (λ f. f ++ h.1) not_here.1 in
             Any-later (Selected es options) x xs (some_chosen (n + 1) xs h.1 h.3 (omega (arith, ap length same))))
       ]
 
@@ -40,8 +40,8 @@ module _ (es : List Expression) (options : Options) (many : Bool) where
   chosen_some n [] _ h some = absurd (Any-none (Selected es options) some)
   chosen_some n (x ∷ xs) chosen h some =
       elim h.2 [
-        | inl here ↦ (let same : chosen ≡ (n, x) ∷ h.1 = h.4 ∙ ap (λ f. f ++ h.1) here.1 in omega (arith, ap length same))
-        | inr not_here ↦ (let same : chosen ≡ h.1 = h.4 ∙ ap (λ f. f ++ h.1) not_here.1 in
+        | inl here ↦ (let same = h.4 ∙ ap (λ f. f ++ h.1) here.1 in omega (arith, ap length same))
+        | inr not_here ↦ (let same = h.4 ∙ ap (λ f. f ++ h.1) not_here.1 in
             elim (Any-cases (Selected es options) x xs some) [
               | inl s ↦ absurd (not_here.0 s)
               | inr later ↦ (let rest = chosen_some (n + 1) xs h.1 h.3 later in omega (arith, ap length same, rest))

@@ -44,7 +44,7 @@ two_written : (context : Context) (some : Bool) (rows more : List Text) → (som
 two_written _ true [] _ there none = absurd (there refl refl)
 two_written _ true (row ∷ rows) _ _ none = refl
 two_written _ false [] _ _ none = refl
-two_written context false (row ∷ rows) more there none = absurd (let e : row ∷ rows ≡ [] = none refl in cc)
+two_written context false (row ∷ rows) more there none = absurd (let e = none refl in cc)
 
 module _ (es : List Expression) (options : Options) (many : Bool) where
   -- ---- there is output exactly where a line is selected
@@ -53,8 +53,8 @@ module _ (es : List Expression) (options : Options) (many : Bool) where
   all_none : (context : Context) (files : List File) (rows : List Text) → EachGives (GroupsOf es options many context) files rows → (AnySelected es options files → ⊥) → rows ≡ []
   all_none _ [] _ h none = h
   all_none context (file ∷ files) _ h none =
-      let here : h.0 ≡ [] = groups_none es options context (shown_name many file) (shown_number options) file.lines h.0 h.2 (λ some. none (Any-first (HasSelected es options) file files some)) in
-      let rest : h.1 ≡ [] = all_none context files h.1 h.3 (λ some. none (Any-later (HasSelected es options) file files some)) in
+      let here = groups_none es options context (shown_name many file) (shown_number options) file.lines h.0 h.2 (λ some. none (Any-first (HasSelected es options) file files some)) in
+      let rest = all_none context files h.1 h.3 (λ some. none (Any-later (HasSelected es options) file files some)) in
       h.4 ∙ (λ i. here i ++ rest i)
 
   -- and files with one have some

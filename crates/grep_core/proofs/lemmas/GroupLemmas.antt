@@ -50,9 +50,9 @@ module _ (es : List Expression) (options : Options) (many : Bool) (name : Text) 
         ),
       ))
   group_held lines (l ∷ held) f line row separator none shown begins is_row =
-      let first : Text = row_with options many name hyphen (f + 1) l in
-      let rest : List Text = rows_around options many name ((f + 1) + 1) held ++ row ∷ [] in
-      let shown_first : IsShown es options context lines f = shown f (omega arith) (omega arith) in
+      let first = row_with options many name hyphen (f + 1) l in
+      let rest = rows_around options many name ((f + 1) + 1) held ++ row ∷ [] in
+      let shown_first = shown f (omega arith) (omega arith) in
       let numbered : f + length (l ∷ held) ≡ (f + 1) + length held = omega arith in (
         separator ++ first ∷ [],
         rest,
@@ -81,8 +81,8 @@ module _ (es : List Expression) (options : Options) (many : Bool) (name : Text) 
       → EachGives (Given (lines ++ line ∷ [])) (enumerate_from 0 (lines ++ line ∷ [])) (groups ++ ((if gap then group_separator ∷ [] else []) ++ (rows_around options many name (length front + 1) held ++ row ∷ [])))
   groups_grown {lines} front held line row groups {gap} with_parts none given same shown begins is_row =
       let more : List Text = (if gap then group_separator ∷ [] else []) ++ (rows_around options many name (length front + 1) held ++ row ∷ []) in
-      let all : List Text = lines ++ line ∷ [] in
-      let long : length lines ≡ length front + length held = ap length with_parts ∙ length-append front held in
+      let all = lines ++ line ∷ [] in
+      let long = ap length with_parts ∙ length-append front held in
       let stays = λ (k : ℕ). shown_more es options context lines (line ∷ []) k in
       let first = EachGives-placed (Given lines) (Given all) 0 front groups
       (λ k x zs low high. shows_same es options context (name_shown many name) (shown_number options) lines all k x zs (λ j _. stays j) (λ j below. same j (omega (arith, below, high)))) given in

@@ -103,7 +103,7 @@ module _ (es : List Expression) (options : Options) (many shown : Bool) (name : 
       → RowsOfLines es options many name (length lines + 1) more own found
       → LineRowsOf es options many (form options) (file_so_far name (lines ++ more)) (rows ++ own) × (all : List (ℕ × Text)) × SelectedLines es options many (file_so_far name (lines ++ more)) all × (length all ≡ length chosen + found)
   adds_lines plain [] lines rows own chosen found has are (none, zero) =
-      let same : rows ≡ rows ++ own = sym (append-nil rows) ∙ ap (λ r. rows ++ r) (sym none) in
+      let same = sym (append-nil rows) ∙ ap (λ r. rows ++ r) (sym none) in
       let sum : length chosen ≡ length chosen + found = omega (arith, zero) in (
         rw (append-nil lines) (rw same at has),
         chosen,
@@ -115,7 +115,7 @@ module _ (es : List Expression) (options : Options) (many shown : Bool) (name : 
       let here = rows_line es options many name (form options) plain lines line rows first has one in
       let picks = chosen_line es options many name lines line chosen b are reported in
       let (has_all, all, are_all, many_all) = adds_lines plain more (lines ++ line ∷ []) (rows ++ first) later (chosen ++ picked b (length lines + 1, line)) others here picks (subst (λ n. RowsOfLines es options many name n more later others) at rest) in
-      let same : (rows ++ first) ++ later ≡ rows ++ own = append_assoc rows first later ∙ ap (λ r. rows ++ r) (sym joined) in
+      let same = append_assoc rows first later ∙ ap (λ r. rows ++ r) (sym joined) in
       let long = chosen_count chosen (length lines + 1, line) (length chosen) b refl in (
         rw (append_assoc lines (line ∷ []) more) at (rw same at has_all),
         all,
@@ -163,9 +163,9 @@ module _ (es : List Expression) (options : Options) (many shown : Bool) (name : 
     pub searches_left : {failed_before failed : ℕ} {lines : List Text} {selected : ℕ} → WritesLines lines old new selected → SearchesLines options (length es) lines began ended → BeginsWith name known lines → failed ≡ failed_before → IsTrue (leaves_early options) → 0 < selected → SearchesSource es options many shown (open_source name known) (OneLeft rest) failed_before failed old new began ended Left selected
     searches_left {lines = lines} {selected = selected} w spent b none_failed early found =
         let file = file_of name b.reading in
-        let here : nat_lt 0 selected ≡ true = positive selected found in
+        let here = positive selected found in
         let has : HasSelected es options file = rw b.has_lines (Any-left (Selected es options) lines b.more ((some_decides w).0 here)) in
-        let unmet : FaultMet es options file → ⊥ = FaultMet-left es options file b.ends early has in
+        let unmet = FaultMet-left es options file b.ends early has in
         let some : Decides (nat_lt 0 selected) (HasSelected es options file) = ((λ _. has), (λ _. here)) in
         record {
           reading = b.reading;
@@ -185,8 +185,8 @@ module _ (es : List Expression) (options : Options) (many shown : Bool) (name : 
         → {failed_before failed : ℕ} → failed ≡ failed_before → StopsSource es options many shown (open_source name known) (OneLeft rest) count failed_before failed old new began ended
     stops_among {lines} later count w spent b counted read none_failed =
         let file = file_of name b.reading in
-        let has : file.lines ≡ lines ++ (later ++ b.more) = b.has_lines ∙ append_assoc lines later b.more in
-        let first : take count file.lines ≡ lines = ap (take count) has ∙ ap (λ k. take k (lines ++ (later ++ b.more))) (sym counted) ∙ take-append_seam lines (later ++ b.more) in
+        let has = b.has_lines ∙ append_assoc lines later b.more in
+        let first = ap (take count) has ∙ ap (λ k. take k (lines ++ (later ++ b.more))) (sym counted) ∙ take-append_seam lines (later ++ b.more) in
         let same : file_so_far name lines ≡ first_lines count file = λ i. record { name = sym b.named i; lines = sym first i; ending = whole } in
         record {
           reading = b.reading;
@@ -257,7 +257,7 @@ goes_on_with found {early} {asked} is both early_is = elim (cases_lt 0 found) [
 -- where it is left, one is found
 pub leaves_with : (found : ℕ) (early : Bool) → (nat_lt 0 found && early) ≡ true → (0 < found) × IsTrue early
 leaves_with found early both = elim (cases_lt 0 found) [
-  | inl some ↦ (some, (let no : (true && early) ≡ true = ap (λ b. b && early) (sym (lt-ltb 0 found some)) ∙ both in no))
+  | inl some ↦ (some, (let no = ap (λ b. b && early) (sym (lt-ltb 0 found some)) ∙ both in no))
   | inr none ↦ absurd (false≢true (ap (λ b. b && early) (sym (le-ltb 0 found none)) ∙ both))
 ]
 

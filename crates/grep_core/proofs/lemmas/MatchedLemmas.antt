@@ -44,7 +44,7 @@ module _ (P : Text → Type 0) where
     within = omega (arith, below, length-drop start block, s.within);
     few = omega (arith, s.few);
     goes_on = λ more c.
-        let others : Chosen P n.after more = rw (ap lines_of (left ∙ after) ∙ lines_of-terminated n.after free) at c in
+        let others = rw (ap lines_of (left ∙ after) ∙ lines_of-terminated n.after free) at c in
         let here : Chosen P (lines_of (drop start block)) (n.line ∷ more) = rw n.divided
         (EachGives-append _ n.before (n.line ∷ n.after) [] (n.line ∷ more) (none_chosen n.before n.passed) (n.line ∷ [], more, inl (n.holds, refl), others, refl)) in
         let (all, are, bytes, long) = s.goes_on (n.line ∷ more) here in (
@@ -92,8 +92,8 @@ module _ (es : List Expression) {options : Options} {many : Bool} (name : Text) 
   rows_chosen _ [] _ none = ([], (refl, ap length none), sym (ap terminated none))
   rows_chosen number (l ∷ ls) all (front, rest, inl (holds, one), others, is) =
       let (rows, are, bytes) = rows_chosen (number + 1) ls rest others in
-      let same : all ≡ l ∷ rest = is ∙ ap (λ f. f ++ rest) one in
-      let own : List Text = (head colon (name_shown many name) (shown_number options number) ++ l) ∷ [] in
+      let same = is ∙ ap (λ f. f ++ rest) one in
+      let own = (head colon (name_shown many name) (shown_number options number) ++ l) ∷ [] in
       let is_own : RowsOfSelected es options many (form options) name number l own = rw bare.asked refl in
       let selected = selected_matched es options plain l holds in
       let none : head colon (name_shown many name) (shown_number options number) ≡ [] = rw (bare.no_name, bare.no_number) refl in (
@@ -103,7 +103,7 @@ module _ (es : List Expression) {options : Options} {many : Bool} (name : Text) 
       )
   rows_chosen number (l ∷ ls) all (front, rest, inr (out, none), others, is) =
       let (rows, are, bytes) = rows_chosen (number + 1) ls rest others in
-      let same : all ≡ rest = is ∙ ap (λ f. f ++ rest) none in
+      let same = is ∙ ap (λ f. f ++ rest) none in
       let unselected : ¬ Selected es options l = λ h. out (rw plain at h) in
       (rows, ([], rows, false, length rest, inr (unselected, refl), decided_no unselected, are, refl, ap length same), bytes ∙ sym (ap terminated same))
 

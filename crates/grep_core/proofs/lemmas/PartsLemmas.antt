@@ -54,7 +54,7 @@ module _ (es : List Expression) (options : Options) (many : Bool) (name : Text) 
     parts_broken {i = i} {j = j} old mid now s p front failed =
         let next = next_left i j s.left s.are_left p in
         let all = s.done ++ s.left in
-        let rows_are : map part_row all ≡ (map part_row s.done ++ part_row (i, j) ∷ []) ++ map part_row next.0 =
+        let rows_are =
         ap (λ l. map part_row (s.done ++ l)) next.1 ∙ map-append part_row s.done ((i, j) ∷ next.0) ∙ sym (append_assoc (map part_row s.done) (part_row (i, j) ∷ []) (map part_row next.0)) in
         record {
           rows = map part_row all;

@@ -13,7 +13,7 @@ use Rattle.grep_io.proofs.lemmas.PassedLemmas.{HasHanded-pass}
 pub passed_block : {R : Type 0} {remaining : R → Option Text} {failures : R → ℕ} {reader : R} {handed : List Text} {old : Numbered R} (new : Numbered R) {block : Text} {count : ℕ} → AreAhead old block count → PassesNext remaining failures old new (lines_of (take (length block) old.lines.ahead))
     → HasHanded remaining failures reader old handed → HasHanded remaining failures reader new (handed ++ lines_of block)
 passed_block {reader = reader} {handed = handed} {old = old} new {block} h next s =
-    let taken : take (length block) old.lines.ahead ≡ block = ap (take (length block)) h.ahead ∙ take-append_seam block h.rest in
+    let taken = ap (take (length block)) h.ahead ∙ take-append_seam block h.rest in
     rw taken at (next reader handed s)
 
 -- it is known how many of its lines are selected
@@ -51,7 +51,7 @@ module _ {R : Type 0} {now : Numbered R} {all : List Text} (n : IsNextOf now all
     -- they were passed
     pub handed_passed : {new : Numbered R} {bytes : ℕ} → bytes ≡ length (terminated all) → PassesNext remaining failures now new (lines_of (take bytes now.lines.ahead)) → HasHanded remaining failures reader new (handed ++ all)
     handed_passed {bytes = bytes} width next =
-        let taken : take bytes now.lines.ahead ≡ terminated all = ap (λ k. take k now.lines.ahead) width ∙ ap (take (length (terminated all))) n.ahead ∙ take-append_seam (terminated all) n.rest in
+        let taken = ap (λ k. take k now.lines.ahead) width ∙ ap (take (length (terminated all))) n.ahead ∙ take-append_seam (terminated all) n.rest in
         rw (ap lines_of taken ∙ lines_of-terminated all free) at (next reader handed h)
 
 -- the first of the next lines are the next ones

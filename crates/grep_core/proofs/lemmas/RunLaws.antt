@@ -215,7 +215,7 @@ module _ {es : List Expression} {options : Options} {many : Bool} where
             let more = GroupedAs-front es options many (form options) (first ++ file ∷ []) following (s.output ++ rows) both in
             let all = grouped_out es options many (form options) ((first ++ file ∷ []) ++ following) ((s.output ++ rows) ++ more.0) more.1 in
             let longer = after_longer (form options) false (s.output ++ rows) more.0 in
-            let with_parts : due false (s.output ++ rows) ++ longer.0 ≡ due false s.output ++ (due some rows ++ longer.0) = ap (λ l. l ++ longer.0) (wrote_both rows) ∙ append_assoc (due false s.output) (due some rows) longer.0 in
+            let with_parts = ap (λ l. l ++ longer.0) (wrote_both rows) ∙ append_assoc (due false s.output) (due some rows) longer.0 in
             (longer.0, rw (← all_many) (rw regrouped at (rw (longer.1 ∙ with_parts) at all)))
 
         -- a write failed within the output for this source, or within its message
@@ -257,7 +257,7 @@ module _ {es : List Expression} {options : Options} {many : Bool} where
         stops : (new : Devices) (n : ℕ) (rows : List Text) {last : Option Text} → n ≤ length file.lines → HasRead source last (take n file.lines) → Grouped (begun (form options) n file) rows → TakesAll mid.out new.out (due some rows) → new.messages ≡ mid.messages
             → new.source_failures ≡ mid.source_failures → own_given (last ∷ []) → Spends new → StopsAfter es options all_sources all_given old new (length before) n
         stops new n rows {last} inside read are took same none_failed gives steps =
-            let here : file_at files (length before) ≡ file =
+            let here =
             ap (file_at files) (sym as_many) ∙ ap (λ fs. file_at fs (length first)) all_files ∙ get_or-append_seam first file following (record { name = []; lines = []; ending = missing }) in
             record {
               in_sources = within;
@@ -407,7 +407,7 @@ module _ {es : List Expression} {options : Options} {many : Bool} where
         → RunSoFar es options many (take (k + 1) sources) all_given old new (some || reported) (faulty || fault)
     run_further f here_is goes reported_is fault_is =
         let one : k + 1 ≡ suc k = omega arith in
-        let longer : take (k + 1) sources ≡ take k sources ++ source_at sources k ∷ [] = ap (λ n. take n sources) one ∙ take-suc sources k (record { name = []; opens = None; bytes = None }) inside in
+        let longer = ap (λ n. take n sources) one ∙ take-suc sources k (record { name = []; opens = None; bytes = None }) inside in
         rw (longer, reported_is, fault_is) (run_next (source_at sources k) own_given all_given join s f (rw here_is at goes))
 
     module _ (is_many : many ≡ nat_le 2 (length sources)) where

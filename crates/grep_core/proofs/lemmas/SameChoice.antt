@@ -189,7 +189,7 @@ module _ (options : Options) where
       lines_cost-more : (text : List Text) → lines_cost options few text ≤ lines_cost options most text
       lines_cost-more [] = omega arith
       lines_cost-more (line ∷ text) =
-          let own : line_cost options few line ≤ line_cost options most line = mul-le-mul_left (part_searches (form options) + 1) (mul-le-mul_right (length line + 1) fewer) in
+          let own = mul-le-mul_left (part_searches (form options) + 1) (mul-le-mul_right (length line + 1) fewer) in
           omega (arith, own, lines_cost-more text, sum_by-cons (line_cost options few) line text, sum_by-cons (line_cost options most) line text)
 
       files_cost-more : (files : List File) → files_cost options few files ≤ files_cost options most files

@@ -68,7 +68,7 @@ module _ (es : List Expression) (options : Options) (many : Bool) (name : Text) 
       → RowsOfLines es options many name number (ls ++ line ∷ []) (rows ++ own) (if selected then found + 1 else found)
   rows_one_more number [] line rows own found {selected} (none, zero) one reported =
       let at : number + 0 ≡ number = omega arith in
-      let counted : (if selected then found + 1 else found) ≡ (if selected then 0 + 1 else 0) = ap (λ n. if selected then n + 1 else n) zero in
+      let counted = ap (λ n. if selected then n + 1 else n) zero in
       (own, [], selected, 0, subst (λ n. RowsOfLine es options many name n line own) at one, reported, (refl, refl), ap (λ r. r ++ own) none ∙ sym (append-nil own), counted)
   rows_one_more number (l ∷ ls) line rows own found {selected} (first, rest, b, others, is_first, reported_too, are_rest, joined, counted) one reported =
       let at : number + length (l ∷ ls) ≡ number + 1 + length ls = omega arith in
@@ -85,7 +85,7 @@ module _ (es : List Expression) (options : Options) (many : Bool) (name : Text) 
   pub rows_numbered : form options ≡ lines → (number : ℕ) (ls : List Text) → All (Selected es options) ls → RowsOfLines es options many name number ls (rows_selected options many name number ls) (length ls)
   rows_numbered _ _ [] _ = (refl, refl)
   rows_numbered asked number (l ∷ ls) all =
-      let own : List Text = (head colon (name_shown many name) (shown_number options number) ++ l) ∷ [] in
+      let own = (head colon (name_shown many name) (shown_number options number) ++ l) ∷ [] in
       let are : RowsOfSelected es options many (form options) name number l own = rw asked refl in
       let selected = All-head (Selected es options) l ls all in
       (own, rows_selected options many name (number + 1) ls, true, length ls, inl (selected, are), decided_yes selected, rows_numbered asked (number + 1) ls (All-tail (Selected es options) l ls all), refl, (let long : length (l ∷ ls) ≡ length ls + 1 = omega arith in long))
@@ -179,7 +179,7 @@ module _ (left : ℕ) (invert : Bool) (count : ℕ) (none : (nat_eq left 0 && no
 
   pub asked_due : (fewer : ℕ) → fewer ≤ count → (fewer ≡ 0) ⊎ (left ≡ 0)
   asked_due fewer few = elim (cases_lt 0 left) [
-    | inl some ↦ inl (let zero : count ≡ 0 = none (ap (λ b. b && not invert) (apart left some)) in omega (arith, few, zero))
+    | inl some ↦ inl (let zero = none (ap (λ b. b && not invert) (apart left some)) in omega (arith, few, zero))
     | inr zero ↦ inr (omega (arith, zero))
   ]
     where
@@ -215,8 +215,8 @@ module _ {s : Sought} {stretch : SearchedBlock} {before all : List Text} (d : Is
   pub stretch_inverted : (es : List Expression) (options : Options) → s ≡ record { expressions = es; whole = options.line_regexp } → (many : Bool) (name : Text) → options.invert_match ≡ true → (number : ℕ) → (stretch.count ≡ 0) ⊎ IsBare options many
       → (rows : List Text) × RowsOfLines es options many name number all rows (length before) × (stretch.before.now ≡ written [] rows)
   stretch_inverted es options same many name inverts number (inl empty) =
-      let none : all ≡ [] = nil_from_length all (omega (arith, empty, d.counted)) in
-      let none_before : before ≡ [] = nil_from_length before (omega (arith, empty, before_within)) in
+      let none = nil_from_length all (omega (arith, empty, d.counted)) in
+      let none_before = nil_from_length before (omega (arith, empty, before_within)) in
       ([], rw none (refl, ap length none_before), d.bytes ∙ ap terminated none_before)
   stretch_inverted es options same many name inverts number (inr bare) =
       (rows_selected options many name number before, rest stretch.line d.next, d.bytes ∙ sym (bare_bytes name bare number before))

@@ -28,9 +28,9 @@ pub last_of-more : {A : Type 0} (most n : ℕ) (xs : List A) (x : A) → n ≤ l
 last_of-more most n xs x within few =
     let k = length xs - n in
     let front : k ≤ length xs = omega arith in
-    let joined : last_of n xs ++ x ∷ [] ≡ drop k (xs ++ x ∷ []) = sym (drop-append-le k xs (x ∷ []) front) in
-    let long : length (last_of n xs ++ x ∷ []) ≡ n + 1 = length_push (last_of n xs) x ∙ ap (λ m. m + 1) (length-last_of n xs within) in
-    let all : length (xs ++ x ∷ []) ≡ length xs + 1 = length_push xs x in
+    let joined = sym (drop-append-le k xs (x ∷ []) front) in
+    let long = length_push (last_of n xs) x ∙ ap (λ m. m + 1) (length-last_of n xs within) in
+    let all = length_push xs x in
     let places : k + (n + 1 - most) ≡ length xs + 1 - min (n + 1) most = omega (arith, within, few) in
     ap (λ m. drop (m - most) (last_of n xs ++ x ∷ [])) long ∙ ap (drop (n + 1 - most)) joined ∙ drop-drop (n + 1 - most) k (xs ++ x ∷ []) ∙ ap (λ m. drop m (xs ++ x ∷ [])) places ∙ ap (λ m. drop (m - min (n + 1) most) (xs ++ x ∷ [])) (sym all)
 
@@ -78,16 +78,16 @@ module _ {W : Type 0} (contents : W → Option Text) (failures : W → ℕ) wher
     -- one row more
     pub row_out : GoesOut contents failures b c (output_line [] row) → GoesOut contents failures a c (written [] (take (k + 1) rows))
     row_out more =
-        let one : take (k + 1) rows ≡ take k rows ++ row ∷ [] = take_more rows k [] within ∙ ap (λ r. take k rows ++ r ∷ []) is in
-        let bytes : written [] (take (k + 1) rows) ≡ written [] (take k rows) ++ output_line [] row = ap (written []) one ∙ written-append [] (take k rows) (row ∷ []) ∙ ap (λ t. written [] (take k rows) ++ t) (append-nil (output_line [] row)) in
+        let one = take_more rows k [] within ∙ ap (λ r. take k rows ++ r ∷ []) is in
+        let bytes = ap (written []) one ∙ written-append [] (take k rows) (row ∷ []) ∙ ap (λ t. written [] (take k rows) ++ t) (append-nil (output_line [] row)) in
         rw bytes (goes_on contents failures a b c (written [] (take k rows)) (output_line [] row) before more)
 
     -- a write failed in it
     pub row_stops : StopsWithin contents failures b c (output_line [] row) → StopsWithin contents failures a c (written [] rows)
     row_stops stop =
-        let one : take (k + 1) rows ≡ take k rows ++ row ∷ [] = take_more rows k [] within ∙ ap (λ r. take k rows ++ r ∷ []) is in
-        let with_parts : rows ≡ take k rows ++ row ∷ drop (k + 1) rows = sym (take-append-drop (k + 1) rows) ∙ ap (λ t. t ++ drop (k + 1) rows) one ∙ append_assoc (take k rows) (row ∷ []) (drop (k + 1) rows) in
-        let bytes : written [] rows ≡ written [] (take k rows) ++ (output_line [] row ++ written [] (drop (k + 1) rows)) = ap (written []) with_parts ∙ written-append [] (take k rows) (row ∷ drop (k + 1) rows) in
+        let one = take_more rows k [] within ∙ ap (λ r. take k rows ++ r ∷ []) is in
+        let with_parts = sym (take-append-drop (k + 1) rows) ∙ ap (λ t. t ++ drop (k + 1) rows) one ∙ append_assoc (take k rows) (row ∷ []) (drop (k + 1) rows) in
+        let bytes = ap (written []) with_parts ∙ written-append [] (take k rows) (row ∷ drop (k + 1) rows) in
         rw bytes
         (stops_later contents failures a b c (written [] (take k rows)) (output_line [] row ++ written [] (drop (k + 1) rows)) before
         (stops_early contents failures b c (output_line [] row) (written [] (drop (k + 1) rows)) stop))

@@ -39,7 +39,7 @@ at_selected g c =
     let reported = decided_yes (selected_matched es w.options (plain_if w.options.invert_match count forward some) line holds) in
     let first = next_first before (line ∷ []) (rw is at n) in
     let (s, are) = followed_waiting i.limit i.so_far (handed_with first (before_free d) i.so_far.so_far.handed) unselected waits (unsearched_lines w.options (length es) before c.lines.meter) in
-    let same : i.so_far.so_far.lines ++ all ≡ s.so_far.lines ++ line ∷ [] = ap (λ ls. i.so_far.so_far.lines ++ ls) is ∙ sym (append_assoc i.so_far.so_far.lines before (line ∷ [])) ∙ ap (λ ls. ls ++ line ∷ []) (sym are) in
+    let same = ap (λ ls. i.so_far.so_far.lines ++ ls) is ∙ sym (append_assoc i.so_far.so_far.lines before (line ∷ [])) ∙ ap (λ ls. ls ++ line ∷ []) (sym are) in
     let all_spent = rw same at (searched_more_lines w.options (length es) i.so_far.so_far.lines all i.so_far.so_far.steps spent) in
     let next = rw same at (handed_with n d.free i.so_far.so_far.handed) in
     (passed_state first (before_free d), s, same, next, all_spent, reported, some)
@@ -58,7 +58,7 @@ held_searched g c =
     let kept = divided_kept (sym (same_sought i.same)) d in
     let unselected = unselected_before es w.options count forward before (before_within d) kept.none in
     let waits = rw (before_lines d) at (if_kept c.wait.result c.is_err.ensures.value c.if-is_err.false c.wait.ensures) in
-    let is : all ≡ before = rw c.in_default.is at d.next in
+    let is = rw c.in_default.is at d.next in
     let passed = rw is at (handed_passed n d.free i.so_far.so_far.handed d.width c.pass-in-lines.ensures.passed) in
     (followed_waiting i.limit i.so_far passed unselected waits (rw is at spent)).0
 

@@ -43,7 +43,7 @@ lines-preserved g c =
     let spent = searched_once w.options (length es) c.line.result.now (rw kept.same_expressions at c.is_selected-found.ensures.steps) in
     record {
       so_far =
-          searched_line s c.take_next.new.lines.lines.line taken.0 c.line.ensures refl (counts_plain w.options c.requires.is_asked) (line_only_counted es w.options w.many w.name.now _ c.line.result.now _ c.requires.is_asked c.is_selected-found.result reported) spent c.count_found-selected.ensures
+          searched_line s _ taken.0 c.line.ensures refl (counts_plain w.options c.requires.is_asked) (line_only_counted es w.options w.many w.name.now _ c.line.result.now _ c.requires.is_asked c.is_selected-found.result reported) spent c.count_found-selected.ensures
           (λ early. absurd (counts_late w.options c.requires.is_asked early));
       same = same_over c.is_selected-found.ensures.same kept;
     }
@@ -51,13 +51,13 @@ lines-preserved g c =
 pub count_found-selected-requires : goal.count_found-selected-requires
 count_found-selected-requires g c =
     let (s, taken) = next_line g (goal.at.count_found-selected-requires g c).In-Ok-None in
-    may_count s c.take_next.new.lines.lines.line taken.0
+    may_count s _ taken.0
 
 pub lines-smaller : goal.lines-smaller
 lines-smaller g c =
     let i = c.lines.invariant in
     let (s, taken) = next_line g (goal.at.lines-smaller g c).In-Ok-None in
-    omega (arith, counted_further c.ready_lines-block.ensures c.pass.ensures.passed i.so_far, fewer_left s c.take_next.new.lines.lines.line taken.0)
+    omega (arith, counted_further c.ready_lines-block.ensures c.pass.ensures.passed i.so_far, fewer_left s _ taken.0)
 
 pub returns-in-Ok-Some-clause-given : goal.returns-in-Ok-Some-clause-given
 returns-in-Ok-Some-clause-given g c =

@@ -1,17 +1,15 @@
-use Rattle.grep_core.proofs.Prelude.{◌≡◌, ◌∙◌, Err, refl, ap}
-use Rattle.grep_core.specs.declared.status.RunFault.TheVariants.{Write, Memory}
-use Rattle.grep_core.specs.declared.status.SearchFault.TheVariants as search_fault
+use Rattle.grep_core.proofs.Prelude.{◌∙◌, Err, refl, ap}
 use Rattle.grep_core.proofs.lemmas.WrittenLemmas.{TakesAll-written, TakesFront-written}
 use Rattle.grep_core.proofs.search.file.end_source.Goals as goal
 
 pub returns-in-Err-Write : goal.returns-in-Err-Write
 returns-in-Err-Write g c =
-    let known : c.in-Err-Write.field-0 ≡ search_fault.Write = rw c.in-Err-Write.is at c.in-Err-Write.field-0-is in
+    let known = rw c.in-Err-Write.is at c.in-Err-Write.field-0-is in
     rw (c.in-Err-Write.is ∙ ap Err known) (refl, refl, refl)
 
 pub returns-in-Err-Memory : goal.returns-in-Err-Memory
 returns-in-Err-Memory g c =
-    let known : c.in-Err-Memory.field-0 ≡ search_fault.Memory c.in-Err-Memory.lines = rw c.in-Err-Memory.is at c.in-Err-Memory.field-0-is in
+    let known = rw c.in-Err-Memory.is at c.in-Err-Memory.field-0-is in
     rw (c.in-Err-Memory.is ∙ ap Err known) (refl, refl, refl)
 
 pub returns-in-Err : goal.returns-in-Err

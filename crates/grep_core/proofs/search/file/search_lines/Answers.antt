@@ -1,4 +1,4 @@
-use Rattle.grep_core.proofs.Prelude.{None, Ok, NextTaken, ◌∙◌, [], false, take, refl, sym, arith, writer}
+use Rattle.grep_core.proofs.Prelude.{None, Ok, NextTaken, ◌∙◌, [], take, refl, sym, arith, writer}
 use Rattle.grep_io.proofs.lemmas.WindowLemmas.{none_in_nothing, few_after}
 use Rattle.re_search.proofs.lemmas.KeptMatchers.{none_asked, same_over, still_alike}
 use Rattle.grep_core.proofs.lemmas.WrittenLemmas.{TakesAll-written}
@@ -78,13 +78,13 @@ search_line-requires g c =
     let (s, taken) = next_line g (goal.at.search_line-requires g c).In-Ok-None in
     record {
       alike = still_alike (same_over c.write_held.ensures.same c.lines.invariant.same) c.requires.alike;
-      first = omega (arith, c.number-number.ensures, is_next s c.take_next.new.lines.lines.line taken.0);
+      first = omega (arith, c.number-number.ensures, is_next s _ taken.0);
     }
 
 pub count_found-selected-requires : goal.count_found-selected-requires
 count_found-selected-requires g c =
     let (s, taken) = next_line g (goal.at.count_found-selected-requires g c).In-Ok-None in
-    may_count s c.take_next.new.lines.lines.line taken.0
+    may_count s _ taken.0
 
 pub lines-smaller : goal.lines-smaller
 lines-smaller g c =
@@ -92,7 +92,7 @@ lines-smaller g c =
     let h = c.in_ok-held.ensures.ok in
     let passed = handed_passed h.next h.free i.so_far.handed h.width c.pass.ensures.passed in
     let (s, taken) = next_line g (goal.at.lines-smaller g c).In-Ok-None in
-    omega (arith, numbers_further i.so_far h.all passed, fewer_left s c.take_next.new.lines.lines.line taken.0)
+    omega (arith, numbers_further i.so_far h.all passed, fewer_left s _ taken.0)
 
 pub lines-preserved : goal.lines-preserved
 lines-preserved g c =
@@ -104,7 +104,7 @@ lines-preserved g c =
     let found = c.in_ok-found.found in
     record {
       so_far =
-          searched_line s c.take_next.new.lines.lines.line taken.0 c.line-line.ensures c.number-number.ensures c.requires.plain took_line spent_line c.count_found-selected.ensures (goes_on found _ _ i.is_early c.if-found-early.false);
+          searched_line s _ taken.0 c.line-line.ensures c.number-number.ensures c.requires.plain took_line spent_line c.count_found-selected.ensures (goes_on found _ _ i.is_early c.if-found-early.false);
       same = same_over c.in_ok-found.ensures.same asked;
       few_held = taken.1;
       is_early = i.is_early;
@@ -117,7 +117,7 @@ returns-then-found-early-clause-given g c =
     let asked = same_over c.write_held.ensures.same i.same in
     let took_line = rw asked.same_expressions at c.in_ok-found.ensures.ok in
     let spent_line = rw asked.same_expressions at c.in_ok-found.ensures.steps in
-    leaves_at s c.take_next.new.lines.lines.line taken.0 c.line-line.ensures c.number-number.ensures c.requires.plain took_line spent_line c.count_found-selected.ensures i.is_early c.if-found-early.true
+    leaves_at s _ taken.0 c.line-line.ensures c.number-number.ensures c.requires.plain took_line spent_line c.count_found-selected.ensures i.is_early c.if-found-early.true
 
 pub returns-in_err-found-clause-given : goal.returns-in_err-found-clause-given
 returns-in_err-found-clause-given g c =
@@ -128,7 +128,7 @@ returns-in_err-found-clause-given g c =
     let broke_line = rw asked.same_expressions at c.in_err-found.ensures.err in
     let spent_line = rw asked.same_expressions at c.in_err-found.ensures.steps in
     rw (is_err c.from_residual-in_err-found.result c.from_residual-in_err-found.ensures.1)
-    (stops_at s c.take_next.new.lines.lines.line taken.0 c.line-line.ensures c.number-number.ensures c.requires.plain (taken.3 w.name.now) _ _ broke_line spent_line)
+    (stops_at s _ taken.0 c.line-line.ensures c.number-number.ensures c.requires.plain (taken.3 w.name.now) _ _ broke_line spent_line)
 
 pub returns-in-Ok-Some-clause-given : goal.returns-in-Ok-Some-clause-given
 returns-in-Ok-Some-clause-given g c =

@@ -1,4 +1,4 @@
-use Rattle.grep_core.proofs.Prelude.{◌≡◌, ◌+◌, ◌++◌, None, length, drop, ap, subst, arith, length-drop, lines_of, Sought, IsSought, sought_of, expressions_of}
+use Rattle.grep_core.proofs.Prelude.{◌+◌, ◌++◌, None, length, drop, ap, subst, arith, length-drop, lines_of, IsSought, sought_of, expressions_of}
 use Rattle.std.proofs.lemmas.List.{take_rest}
 use Rattle.re_search.specs.Working.Sought.{FindsSought}
 use Rattle.re_search.proofs.lemmas.KeptMatchers.{same_over, same_sought}
@@ -9,14 +9,14 @@ use Rattle.grep_core.proofs.search.held.write_matched.Goals as goal
 
 pub returns-in_err-push_all-clause-written : goal.returns-in_err-push_all-clause-written
 returns-in_err-push_all-clause-written g c =
-    let s : Sought = sought_of c.args.whole c.args.matchers.now in
+    let s = sought_of c.args.whole c.args.matchers.now in
     let (sent, runs, went) = c.lines.invariant.writes in
     let (all, are, stopped) = run_stops s runs went c.in_err-push_all.ensures in
     rw (is_err c.from_residual.result c.from_residual.ensures.1) (all, are, stopped, tt)
 
 pub returns-in_default-clause-written : goal.returns-in_default-clause-written
 returns-in_default-clause-written g c =
-    let s : Sought = sought_of c.args.whole c.args.matchers.now in
+    let s = sought_of c.args.whole c.args.matchers.now in
     let i = c.lines.invariant in
     let (sent, runs, went) = i.writes in
     let none = subst (λ q. FindsSought q (lines_of (drop c.lines.start c.args.block.now)) None) (same_sought i.same) (rw take_rest at c.in_default.ensures.reported) in
@@ -25,7 +25,7 @@ returns-in_default-clause-written g c =
 
 pub returns-in_err-run-clause-written : goal.returns-in_err-run-clause-written
 returns-in_err-run-clause-written g c =
-    let s : Sought = sought_of c.args.whole c.args.matchers.now in
+    let s = sought_of c.args.whole c.args.matchers.now in
     let (sent, runs, went) = c.lines.invariant.writes in
     let (all, are, stopped) = run_stops s runs went c.in_err-run.ensures.err in
     rw (is_err c.from_residual-in_err-run.result c.from_residual-in_err-run.ensures.1) (all, are, stopped, tt)
@@ -36,18 +36,18 @@ returns-in_err-run-clause-steps g c =
     let (sent, runs, went) = i.writes in
     let n = length (expressions_of c.args.matchers.now) in
     let at = c.in-Some.at in
-    let many : length (expressions_of c.lines.matchers) ≡ n = ap length i.same.same_expressions in
+    let many = ap length i.same.same_expressions in
     let within = (rw take_rest at c.in-Some.ensures.within).1 in
     steps_within n (c.lines.start + (at.end + 1)) (length c.args.block.now) _ _ (omega (arith, within, length-drop c.lines.start c.args.block.now, runs.within)) (steps_for_more n c.lines.start (at.end + 1) i.steps (rw many at c.in-Some.ensures.steps))
 
 pub lines-preserved : goal.lines-preserved
 lines-preserved g c =
-    let s : Sought = sought_of c.args.whole c.args.matchers.now in
+    let s = sought_of c.args.whole c.args.matchers.now in
     let i = c.lines.invariant in
     let (sent, runs, went) = i.writes in
     let n = length (expressions_of c.args.matchers.now) in
     let at = c.in-Some.at in
-    let many : length (expressions_of c.lines.matchers) ≡ n = ap length i.same.same_expressions in
+    let many = ap length i.same.same_expressions in
     let within = (rw take_rest at c.in-Some.ensures.within).1 in
     let next = rw (same_sought i.same) at (rw take_rest at c.in-Some.ensures.reported) in
     let (low, x, cut, more) = c.in_ok-run.ensures.ok in

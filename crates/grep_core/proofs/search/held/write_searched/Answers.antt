@@ -11,7 +11,7 @@ pub returns-in_default-clause-ok : goal.returns-in_default-clause-ok
 returns-in_default-clause-ok g c = λ before all d.
     let w = c.args.request.now in
     let es = expressions_of c.args.matchers.now in
-    let same : all ≡ before = rw c.in_default.is at d.next in
+    let same = rw c.in_default.is at d.next in
     let none = unselected_unmatched es w.options c.if-request.false before d.none in
     record { rows = []; are_rows = rw same (rows_unselected es w.options w.many w.name.now (c.args.number + 1) before none); wrote = TakesAll-nothing _ }
 
