@@ -5,7 +5,7 @@ use Rattle.grep_core.proofs.lemmas.WaitingRows.{length_rows, row_at, row_out, ro
 use Rattle.grep_core.proofs.search.around.write_waiting.Goals as goal
 
 pub loop-k-init : goal.loop-k-init
-loop-k-init g c = goes_nowhere g.W.CountedWrite.contents g.W.CountedWrite.failures c.args.out.now
+loop-k-init g c = goes_nowhere _ _ _
 
 pub returns-in_err-write_shown : goal.returns-in_err-write_shown
 returns-in_err-write_shown g c =
@@ -18,7 +18,7 @@ returns-in_err-write_shown g c =
     let row = row_at w.options w.many w.name.now first recent c.loop-k.k inside ∙ ap (λ n. row_with w.options w.many w.name.now hyphen n (get_or recent c.loop-k.k [])) place
     ∙ ap (λ l. row_with w.options w.many w.name.now hyphen (c.args.number - (c.len-count.result - c.loop-k.k)) l) (sym c.line.ensures) in
     rw (is_err c.from_residual.result c.from_residual.ensures.1)
-    (row_stops g.W.CountedWrite.contents g.W.CountedWrite.failures (rows_around w.options w.many w.name.now first recent) c.loop-k.k within row c.loop-k.invariant c.in_err-write_shown.ensures)
+    (row_stops _ _ _ _ within row c.loop-k.invariant c.in_err-write_shown.ensures)
 
 pub loop-k-preserved : goal.loop-k-preserved
 loop-k-preserved g c =
@@ -30,7 +30,7 @@ loop-k-preserved g c =
     let place : first + c.loop-k.k ≡ c.args.number - (c.len-count.result - c.loop-k.k) = omega (arith, inside, c.len-count.ensures, c.requires) in
     let row = row_at w.options w.many w.name.now first recent c.loop-k.k inside ∙ ap (λ n. row_with w.options w.many w.name.now hyphen n (get_or recent c.loop-k.k [])) place
     ∙ ap (λ l. row_with w.options w.many w.name.now hyphen (c.args.number - (c.len-count.result - c.loop-k.k)) l) (sym c.line.ensures) in
-    row_out g.W.CountedWrite.contents g.W.CountedWrite.failures (rows_around w.options w.many w.name.now first recent) c.loop-k.k within row c.loop-k.invariant c.in_ok-write_shown.ensures
+    row_out _ _ _ _ within row c.loop-k.invariant c.in_ok-write_shown.ensures
 
 pub returns : goal.returns
 returns g c =

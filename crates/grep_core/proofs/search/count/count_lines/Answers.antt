@@ -43,7 +43,7 @@ lines-preserved g c =
     let spent = searched_once w.options (length es) c.line.result.now (rw kept.same_expressions at c.is_selected-found.ensures.steps) in
     record {
       so_far =
-          searched_line s _ taken.0 c.line.ensures refl (counts_plain w.options c.requires.is_asked) (line_only_counted es w.options w.many w.name.now _ c.line.result.now _ c.requires.is_asked c.is_selected-found.result reported) spent c.count_found-selected.ensures
+          searched_line s _ taken.0 c.line.ensures refl (counts_plain w.options c.requires.is_asked) (line_only_counted _ _ _ _ _ _ _ c.requires.is_asked c.is_selected-found.result reported) spent c.count_found-selected.ensures
           (λ early. absurd (counts_late w.options c.requires.is_asked early));
       same = same_over c.is_selected-found.ensures.same kept;
     }

@@ -21,7 +21,7 @@ returns-in_default-clause-written g c =
     let (sent, runs, went) = i.writes in
     let none = subst (λ q. FindsSought q (lines_of (drop c.lines.start c.args.block.now)) None) (same_sought i.same) (rw take_rest at c.in_default.ensures.reported) in
     let (all, are, bytes, many) = runs_out (IsSought s) runs none in
-    (all, are, rw bytes at (goes_on g.W.CountedWrite.contents g.W.CountedWrite.failures c.args.out.now c.lines.out c.push_all.new.out sent _ went c.in_ok-push_all.ensures), many)
+    (all, are, rw bytes at (goes_on _ _ _ _ _ _ _ went c.in_ok-push_all.ensures), many)
 
 pub returns-in_err-run-clause-written : goal.returns-in_err-run-clause-written
 returns-in_err-run-clause-written g c =
@@ -52,7 +52,7 @@ lines-preserved g c =
     let next = rw (same_sought i.same) at (rw take_rest at c.in-Some.ensures.reported) in
     let (low, x, cut, more) = c.in_ok-run.ensures.ok in
     record {
-      writes = (sent ++ x, runs_next (IsSought s) runs at within next c.in_ok-run.run' x low cut, goes_on g.W.CountedWrite.contents g.W.CountedWrite.failures c.args.out.now c.lines.out c.write_run.new.out sent x went more);
+      writes = (sent ++ x, runs_next (IsSought s) runs at within next c.in_ok-run.run' x low cut, goes_on _ _ _ _ _ _ _ went more);
       same = same_over c.next_matched.ensures.same_matchers i.same;
       steps = steps_for_more n c.lines.start (at.end + 1) i.steps (rw many at c.in-Some.ensures.steps);
     }

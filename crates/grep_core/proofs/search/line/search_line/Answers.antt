@@ -1,4 +1,3 @@
-use Rattle.grep_core.proofs.Prelude.{length, expressions_of}
 use Rattle.re_search.proofs.lemmas.KeptMatchers.{same_over, still_alike}
 use Rattle.grep_core.proofs.lemmas.CostLaws.{line_asked, searched_once}
 use Rattle.grep_core.proofs.lemmas.OneLineLemmas.{is_err, line_broken, line_passed, line_selected}
@@ -7,12 +6,11 @@ use Rattle.grep_core.proofs.search.line.search_line.Goals as goal
 
 pub returns-then-not-is_selected-clause-ok : goal.returns-then-not-is_selected-clause-ok
 returns-then-not-is_selected-clause-ok g c =
-    let w = c.args.request.now in
-    line_passed (expressions_of c.args.matchers.now) w.options w.many w.name.now c.args.number c.args.line.now _ c.is_selected.result c.if-not-is_selected.true c.is_selected.ensures.reported
+    line_passed _ _ _ _ _ _ _ c.is_selected.result c.if-not-is_selected.true c.is_selected.ensures.reported
 
 pub returns-then-not-is_selected-clause-steps : goal.returns-then-not-is_selected-clause-steps
 returns-then-not-is_selected-clause-steps g c =
-    searched_once c.args.request.now.options (length (expressions_of c.args.matchers.now)) c.args.line.now c.is_selected.ensures.steps
+    searched_once c.args.request.now.options _ _ c.is_selected.ensures.steps
 
 pub returns-clause-ok : goal.returns-clause-ok
 returns-clause-ok g c =
@@ -46,4 +44,4 @@ write_selected-requires g c = record { alike = still_alike c.is_selected.ensures
 
 pub returns-then-is_err-clause-steps : goal.returns-then-is_err-clause-steps
 returns-then-is_err-clause-steps g c =
-    searched_once c.args.request.now.options (length (expressions_of c.args.matchers.now)) c.args.line.now c.is_selected.ensures.steps
+    searched_once c.args.request.now.options _ _ c.is_selected.ensures.steps
