@@ -1,6 +1,6 @@
 -- The lines around selected ones: which are shown is decided, a file has one output of them, and
 -- none exactly where no line is selected.
-use Rattle.grep_core.proofs.Prelude.{◌≡◌, ℕ, zero, suc, ◌+◌, ◌<◌, ◌≤◌, List, [], ◌∷◌, ◌++◌, length, get_or, Option, Any, inl, inr, refl, sym, ap, ◌∙◌, arith, enumerate_from, Text, Expression, Context, Options, colon, hyphen, head, EachGives, Selected, group_separator, IsShown, BeginsGroup, IsRow, Shows, Groups, dec_le, map_dec}
+use Rattle.grep_core.proofs.Prelude.{◌≡◌, ℕ, zero, suc, ◌+◌, ◌<◌, ◌≤◌, List, [], ◌∷◌, ◌++◌, length, get_or, Option, Any, inl, inr, refl, sym, ap, ◌∙◌, arith, enumerate_from, Text, Expression, Context, Options, EachGives, Selected, group_separator, IsShown, BeginsGroup, IsRow, Shows, Groups, dec_le, map_dec}
 use Rattle.re_syntax.proofs.lemmas.Decisions.{dec_not, dec_both, dec_below, Any-none, Any-first, Any-later, Any-cases}
 use Rattle.grep_core.proofs.lemmas.ChooseLaws.{same_value, IfHolds-both, IfHolds-exist, EachGives-determined, EachGives-exist, EachGives-nothing}
 use Rattle.grep_core.proofs.lemmas.Decided.{dec_selected}
@@ -64,7 +64,7 @@ module _ (es : List Expression) (options : Options) (context : Context) where
 
     -- a line has its row
     IsRow-exist : (number : Option ℕ) (line : Text) → (row : Text) × IsRow es options context name number line row
-    IsRow-exist number line = IfHolds-exist (head colon name number ++ line) (head hyphen name number ++ line) (dec_selected es options line)
+    IsRow-exist _ line = IfHolds-exist _ _ (dec_selected es options line)
 
     -- what is shown of a line at a place
     pub Shows-exist : (number : Option ℕ) (text : List Text) (k : ℕ) (line : Text) → (out : List Text) × Shows es options context name number text k line out
@@ -90,19 +90,19 @@ module _ (es : List Expression) (options : Options) (context : Context) where
 
       -- in one way
       pub Groups-determined : (text groups more : List Text) → Groups es options context name shown_number text groups → Groups es options context name shown_number text more → groups ≡ more
-      Groups-determined text groups more a b = EachGives-determined _ (λ line. Shows-determined (shown_number (line.0 + 1)) text line.0 line.1) (enumerate_from 0 text) groups more a b
+      Groups-determined text _ _ a b = EachGives-determined _ (λ line. Shows-determined (shown_number (line.0 + 1)) text line.0 line.1) _ _ _ a b
 
       -- ---- there are none exactly where no line is selected
 
       -- no line is shown where none is selected
       pub groups_none : (text groups : List Text) → Groups es options context name shown_number text groups → (Any (Selected es options) text → ⊥) → groups ≡ []
-      groups_none text groups h none =
+      groups_none text _ h none =
           EachGives-nothing _
           (λ line out shows. elim shows [
             | inl shown ↦ (let s : IsShown es options context text line.0 = shown.0 in absurd (none (any_at (Selected es options) text s.place [] s.on s.selected)))
             | inr hidden ↦ hidden.1
           ])
-          (enumerate_from 0 text) groups h
+          _ _ h
 
       -- a selected line is shown
       pub groups_some : {groups : List Text} (text : List Text) → Groups es options context name shown_number text groups → Any (Selected es options) text → groups ≡ [] → ⊥

@@ -1,6 +1,6 @@
 -- A search that shows lines around selected ones: what is written of a file's first lines, one more
 -- line at a time.
-use Rattle.grep_core.proofs.Prelude.{AreUnselected, ◌≡◌, ℕ, ◌+◌, ◌-◌, nat_lt, ◌<◌, ◌≤◌, ◌⊎◌, ◌↔◌, min, Bool, true, false, ◌&&◌, ◌||◌, IsTrue, Decides, List, [], ◌∷◌, ◌++◌, length, take, drop, inl, inr, refl, sym, ap, subst, ◌∙◌, append_assoc, arith, if◌then◌else◌, enumerate_from, Text, Expression, Context, Options, Progress, EachGives, Selected, group_separator, IsShown, BeginsGroup, Groups, around, shown_number, name_shown, rows_after, progress_from, next_shown, with_waiting, after_line, last_of, rows_around, row_by, rows_at, min-eq_left, min-eq_right, cases_lt, false≢true, lt-ltb, le-ltb, or_right, false_from_ne_true, length-append, length-take-le, length-drop, append-nil, take-append-drop, drop_at, All-nil, All-cons, All-append, All-drop}
+use Rattle.grep_core.proofs.Prelude.{AreUnselected, ◌≡◌, ℕ, ◌+◌, ◌-◌, nat_lt, ◌<◌, ◌≤◌, ◌⊎◌, ◌↔◌, Bool, true, false, ◌&&◌, ◌||◌, IsTrue, Decides, List, [], ◌∷◌, ◌++◌, length, take, drop, inl, inr, refl, sym, ap, subst, ◌∙◌, append_assoc, arith, if◌then◌else◌, enumerate_from, Text, Expression, Context, Options, Progress, EachGives, Selected, group_separator, IsShown, BeginsGroup, Groups, around, shown_number, name_shown, rows_after, progress_from, next_shown, with_waiting, after_line, last_of, rows_around, row_by, rows_at, min-eq_left, min-eq_right, cases_lt, false≢true, lt-ltb, le-ltb, or_right, false_from_ne_true, length-append, length-take-le, length-drop, append-nil, take-append-drop, drop_at, All-nil, All-cons, All-append, All-drop}
 use Rattle.grep_core.proofs.lemmas.ChooseLaws.{EachGives-append}
 use Rattle.grep_core.proofs.lemmas.Decided.{dec_selected}
 use Rattle.grep_core.proofs.lemmas.Verdicts.{decided_yes, decided_no}
@@ -105,7 +105,7 @@ module _ (es : List Expression) (options : Options) (many : Bool) (name : Text) 
         );
         gap = ((λ e. absurd (false≢true e)), (λ b. absurd (begins_at es options context all (length all) (length lines) b one_more (near (length lines) (omega (arith, long)) (omega arith)))));
         groups = t.groups ++ (separator ++ written);
-        given = groups_grown es options many name context t.front t.held line row t.groups t.with_parts t.none_held t.given back near t.gap (inl (selected, refl));
+        given = groups_grown es options many _ _ _ _ _ _ _ t.with_parts t.none_held t.given back near t.gap (inl (selected, refl));
         written = ap (λ w. rows ++ ((if p.gap && p.shown then group_separator ∷ [] else []) ++ w)) (rows_held t row)
             ∙ ap (λ r. r ++ ((if p.gap && p.shown then group_separator ∷ [] else []) ++ written)) t.written ∙ after_group context before p.gap p.shown t.groups written t.shown t.first;
         shown = ((λ _. inr (more_nonempty t.groups separator (rows_around options many name (length t.front + 1) t.held) row)), (λ _. refl));
@@ -154,11 +154,11 @@ module _ (es : List Expression) (options : Options) (many : Bool) (name : Text) 
         left = λ d.
             let next : length lines + (d + 1) ≡ length all + d = omega (arith, one_more) in (
               (λ below. shown_more es options context lines (line ∷ []) (length all + d) (rw next at ((t.left (d + 1)).0 (omega (arith, below))))),
-              (λ s. let further : d + 1 < p.left = (t.left (d + 1)).1 (rw next (shown_passed es options context lines (line ∷ []) (length all + d) none s)) in omega (arith, further)),
+              (λ s. let further : d + 1 < p.left = (t.left (d + 1)).1 (rw next (shown_passed es options _ _ _ _ none s)) in omega (arith, further)),
             );
         gap = ((λ e. absurd (false≢true (sym no_gap ∙ e))), (λ b. absurd (begins_not b)));
         groups = t.groups ++ group;
-        given = groups_grown es options many name context t.front t.held line row t.groups t.with_parts t.none_held t.given (λ k _ s. shown_passed es options context lines (line ∷ []) k none s) near t.gap (inr (passed, refl));
+        given = groups_grown es options many _ _ _ _ _ _ _ t.with_parts t.none_held t.given (λ k _ s. shown_passed es options context lines (line ∷ []) k none s) near t.gap (inr (passed, refl));
         written = ap (λ w. rows ++ w) (rows_held t row) ∙ ap (λ r. r ++ written) t.written ∙ ap (λ w. rows_after (around context) before t.groups ++ w) (sym ungapped)
             ∙ after_group context before p.gap p.shown t.groups written t.shown t.first;
         shown = ((λ _. inr (more_nonempty t.groups (if p.gap then group_separator ∷ [] else []) (rows_around options many name (length t.front + 1) t.held) row)), (λ _. t.shown.1 (inr some_before)));
@@ -237,7 +237,7 @@ module _ (es : List Expression) (options : Options) (many : Bool) (name : Text) 
       → Tracks (with_waiting (length passed) p) (lines ++ passed) rows
   tracks_passed {p} passed none left_none t =
       let room = ap (λ (c : Context). c.before) t.same_context in
-      waits p passed (p.gap || nat_lt p.context.before (p.waiting + length passed)) (min (p.waiting + length passed) p.context.before) none left_none
+      waits p _ (p.gap || nat_lt p.context.before (p.waiting + length passed)) _ none left_none
       (elim (cases_lt p.context.before (p.waiting + length passed)) [
         | inl over ↦ inr (omega (arith, over, room), min-eq_right (omega (arith, over)) ∙ room, or_right p.gap _ (lt-ltb _ _ over))
         | inr fits ↦ inl (omega (arith, fits, room), min-eq_left fits, ap (λ b. p.gap || b) (le-ltb _ _ fits) ∙ or_false p.gap)
@@ -253,7 +253,7 @@ module _ (es : List Expression) (options : Options) (many : Bool) (name : Text) 
   tracks_unselected p {rows = rows} line passed t = elim (cases_lt 0 p.left) [
     | inl some ↦ rw (lt-ltb 0 p.left some) (tracks_after p line passed some t)
     | inr none ↦ rw (le-ltb 0 p.left none) (rw (append-nil rows)
-        (tracks_passed (line ∷ []) (All-cons (λ l. ¬ Selected es options l) line [] passed (All-nil (λ l. ¬ Selected es options l))) (omega (arith, none)) t))
+        (tracks_passed _ (All-cons (λ l. ¬ Selected es options l) line [] passed (All-nil (λ l. ¬ Selected es options l))) (omega (arith, none)) t))
   ]
 
   -- the next line

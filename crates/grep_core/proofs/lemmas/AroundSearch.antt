@@ -157,7 +157,7 @@ module _ {R : Type 0} {f : Following R} where
         added = rows_at options many name found (next_shown p found) (last_of p.waiting held_lines) (length held_lines + 1) line
 
         tracked : Tracks es options many name context shown (after_line p found) (held_lines ++ line ∷ []) (s.so_far.wrote.rows ++ added)
-        tracked = tracks_line es options many name context shown p held_lines line found reported s.tracks
+        tracked = tracks_line es options many _ context shown p _ _ found reported s.tracks
 
         at_line : due ≡ added
         at_line = ap (λ ls. rows_at options many name found (next_shown p found) ls count line) s.held ∙ ap (λ n. rows_at options many name found (next_shown p found) (last_of p.waiting held_lines) n line) is_count
@@ -168,12 +168,12 @@ module _ {R : Type 0} {f : Following R} where
         -- that was written, and the line is held if it is not shown
         pub followed_line : {new : Writer} {more : ℕ} {later : List Text} → TakesAll mid new due → more ≡ (if found then selected + 1 else selected)
             → later ≡ (if (next_shown p found).itself then [] else last_of context.before (recent ++ line ∷ [])) → FollowedSoFar f now old new began ended more (after_line p found) later
-        followed_line {later = later} took e kept = record {
+        followed_line took e kept = record {
           asked = s.asked;
           so_far = record { lines = held_lines ++ line ∷ []; handed = next; wrote = written took e; few = at_most s.so_far line next found e; none_early = λ early. never_early options s.asked early; steps = spent };
           tracks = tracked;
           apart = waits_not_next p found s.apart;
-          held = held_next p held_lines line s.held s.tracks.few s.tracks.within s.apart found (kept ∙ ap (λ n. if (next_shown p found).itself then [] else last_of n (recent ++ line ∷ [])) (sym (ap (λ (c : Context). c.before) s.tracks.same_context)));
+          held = held_next p _ _ s.held s.tracks.few s.tracks.within s.apart found (kept ∙ ap (λ n. if (next_shown p found).itself then [] else last_of n (recent ++ line ∷ [])) (sym (ap (λ (c : Context). c.before) s.tracks.same_context)));
         }
 
         -- it could not be written, or the line could not be kept

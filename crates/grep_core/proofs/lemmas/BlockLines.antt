@@ -27,7 +27,7 @@ pub last_of-again : {A : Type 0} (most : ℕ) (xs ys : List A) → last_of most 
 last_of-again most xs ys = elim (cases_lt most (length xs)) [
   | inl over ↦
       (let same : min (most + length ys) most ≡ most = omega arith in
-      last_of-many most most xs ys (omega (arith, over)) (omega arith) ∙ ap (λ m. last_of m (xs ++ ys)) same)
+      last_of-many _ _ xs ys (omega (arith, over)) (omega arith) ∙ ap (λ m. last_of m (xs ++ ys)) same)
   | inr fits ↦ ap (λ l. last_of most (l ++ ys)) (last_of-few most xs fits)
 ]
 
@@ -168,5 +168,5 @@ module _ (block : Text) (h : IsBlock block) where
 
     pub begins_before : (next : ℕ) → next ≤ length (take (start - 1) block) → (0 < next → get_or (take (start - 1) block) (next - 1) 0 ≡ newline) → HasNoNewline (drop next (take (start - 1) block)) → next ≡ from_last (k + 1)
     begins_before next within ended cut =
-        end_at front line next (ends_in_newline (take m lines)) (free m [] (omega (arith, below)))
+        end_at _ _ _ (ends_in_newline (take m lines)) (free m [] (omega (arith, below)))
         (rw before at within) (λ more. ap (λ t. get_or t (next - 1) 0) (sym before) ∙ ended more) (rw before at cut)

@@ -58,7 +58,7 @@ EachGives-end R xs x ys zs h r = EachGives-append R xs (x ∷ []) ys zs h (EachG
 
 -- one more element, which is chosen
 pub Chosen-end : {A : Type 0} (P : A → Type 0) (xs : List A) (x : A) (ys : List A) → Chosen P xs ys → P x → Chosen P (xs ++ x ∷ []) (ys ++ x ∷ [])
-Chosen-end P xs x ys c p = EachGives-end _ xs x ys (x ∷ []) c (inl (p, refl))
+Chosen-end P xs x ys c p = EachGives-end _ xs x ys _ c (inl (p, refl))
 
 -- one more element, which is not chosen
 pub Chosen-passed : {A : Type 0} (P : A → Type 0) (xs : List A) (x : A) (ys : List A) → Chosen P xs ys → (P x → ⊥) → Chosen P (xs ++ x ∷ []) ys

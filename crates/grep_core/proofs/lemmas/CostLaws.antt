@@ -16,11 +16,11 @@ cost_after first next {old} {mid} {new} a b = adds_both first next first next ol
 pub adds_once_more : (times cost : ℕ) (old mid new : Steps) → AddsAtMost (times * cost) old mid → AddsAtMost cost mid new → AddsAtMost ((times + 1) * cost) old new
 adds_once_more times cost old mid new a b =
     let all : times * cost + cost ≤ (times + 1) * cost = omega arith in
-    cost_within (times * cost + cost) ((times + 1) * cost) all (cost_after (times * cost) cost a b)
+    cost_within _ _ all (cost_after (times * cost) cost a b)
 
 -- the same cost more often
 pub adds_for_more : (few most cost : ℕ) (old new : Steps) → few ≤ most → AddsAtMost (few * cost) old new → AddsAtMost (most * cost) old new
-adds_for_more few most cost _ _ h a = cost_within (few * cost) (most * cost) (mul-le-mul_right cost h) a
+adds_for_more _ _ cost _ _ h a = cost_within _ _ (mul-le-mul_right cost h) a
 
 -- lists that are mapped to the same have the same length
 pub same_length : {A B : Type 0} (f : A → B) (xs ys : List A) → map f xs ≡ map f ys → length xs ≡ length ys
@@ -29,17 +29,17 @@ same_length f xs ys e = sym (length-map xs f) ∙ ap length e ∙ length-map ys 
 module _ (options : Options) (matchers : ℕ) where
   -- a line of which no part was looked for
   pub searched_once : (line : Text) {old new : Steps} → AddsAtMost (search_cost matchers line) old new → AddsAtMost (line_cost options matchers line) old new
-  searched_once line a = cost_within (search_cost matchers line) (line_cost options matchers line) (omega arith) a
+  searched_once line a = cost_within _ _ (omega arith) a
 
   -- where parts are written, they cost one search
   pub parts_searched : (line : Text) {old new : Steps} → parts ≡ form options → AddsAtMost (search_cost matchers line) old new → AddsAtMost (parts_cost options matchers line) old new
   parts_searched line asked a =
-      cost_within (search_cost matchers line) (parts_cost options matchers line) (rw (← asked) (omega arith)) a
+      cost_within _ _ (rw (← asked) (omega arith)) a
 
   -- a line was searched, and for its parts besides
   line_and_parts : (line : Text) {old mid new : Steps} → AddsAtMost (search_cost matchers line) old mid → AddsAtMost (parts_cost options matchers line) mid new → AddsAtMost (line_cost options matchers line) old new
   line_and_parts line a b =
-      cost_within (search_cost matchers line + parts_cost options matchers line) (line_cost options matchers line) (omega arith) (cost_after (search_cost matchers line) (parts_cost options matchers line) a b)
+      cost_within _ _ (omega arith) (cost_after (search_cost matchers line) (parts_cost options matchers line) a b)
 
   -- ---- lines
 
@@ -49,11 +49,11 @@ module _ (options : Options) (matchers : ℕ) where
 
   -- more lines were searched
   pub searched_more_lines : (text more : List Text) {old mid new : Steps} → SearchesLines options matchers text old mid → SearchesLines options matchers more mid new → SearchesLines options matchers (text ++ more) old new
-  searched_more_lines text more a b = rw (sum_by-append (line_cost options matchers) text more) (cost_after (lines_cost options matchers text) (lines_cost options matchers more) a b)
+  searched_more_lines text more a b = rw (sum_by-append (line_cost options matchers) text more) (cost_after _ _ a b)
 
   -- one more line was searched
   pub searched_one_line : (text : List Text) (line : Text) {old mid new : Steps} → SearchesLines options matchers text old mid → AddsAtMost (line_cost options matchers line) mid new → SearchesLines options matchers (text ++ line ∷ []) old new
-  searched_one_line text line a b = rw (sum_by_push (line_cost options matchers) text line) (cost_after (lines_cost options matchers text) (line_cost options matchers line) a b)
+  searched_one_line text line a b = rw (sum_by_push (line_cost options matchers) text line) (cost_after _ _ a b)
 
   -- there are more lines than those that were searched
   pub searched_first_lines : (text more : List Text) {old new : Steps} → SearchesLines options matchers text old new → SearchesLines options matchers (text ++ more) old new
@@ -72,7 +72,7 @@ module _ (options : Options) (matchers : ℕ) where
 
   -- so they were searched at that cost
   pub searched_bytes : (text : List Text) {old new : Steps} → AddsAtMost (matchers * length (terminated text)) old new → SearchesLines options matchers text old new
-  searched_bytes text a = cost_within (matchers * length (terminated text)) (lines_cost options matchers text) (bytes_within text) a
+  searched_bytes text a = cost_within _ _ (bytes_within text) a
 
   -- the same, and the parts of the last line were looked for besides
   pub searched_bytes_and_parts : (text : List Text) (line : Text) {old mid new : Steps} → AddsAtMost (matchers * length (terminated (text ++ line ∷ []))) old mid → AddsAtMost (parts_cost options matchers line) mid new → SearchesLines options matchers (text ++ line ∷ []) old new
@@ -80,7 +80,7 @@ module _ (options : Options) (matchers : ℕ) where
       let width = ap length (terminated-append text (line ∷ [])) ∙ length-append (terminated text) (line ++ newline ∷ []) ∙ ap (λ n. length (terminated text) + n) (length-append line (newline ∷ [])) in
       let bytes : matchers * length (terminated (text ++ line ∷ [])) ≡ matchers * length (terminated text) + search_cost matchers line = ap (λ n. matchers * n) width ∙ (omega arith) in
       let own = parts_cost options matchers line in
-      cost_within (matchers * length (terminated (text ++ line ∷ [])) + own) (lines_cost options matchers (text ++ line ∷ [])) (omega (arith, bytes, bytes_within text, sum_by_push (line_cost options matchers) text line)) (cost_after (matchers * length (terminated (text ++ line ∷ []))) own a asked)
+      cost_within _ _ (omega (arith, bytes, bytes_within text, sum_by_push (line_cost options matchers) text line)) (cost_after (matchers * length (terminated (text ++ line ∷ []))) own a asked)
 
   -- ---- files
 
@@ -89,9 +89,9 @@ module _ (options : Options) (matchers : ℕ) where
   searched_up_to files file others a b =
       let cost : File → ℕ = λ f. lines_cost options matchers f.lines in
       let all : files_cost options matchers files + lines_cost options matchers file.lines ≤ files_cost options matchers (files ++ file ∷ others) = omega (arith, sum_by-append cost files (file ∷ others), sum_by-cons cost file others) in
-      cost_within (files_cost options matchers files + lines_cost options matchers file.lines) (files_cost options matchers (files ++ file ∷ others)) all (cost_after (files_cost options matchers files) (lines_cost options matchers file.lines) a b)
+      cost_within _ _ all (cost_after (files_cost options matchers files) (lines_cost options matchers file.lines) a b)
 
 -- a line was searched, and then for its parts, by matchers of the same expressions
 pub line_asked : {es ds : List Expression} (options : Options) (line : Text) {first mid last : Steps} → ds ≡ es
     → AddsAtMost (search_cost (length es) line) first mid → AddsAtMost (parts_cost options (length ds) line) mid last → AddsAtMost (line_cost options (length es) line) first last
-line_asked {es} options line e once asked = line_and_parts options (length es) line once (rw e at asked)
+line_asked options line e once asked = line_and_parts options _ _ once (rw e at asked)

@@ -37,4 +37,4 @@ module _ (es : List Expression) (options : Options) where
 
   -- whether a fault is met is decided
   pub dec_fault_met : (file : File) → Dec (FaultMet es options file)
-  dec_fault_met file = dec_fault_met_by file.ending file
+  dec_fault_met _ = dec_fault_met_by _ _

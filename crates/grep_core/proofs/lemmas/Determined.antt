@@ -26,15 +26,15 @@ module _ (es : List Expression) (options : Options) (many : Bool) where
   PartRowsOf-determined file out more a b =
       let same = Chosen-determined _ _ a.0 b.0 a.1 b.1 in
       let of_same : EachGives (PartsOfLine es options many file) a.0 more = rw same b.2 in
-      EachGives-determined _ (PartsOfLine-determined file) a.0 out more a.2 of_same
+      EachGives-determined _ (PartsOfLine-determined file) _ _ _ a.2 of_same
 
   -- files have at most one output in each form
   pub OutAs-determined : (shape : Form) (files : List File) (out more : List Text) → OutAs es options many shape files out → OutAs es options many shape files more → out ≡ more
   OutAs-determined nothing _ _ _ a b = same_value a b
   OutAs-determined names _ _ _ a b = a.2 ∙ ap (map (λ file. file.name)) (Chosen-determined _ _ a.0 b.0 a.1 b.1) ∙ sym b.2
-  OutAs-determined counts files out more a b = EachGives-determined _ (λ file. CountOf-determined file file.ending) files out more a b
-  OutAs-determined parts files out more a b = EachGives-determined _ PartRowsOf-determined files out more a b
-  OutAs-determined lines files out more a b = EachGives-determined _ RowsOf-determined files out more a b
+  OutAs-determined counts _ _ _ a b = EachGives-determined _ (λ file. CountOf-determined file file.ending) _ _ _ a b
+  OutAs-determined parts _ _ _ a b = EachGives-determined _ PartRowsOf-determined _ _ _ a b
+  OutAs-determined lines _ _ _ a b = EachGives-determined _ RowsOf-determined _ _ _ a b
   OutAs-determined (around context) files _ _ a b =
       let groups = EachGives-determined (GroupsOf es options many context) (λ file. Groups-determined es options context (shown_name many file) (shown_number options) file.lines) files a.0 b.0 a.1 b.1 in
       a.2 ∙ ap (drop 1) groups ∙ sym b.2
@@ -42,7 +42,7 @@ module _ (es : List Expression) (options : Options) (many : Bool) where
 module _ (es : List Expression) (options : Options) where
   -- files have at most one output
   pub Out-determined : (files : List File) (out more : List Text) → Out es options files out → Out es options files more → out ≡ more
-  Out-determined files out more a b = OutAs-determined es options (are_many files) (form options) files out more a b
+  Out-determined files _ _ a b = OutAs-determined es options (are_many files) (form options) _ _ _ a b
 
   -- there is at most one list of the files that are reached
   pub Reached-determined : (files r s : List File) → Reached es options files r → Reached es options files s → r ≡ s
@@ -67,7 +67,7 @@ module _ (es : List Expression) (options : Options) where
       by_flag false c d =
           let same = Reached-determined files c.0 d.0 c.1 d.1 in
           let of_same : EachGives (Message es options) c.0 more = rw same d.2 in
-          EachGives-determined _ Message-determined c.0 reported more c.2 of_same
+          EachGives-determined _ Message-determined _ _ _ c.2 of_same
 
   -- there is at most one status
   pub StatusOf-determined : (files : List File) (s t : Status) → StatusOf es options files s → StatusOf es options files t → s ≡ t

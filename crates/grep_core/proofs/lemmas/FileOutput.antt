@@ -50,7 +50,7 @@ module _ (es : List Expression) (options : Options) (many : Bool) where
 
   -- the number of chosen lines says whether one is selected
   pub chosen_decides : (name : Text) (xs : List Text) (chosen : List (ℕ × Text)) → SelectedLines es options many (file_so_far name xs) chosen → Decides (nat_lt 0 (length chosen)) (Any (Selected es options) xs)
-  chosen_decides _ xs chosen h = decides_some (length chosen) (some_chosen 1 xs chosen h) (chosen_some 1 xs chosen h)
+  chosen_decides _ xs chosen h = decides_some _ (some_chosen 1 xs chosen h) (chosen_some 1 xs chosen h)
 
   -- ---- one more line
 

@@ -41,7 +41,7 @@ module _ (es : List Expression) (options : Options) (many : Bool) (name : Text) 
       → EachGives (Given lines) (enumerate_from f (held ++ line ∷ [])) (separator ++ (rows_around options many name (f + 1) held ++ row ∷ []))
   group_held lines [] f line row separator none shown begins is_row =
       let same : f + 0 ≡ f = omega arith in
-      EachGives-one (Given lines) (f, line) (separator ++ row ∷ []) (inl (
+      EachGives-one (Given lines) _ _ (inl (
         shown f (omega arith) (omega arith),
         (
           row,

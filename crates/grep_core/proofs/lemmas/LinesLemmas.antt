@@ -130,7 +130,7 @@ module _ (es : List Expression) (options : Options) (many shown : Bool) (name : 
   writes_lines : IsPlain (form options) → {more lines : List Text} {old mid new : Writer} {selected found : ℕ} → WritesLines lines old mid selected → TakesLines es options many name (length lines + 1) more mid new found → WritesLines (lines ++ more) old new (selected + found)
   writes_lines plain {more} {lines} {old} {mid} {new} {found = found} w t =
       let (has, all, are, counted) = adds_lines plain more lines w.rows t.rows w.chosen found (plain_written plain w.of) w.are_chosen t.are_rows in
-      record { rows = w.rows ++ t.rows; of = written_plain (form options) plain (lines ++ more) (w.rows ++ t.rows) has; wrote = TakesAll-more old mid new w.rows t.rows w.wrote t.wrote; chosen = all; are_chosen = are; counted = omega (arith, counted, w.counted) }
+      record { rows = w.rows ++ t.rows; of = written_plain (form options) plain _ _ has; wrote = TakesAll-more old mid new w.rows t.rows w.wrote t.wrote; chosen = all; are_chosen = are; counted = omega (arith, counted, w.counted) }
 
   -- lines were passed where the selected ones are only counted
   writes_counted : IsPlain (form options) → form options ≡ counts → (passed lines : List Text) {old new : Writer} {selected : ℕ} (count : ℕ) → WritesLines lines old new selected → HoldsOfMany (Selected es options) passed count → WritesLines (lines ++ passed) old new (selected + count)
@@ -366,7 +366,7 @@ module _ {R : Type 0} {remaining : R → Option Text} {failures : R → ℕ} {es
         pub leaves_among : 0 < found → IsTrue (leaves_early options)
             → GivesOn s now new ended (Ok (record { end = Left; selected = more }))
         leaves_among some early =
-            searches_left es options many shown name (remaining now.lines.reader) all_written all_spent
+            searches_left es options many shown _ _ all_written all_spent
             (begins name next) next.hands.none_failed early (omega (arith, some, sum))
 
       -- a write failed in their rows
@@ -375,7 +375,7 @@ module _ {R : Type 0} {remaining : R → Option Text} {failures : R → ℕ} {es
       breaks_in_lines broke =
           let at_first = rw first_number at broke in
           let added = adds_lines es options many shown name plain all s.lines s.wrote.rows at_first.rows s.wrote.chosen at_first.found (plain_written es options many shown name plain s.wrote.of) s.wrote.are_chosen at_first.are_rows in
-          breaks_in es options many shown name (remaining now.lines.reader) next.hands.none_failed (written_plain es options many shown name (form options) plain (s.lines ++ all) (s.wrote.rows ++ at_first.rows) added.0)
+          breaks_in es options many shown _ _ next.hands.none_failed (written_plain es options many shown name (form options) plain (s.lines ++ all) (s.wrote.rows ++ at_first.rows) added.0)
           (TakesFront-more s.wrote.wrote at_first.wrote) (at_first.counted ∙ ap one_more s.wrote.wrote.none_failed) all_spent (begins name next)
 
       -- that, or there is no room for the parts of one of them
@@ -384,7 +384,7 @@ module _ {R : Type 0} {remaining : R → Option Text} {failures : R → ℕ} {es
       stops_in_lines _ _ _ Write broke = breaks_in_lines broke
       stops_in_lines same few new (Memory n) (counted, unwritten) =
           rw unwritten
-          (stops_among es options many shown name (remaining now.lines.reader) all n s.wrote all_spent (begins name next) (omega (arith, counted, s.handed.counted))
+          (stops_among es options many shown _ _ _ n s.wrote all_spent (begins name next) (omega (arith, counted, s.handed.counted))
           (rw same (has_read remaining failures name reader before.lines s.lines s.handed.hands few)) next.hands.none_failed)
 
   -- one more line was handed out
@@ -436,7 +436,7 @@ module _ {R : Type 0} {remaining : R → Option Text} {failures : R → ℕ} {es
           → more ≡ (if found then selected + 1 else selected) → early ≡ leaves_early options → (found && early) ≡ true
           → GivesOn s now new ended (Ok (record { end = Left; selected = more }))
       leaves_at plain {found = true} {early = true} t one e is_early both =
-          searches_left es options many shown name (remaining now.lines.reader) (rw (← e) at (took plain true t)) (spent one) (begins name handed) next.hands.none_failed (sym is_early) (omega (arith, e))
+          searches_left es options many shown _ _ (rw (← e) at (took plain true t)) (spent one) (begins name handed) next.hands.none_failed (sym is_early) (omega (arith, e))
       leaves_at _ {found = true} {early = false} t _ e _ both = absurd (false≢true both)
       leaves_at _ {found = false} t _ e _ both = absurd (false≢true both)
 
@@ -446,7 +446,7 @@ module _ {R : Type 0} {remaining : R → Option Text} {failures : R → ℕ} {es
       breaks_at plain broke one =
           let at_line = rw number at broke in
           let rows = rows_line es options many name (form options) plain s.lines own s.wrote.rows at_line.rows (plain_written es options many shown name plain s.wrote.of) at_line.are_rows in
-          breaks_adding es options many shown name (remaining now.lines.reader) next.hands.none_failed own s.wrote (written_plain es options many shown name (form options) plain (s.lines ++ own ∷ []) (s.wrote.rows ++ at_line.rows) rows)
+          breaks_adding es options many shown _ _ next.hands.none_failed _ s.wrote (written_plain es options many shown name (form options) plain (s.lines ++ own ∷ []) (s.wrote.rows ++ at_line.rows) rows)
           (spent one) (begins name handed) at_line.wrote at_line.counted
 
       -- that, or there is no room for its parts
@@ -455,7 +455,7 @@ module _ {R : Type 0} {remaining : R → Option Text} {failures : R → ℕ} {es
       stops_at plain _ _ Write broke one = breaks_at plain broke one
       stops_at plain read new (Memory n) (counted, unwritten) one =
           rw unwritten
-          (stops_among es options many shown name (remaining now.lines.reader) (own ∷ []) n s.wrote (spent one) (begins name handed) (omega (arith, counted, number)) read next.hands.none_failed)
+          (stops_among es options many shown _ _ _ n s.wrote (spent one) (begins name handed) (omega (arith, counted, number)) read next.hands.none_failed)
 
   -- ---- where it ends: there is no next line, or the search is given up
 
@@ -508,7 +508,7 @@ module _ {R : Type 0} {remaining : R → Option Text} {failures : R → ℕ} {es
     -- buffered output could not be sent, or an allocation failed
     pub stops_as : (fault : SearchFault) → Taken (Err fault) → GivesOn s now (writer contents write_failures new) ended (Err fault)
     stops_as Write (h, stopped) =
-        breaks_in es options many shown name (remaining now.lines.reader) h.hands.none_failed s.wrote.of (rw (append-nil s.wrote.rows) at (TakesFront-more s.wrote.wrote (TakesFront-written [] stopped)))
+        breaks_in es options many shown _ _ h.hands.none_failed s.wrote.of (rw (append-nil s.wrote.rows) at (TakesFront-more s.wrote.wrote (TakesFront-written [] stopped)))
         (stopped.counted ∙ ap one_more s.wrote.wrote.none_failed) s.steps (begins name h)
     stops_as (Memory count) (h, few, is_count, went) =
-        stops_after es options many shown name (remaining now.lines.reader) (sent went) s.steps (begins name h) (h.counted ∙ is_count) (has_read remaining failures name reader now.lines s.lines h.hands few) h.hands.none_failed
+        stops_after es options many shown _ _ (sent went) s.steps (begins name h) (h.counted ∙ is_count) (has_read remaining failures name reader now.lines s.lines h.hands few) h.hands.none_failed

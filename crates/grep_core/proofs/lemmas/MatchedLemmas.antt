@@ -117,7 +117,7 @@ pub steps_within : (n few most : ℕ) (old new : Steps) → few ≤ most → Add
 steps_within n few most old new h a =
     let split : n * few + n * (most - few) ≡ n * (few + (most - few)) = omega arith in
     let whole : few + (most - few) ≡ most = omega (arith, h) in
-    cost_within (n * few) (n * most) (omega (arith, split, ap (λ k. n * k) whole)) a
+    cost_within _ _ (omega (arith, split, ap (λ k. n * k) whole)) a
 
 -- a block that is ahead is the next lines
 pub block_next : {R : Type 0} {now : Numbered R} (block rest : Text) → IsBlock block → now.lines.ahead ≡ block ++ rest → now.number + length block ≤ most_lines → (now.lines.stage ≡ Ended → now.lines.ahead ≡ []) → IsNextOf now (lines_of block)
@@ -142,7 +142,7 @@ module _ {M : Type 0} {contents : M → Option Text} {failures : M → ℕ} {es 
         width = ap length (block_lines block is_block);
         counted = counted;
         took = record { rows = rows; are_rows = rw found are; wrote = TakesAll-written rows (rw (← is) at went) };
-        spent = block_spent es options block is_block steps;
+        spent = block_spent es options _ is_block steps;
         some = λ goes. absurd (false≢true goes);
       }
 
@@ -154,5 +154,5 @@ module _ {M : Type 0} {contents : M → Option Text} {failures : M → ℕ} {es 
         free = free_lines block is_block;
         next = next;
         stops = record { rows = rows; found = length matched; are_rows = are; wrote = TakesFront-written rows (rw (← is) at stopped); counted = stopped.counted };
-        spent = block_spent es options block is_block steps;
+        spent = block_spent es options _ is_block steps;
       }

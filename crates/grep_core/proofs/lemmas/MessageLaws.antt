@@ -17,7 +17,7 @@ module _ (es : List Expression) (options : Options) where
 
   -- where a run stops at a file, it is the last that is reached
   pub Reached-stopped : (front rest : List File) (file : File) → (Any (Stops es options) front → ⊥) → Stops es options file → Reached es options (front ++ file ∷ rest) (front ++ file ∷ [])
-  Reached-stopped front rest file none stops = Reached-after front (file ∷ rest) (file ∷ []) none ([], refl, inl (stops, refl))
+  Reached-stopped _ _ _ none stops = Reached-after _ _ _ none ([], refl, inl (stops, refl))
 
   -- the messages are those about the files that are reached
   pub Messages-reached : (files reached : List File) (reported : List Text) → Reached es options files reached → Reported es options reached reported → Messages es options files reported

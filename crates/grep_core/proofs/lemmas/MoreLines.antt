@@ -14,7 +14,7 @@ enumerate_from-append n (x ∷ xs) ys =
 
 -- the number of the next line is one more than there are lines before it
 pub numbered-end : (xs : List Text) (line : Text) → numbered (xs ++ line ∷ []) ≡ numbered xs ++ (length xs + 1, line) ∷ []
-numbered-end xs line = let e : 1 + length xs ≡ length xs + 1 = omega arith in enumerate_from-append 1 xs (line ∷ []) ∙ ap (λ m. numbered xs ++ (m, line) ∷ []) e
+numbered-end xs line = let e : 1 + length xs ≡ length xs + 1 = omega arith in enumerate_from-append 1 xs _ ∙ ap (λ m. numbered xs ++ (m, line) ∷ []) e
 
 module _ (es : List Expression) (options : Options) (many : Bool) (name : Text) (ending : Ending) where
   -- one more line, which is selected

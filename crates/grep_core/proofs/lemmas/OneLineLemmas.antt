@@ -48,8 +48,8 @@ line_passed _ _ _ _ _ _ w false e d = record { rows = []; are_rows = inr ((λ s.
 
 -- where only their number is written, no line has rows
 pub line_only_counted : (es : List Expression) (options : Options) (many : Bool) (name : Text) (number : ℕ) (line : Text) (w : Writer) → form options ≡ counts → (found : Bool) → Decides found (Selected es options line) → TakesLine es options many name number line w w found
-line_only_counted es options many name number line w asked true d = line_counted es options many name number line w asked (d.0 refl)
-line_only_counted es options many name number line w _ false d = line_passed es options many name number line w false refl d
+line_only_counted es options many _ _ _ w asked true d = line_counted es options many _ _ _ w asked (d.0 refl)
+line_only_counted es options many _ _ _ w _ false d = line_passed es options many _ _ _ w false refl d
 
 -- a selected line has the rows that were written for it
 pub line_selected : {es ds : List Expression} {options : Options} {many : Bool} {name : Text} {number : ℕ} {line : Text} {a b : Writer} {verdict : Bool} → verdict ≡ true → Decides verdict (Selected es options line)

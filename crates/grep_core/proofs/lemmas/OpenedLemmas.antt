@@ -82,7 +82,7 @@ module _ (es : List Expression) (options : Options) (many shown : Bool) (source 
   source_broken s = record {
     reading = s.reading;
     is_reading = opened source s.reading opens s.is_reading;
-    failures = counted_on es options many shown source given rest gives before after failed counted s.failures;
+    failures = counted_on es options many shown _ given _ gives _ _ _ counted s.failures;
     rows = s.rows;
     are_rows = s.are_rows;
     wrote = s.wrote;
@@ -98,7 +98,7 @@ module _ (es : List Expression) (options : Options) (many shown : Bool) (source 
     rest = s.rest;
     gave_back = rw s.gave_back gives;
     in_file = s.in_file;
-    read = read_of source s.read;
+    read = read_of _ s.read;
     rows = s.rows;
     are_rows = s.are_rows;
     wrote = s.wrote;
@@ -227,4 +227,4 @@ module _ {R : Type 0} (remaining : R → Option Text) (failures : R → ℕ) (es
     given_in r s =
         let at_source = rw same_source at s in
         let from_none = rw fresh_start at at_source in
-        source_gives es options many shown source given rest gives opens old new began ended before failed counted r from_none
+        source_gives es options many shown _ given _ gives opens _ _ _ _ _ _ counted r from_none

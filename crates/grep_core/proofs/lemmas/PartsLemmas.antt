@@ -44,7 +44,7 @@ module _ (es : List Expression) (options : Options) (many : Bool) (name : Text) 
     pub parts_done : {from : ℕ} {old now : Writer} → PartsSoFar from old now → ((i j : ℕ) → IsFound es line options.line_regexp from i j → ⊥) → WritesSelected es options many name number line old now
     parts_done {from} s none = record {
       rows = map part_row s.done;
-      are_rows = are_rows s.done (rw (ap (λ l. s.done ++ l) (none_left from s.left s.are_left none) ∙ append-nil s.done) at s.are_parts);
+      are_rows = are_rows _ (rw (ap (λ l. s.done ++ l) (none_left from s.left s.are_left none) ∙ append-nil s.done) at s.are_parts);
       wrote = s.wrote;
     }
 
@@ -59,7 +59,7 @@ module _ (es : List Expression) (options : Options) (many : Bool) (name : Text) 
         record {
           rows = map part_row all;
           are_rows = are_rows all s.are_parts;
-          wrote = rw rows_are (TakesFront-longer (map part_row next.0) (TakesFront-more s.wrote front));
+          wrote = rw rows_are (TakesFront-longer _ (TakesFront-more s.wrote front));
           counted = failed ∙ ap one_more s.wrote.none_failed;
         }
 

@@ -12,7 +12,7 @@ use Rattle.grep_io.proofs.lemmas.PassedLemmas.{HasHanded-pass}
 -- its lines are passed
 pub passed_block : {R : Type 0} {remaining : R → Option Text} {failures : R → ℕ} {reader : R} {handed : List Text} {old : Numbered R} (new : Numbered R) {block : Text} {count : ℕ} → AreAhead old block count → PassesNext remaining failures old new (lines_of (take (length block) old.lines.ahead))
     → HasHanded remaining failures reader old handed → HasHanded remaining failures reader new (handed ++ lines_of block)
-passed_block {reader = reader} {handed = handed} {old = old} new {block} h next s =
+passed_block {reader = reader} {handed = handed} new {block} h next s =
     let taken = ap (take (length block)) h.ahead ∙ take-append_seam block h.rest in
     rw taken at (next reader handed s)
 
@@ -30,7 +30,7 @@ counted_block es options block {count} matched counted found = selected options.
 -- each byte of a block was a step of each matcher at most
 pub block_spent : (es : List Expression) (options : Options) (ready : Text) {old new : Steps} → IsBlock ready → AddsAtMost (length es * length ready) old new → SearchesLines options (length es) (lines_of ready) old new
 block_spent es options ready block spent =
-    searched_bytes options (length es) (lines_of ready) (rw (block_lines ready block) at spent)
+    searched_bytes options _ _ (rw (block_lines ready block) at spent)
 
 -- ---- lines that are the next ones
 
@@ -50,7 +50,7 @@ module _ {R : Type 0} {now : Numbered R} {all : List Text} (n : IsNextOf now all
 
     -- they were passed
     pub handed_passed : {new : Numbered R} {bytes : ℕ} → bytes ≡ length (terminated all) → PassesNext remaining failures now new (lines_of (take bytes now.lines.ahead)) → HasHanded remaining failures reader new (handed ++ all)
-    handed_passed {bytes = bytes} width next =
+    handed_passed width next =
         let taken = ap (λ k. take k now.lines.ahead) width ∙ ap (take (length (terminated all))) n.ahead ∙ take-append_seam (terminated all) n.rest in
         rw (ap lines_of taken ∙ lines_of-terminated all free) at (next reader handed h)
 

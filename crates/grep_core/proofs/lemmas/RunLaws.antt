@@ -74,10 +74,10 @@ module _ {es : List Expression} {options : Options} {many : Bool} where
     };
     output = [];
     is_output = nothing_written (form options);
-    wrote = rw (after_nothing (form options) false) (TakesAll-nothing d.out);
+    wrote = rw (after_nothing (form options) false) (TakesAll-nothing _);
     messages = [];
     are_reported = Reported-nothing es options;
-    reported = TakesAll-nothing d.messages;
+    reported = TakesAll-nothing _;
     goes_on = Any-none (Stops es options);
     some_reported = decided_no (Any-none (HasSelected es options));
     faulty_reported = decided_no (Any-none (FaultMet es options));
@@ -113,7 +113,7 @@ module _ {es : List Expression} {options : Options} {many : Bool} where
     module _ (after : List Source) (r : Reading) (is_reading : IsReadingOf source r) where
       -- what the sources after this one did is any that they may have done
       abbrev rest : (rs : List Reading) × AreReadings after rs
-      rest = AreReadings-exist after
+      rest = AreReadings-exist _
 
       abbrev readings : List Reading
       readings = s.story.readings ++ r ∷ rest.0
@@ -137,10 +137,10 @@ module _ {es : List Expression} {options : Options} {many : Bool} where
       Spends new = SearchesLines options (length es) file.lines mid.steps new.steps
 
       are_all : AreReadings all_sources readings
-      are_all = AreReadings-append before (source ∷ after) s.story.readings (r ∷ rest.0) s.story.are_readings (is_reading, rest.1)
+      are_all = AreReadings-append _ _ _ _ s.story.are_readings (is_reading, rest.1)
 
       all_files : files ≡ first ++ file ∷ following
-      all_files = files_of-append before (source ∷ after) s.story.readings (r ∷ rest.0) s.story.are_readings
+      all_files = files_of-append _ _ _ _ s.story.are_readings
 
       regrouped : (first ++ file ∷ []) ++ following ≡ files
       regrouped = append_assoc first (file ∷ []) following ∙ sym all_files
@@ -157,7 +157,7 @@ module _ {es : List Expression} {options : Options} {many : Bool} where
           ap (λ n. take n all_sources) count ∙ ap (take (length these)) (sym (append_assoc before (source ∷ []) after)) ∙ take-append_seam these after
 
       are_here : AreReadings (before ++ source ∷ []) (s.story.readings ++ r ∷ [])
-      are_here = AreReadings-append before (source ∷ []) s.story.readings (r ∷ []) s.story.are_readings (is_reading, tt)
+      are_here = AreReadings-append _ _ _ _ s.story.are_readings (is_reading, tt)
 
       -- how often the devices failed in them
       met_here : (own : ℕ) → IfHolds (FaultMet es options file) (own ≡ failures_of r) (own ≡ 0) → FailuresMet es options (take (suc (length before)) all_sources) readings (s.story.failures + own)
@@ -199,14 +199,14 @@ module _ {es : List Expression} {options : Options} {many : Bool} where
 
         -- the first files are those of the first sources
         as_many : length first ≡ length before
-        as_many = length-files_of before s.story.readings s.story.are_readings
+        as_many = length-files_of _ _ s.story.are_readings
 
         front : take (length before) files ≡ first
         front = ap (λ k. take k files) (sym as_many) ∙ ap (take (length first)) all_files ∙ take-append_seam first (file ∷ following)
 
         -- what was reported of them
         reported_before : Messages es options (take (length before) files) s.messages
-        reported_before = rw front (Messages-reached es options first first s.messages (Reached-all es options first s.goes_on) s.are_reported)
+        reported_before = rw front (Messages-reached es options _ _ _ (Reached-all es options first s.goes_on) s.are_reported)
 
         -- the output for the first sources and this one is a beginning of the output
         out_front : (rows : List Text) → Grouped (file ∷ []) rows → (more : List Text) × Out es options files (due false s.output ++ (due some rows ++ more))
@@ -232,7 +232,7 @@ module _ {es : List Expression} {options : Options} {many : Bool} where
                 due_first = rw (← all_many) (rw front (grouped_out es options many (form options) first s.output s.is_output));
                 text = due false s.output ++ (due some rows ++ out.0);
                 due = out.1;
-                past = TakesPast-more new.out (due some rows ++ out.0) s.wrote (front_here out.0);
+                past = TakesPast-more _ _ s.wrote (front_here out.0);
               };
               reported = record { first = s.messages; due_first = reported_before; text = text; due = due_messages; past = past };
             }
@@ -245,13 +245,13 @@ module _ {es : List Expression} {options : Options} {many : Bool} where
         says_front : (messages : List Text) → Reported es options (file ∷ []) messages → (more : List Text) × Messages es options files (s.messages ++ (messages ++ more))
         says_front messages reported_too =
             elim (dec_stops es options file) [
-              | yes here ↦ ([], rw all_files (rw (append-nil messages) (Messages-reached es options (first ++ file ∷ following) (first ++ file ∷ []) (s.messages ++ messages) (Reached-stopped es options first following file s.goes_on here) both)))
+              | yes here ↦ ([], rw all_files (rw (append-nil messages) (Messages-reached es options _ _ _ (Reached-stopped es options first following file s.goes_on here) both)))
               | no goes ↦ (let more = Messages-front es options (first ++ file ∷ []) following (s.messages ++ messages) (none_more (Stops es options) first file s.goes_on goes) both in
                   (more.0, rw (append_assoc s.messages messages more.0) at (rw regrouped at more.1)))
             ]
           where
             both : Reported es options (first ++ file ∷ []) (s.messages ++ messages)
-            both = Reported-append es options first (file ∷ []) s.messages messages s.are_reported reported_too
+            both = Reported-append es options _ _ _ _ s.are_reported reported_too
 
         -- out of memory after n of its lines
         stops : (new : Devices) (n : ℕ) (rows : List Text) {last : Option Text} → n ≤ length file.lines → HasRead source last (take n file.lines) → Grouped (begun (form options) n file) rows → TakesAll mid.out new.out (due some rows) → new.messages ≡ mid.messages
@@ -266,10 +266,10 @@ module _ {es : List Expression} {options : Options} {many : Bool} where
                 readings = readings;
                 are_readings = are_all;
                 failures = s.story.failures;
-                are_failures = rw (take-append_seam before (source ∷ after)) (FailuresMet-longer es options before s.story.readings (r ∷ rest.0) s.story.failures s.story.are_readings s.story.are_failures);
+                are_failures = rw (take-append_seam before (source ∷ after)) (FailuresMet-longer es options _ _ _ _ s.story.are_readings s.story.are_failures);
                 counted = none_failed ∙ s.story.counted;
                 left = s.story.left;
-                are_left = rw (take-append_seam before (source ∷ after)) (LeftMet-longer es options before s.story.readings (r ∷ rest.0) s.story.left s.story.are_readings s.story.are_left);
+                are_left = rw (take-append_seam before (source ∷ after)) (LeftMet-longer es options _ _ _ _ s.story.are_readings s.story.are_left);
                 gave_back = join s.story.left (last ∷ []) s.story.gave_back gives;
                 steps = spent new steps;
               };
@@ -297,21 +297,21 @@ module _ {es : List Expression} {options : Options} {many : Bool} where
                 readings = readings;
                 are_readings = are_all;
                 failures = s.story.failures + failed.own;
-                are_failures = FailuresMet-append es options before (source ∷ after) s.story.readings (r ∷ rest.0) s.story.failures failed.own s.story.are_readings s.goes_on s.story.are_failures (FailuresMet-stopped es options source after r rest.0 failed.own here failed.are_own);
-                counted = counted_here failed.own failed.counted;
+                are_failures = FailuresMet-append es options _ _ _ _ _ _ s.story.are_readings s.goes_on s.story.are_failures (FailuresMet-stopped es options source after r rest.0 failed.own here failed.are_own);
+                counted = counted_here _ failed.counted;
                 left = s.story.left ++ failed.left;
-                are_left = LeftMet-append es options before (source ∷ after) s.story.readings (r ∷ rest.0) s.story.left failed.left s.story.are_readings s.goes_on s.story.are_left (LeftMet-stopped es options source after r rest.0 failed.left here failed.are_left);
+                are_left = LeftMet-append es options _ _ _ _ _ _ s.story.are_readings s.goes_on s.story.are_left (LeftMet-stopped es options source after r rest.0 failed.left here failed.are_left);
                 gave_back = join s.story.left failed.left s.story.gave_back failed.gave_back;
                 steps = spent new steps;
               };
               wrote = record { text = due false (s.output ++ rows); due = rw (← all_many) (rw regrouped at output); all = takes_both rows took };
               reported = record {
                 text = s.messages ++ messages;
-                due = rw all_files (Messages-reached es options (first ++ file ∷ following) (first ++ file ∷ []) (s.messages ++ messages) (Reached-stopped es options first following file s.goes_on here)
+                due = rw all_files (Messages-reached es options _ _ _ (Reached-stopped es options first following file s.goes_on here)
                     (Reported-append es options first (file ∷ []) s.messages messages s.are_reported reported_too));
                 all = TakesAll-more old.messages mid.messages new.messages s.messages messages s.reported reported;
               };
-              is_status = rw all_files (StatusOf-stopped es options first following file here.0 here.1);
+              is_status = rw all_files (StatusOf-stopped es options _ _ _ here.0 here.1);
             }
 
     -- one more source, at which the run does not stop
@@ -335,13 +335,13 @@ module _ {es : List Expression} {options : Options} {many : Bool} where
           };
           output = s.output ++ f.rows;
           is_output = rw all (GroupedAs-append es options many (form options) first (file ∷ []) s.output f.rows s.is_output f.are_rows);
-          wrote = takes_both f.rows f.wrote;
+          wrote = takes_both _ f.wrote;
           messages = s.messages ++ f.messages;
-          are_reported = rw all (Reported-append es options first (file ∷ []) s.messages f.messages s.are_reported f.are_messages);
+          are_reported = rw all (Reported-append es options _ _ _ _ s.are_reported f.are_messages);
           reported = TakesAll-more old.messages mid.messages new.messages s.messages f.messages s.reported f.reported;
           goes_on = rw all (none_more (Stops es options) first file s.goes_on (not_both options.quiet (nat_lt 0 found) goes f.some));
-          some_reported = rw all (any_decides (HasSelected es options) first file s.some_reported f.some);
-          faulty_reported = rw all (any_decides (FaultMet es options) first file s.faulty_reported f.fault);
+          some_reported = rw all (any_decides (HasSelected es options) _ _ s.some_reported f.some);
+          faulty_reported = rw all (any_decides (FaultMet es options) _ _ s.faulty_reported f.fault);
         }
 
     -- ---- the answers, for the sources as they are listed
@@ -352,13 +352,13 @@ module _ {es : List Expression} {options : Options} {many : Bool} where
 
       pub run_stopped : {end : FileEnd} {found : ℕ} → FinishesSource es options many some source own_given mid new end found → (options.quiet && nat_lt 0 found) ≡ true → Finishes es options sources all_given old new selected
       run_stopped {found = found} f both =
-          rw cut (finishes_here after f.reading f.is_reading many_here new f.rows (both_hold options.quiet (nat_lt 0 found) both f.some) f.are_rows f.wrote f.are_messages f.reported f.failures f.steps)
+          rw cut (finishes_here after f.reading f.is_reading many_here _ _ (both_hold options.quiet (nat_lt 0 found) both f.some) f.are_rows f.wrote f.are_messages f.reported f.failures f.steps)
 
       -- the search of the source was given up
       pub run_fault : {k : ℕ} (fault : RunFault) → k ≡ length before → SourceGives es options many some source own_given k mid new (Err fault) → RunGives es options sources all_given old new (Err fault)
       run_fault Write place (b, same) = (
         rw cut (let more = says_more after b.reading b.is_reading many_here in
-            breaks_off after b.reading b.is_reading many_here new b.rows {text = s.messages ++ more.0} b.are_rows (λ l. TakesFront-longer l b.wrote) more.1 (subst (λ m. TakesPast old.messages m s.messages (s.messages ++ more.0)) (sym same) (TakesPast-all more.0 s.reported)) b.failures b.steps),
+            breaks_off after b.reading b.is_reading many_here _ _ {text = s.messages ++ more.0} b.are_rows (λ l. TakesFront-longer l b.wrote) more.1 (subst (λ m. TakesPast old.messages m s.messages (s.messages ++ more.0)) (sym same) (TakesPast-all more.0 s.reported)) b.failures b.steps),
         b.counted ∙ ap one_more s.wrote.none_failed,
         ap (λ (w : Writer). w.failures) same ∙ s.reported.none_failed,
       )
@@ -382,7 +382,7 @@ module _ {es : List Expression} {options : Options} {many : Bool} where
           due = rw (is_many ∙ ap (nat_le 2) (sym (length-files_of sources s.story.readings s.story.are_readings))) at (grouped_out es options many (form options) files s.output s.is_output);
           all = s.wrote;
         };
-        reported = record { text = s.messages; due = Messages-reached es options files files s.messages (Reached-all es options files s.goes_on) s.are_reported; all = s.reported };
+        reported = record { text = s.messages; due = Messages-reached es options _ _ _ (Reached-all es options files s.goes_on) s.are_reported; all = s.reported };
         is_status = status some faulty s.some_reported s.faulty_reported;
       }
     where
@@ -408,19 +408,19 @@ module _ {es : List Expression} {options : Options} {many : Bool} where
     run_further f here_is goes reported_is fault_is =
         let one : k + 1 ≡ suc k = omega arith in
         let longer = ap (λ n. take n sources) one ∙ take-suc sources k (record { name = []; opens = None; bytes = None }) inside in
-        rw (longer, reported_is, fault_is) (run_next (source_at sources k) own_given all_given join s f (rw here_is at goes))
+        rw (longer, reported_is, fault_is) (run_next _ own_given all_given join s f (rw here_is at goes))
 
     module _ (is_many : many ≡ nat_le 2 (length sources)) where
       -- under `-q` a line of it is selected
       pub run_ends_at : {end : FileEnd} {found : ℕ} {here : Bool} → FinishesSource es options many some (source_at sources k) own_given mid new end found → here ≡ nat_lt 0 found → (options.quiet && here) ≡ true → RunGives es options sources all_given old new (Ok selected)
       run_ends_at f here_is both =
-          run_stopped (source_at sources k) own_given all_given join s (drop (suc k) sources) (cut_at sources k _ inside) is_many new f (rw here_is at both)
+          run_stopped _ own_given all_given join s (drop (suc k) sources) (cut_at sources k _ inside) is_many _ f (rw here_is at both)
 
       -- its search was given up
       pub run_given_up : (fault : RunFault) {ds : List Expression} {listed : List Source} → ds ≡ es → listed ≡ sources → SourceGives ds options many some (source_at listed k) own_given k mid new (Err fault) → RunGives es options sources all_given old new (Err fault)
       run_given_up fault {listed = listed} same_expressions same_sources h =
           let searched = subst (λ l. SourceGives es options many some (source_at l k) own_given k mid new (Err fault)) same_sources (subst (λ xs. SourceGives xs options many some (source_at listed k) own_given k mid new (Err fault)) same_expressions h) in
-          run_fault (source_at sources k) own_given all_given join s (drop (suc k) sources) (cut_at sources k _ inside) is_many new fault place searched
+          run_fault _ own_given all_given join s (drop (suc k) sources) (cut_at sources k _ inside) is_many _ _ place searched
 
   -- all sources were searched
   pub run_ends : (sources : List Source) (given : List (Option Text) → Type 0) (k : ℕ) (old new : Devices) {some faulty : Bool} {status : Status} → many ≡ nat_le 2 (length sources) → length sources ≤ k → RunSoFar es options many (take k sources) given old new some faulty → status ≡ status_by some faulty

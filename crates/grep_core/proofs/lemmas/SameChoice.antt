@@ -1,6 +1,6 @@
 -- Expressions that hold on the same stretches give the same output, messages and status, and fewer
 -- of them cost no more.
-use Rattle.grep_core.proofs.Prelude.{◌++◌, ◌≡◌, ℕ, zero, suc, ◌+◌, ◌≤◌, ◌↔◌, Bool, true, false, List, [], ◌∷◌, inl, inr, length, Any, MatchBool, Option, Result, Ok, Err, arith, get_or, enumerate_from, Text, Expression, alt, Holds, Matches, IsFound, IsPart, ArePartsFrom, Context, Options, Status, RunFault, MessageWrite, IsShown, BeginsGroup, Groups, IfHolds, EachGives, File, Ending, whole, missing, broken, Matched, Selected, HasSelected, FaultMetBy, FaultMet, Stops, Reached, Message, Messages, AnySelected, StatusOf, Form, nothing, names, counts, parts, lines, around, form, shown_name, shown_number, GroupsOf, SelectedLines, CountOf, RowsOf, PartsOfLine, PartRowsOf, OutAs, Source, Reading, file_of, files_of, Writer, WritesAll, Devices, FailuresMet, LeftMet, Story, BreaksOff, RunGives, IsSameChoice, ServesForOthers, part_searches, line_cost, lines_cost, files_cost, sum_by-cons, mul-le-mul_left, mul-le-mul_right}
+use Rattle.grep_core.proofs.Prelude.{◌++◌, ◌≡◌, ℕ, zero, suc, ◌+◌, ◌≤◌, ◌↔◌, Bool, true, false, List, [], ◌∷◌, inl, inr, length, Any, MatchBool, Option, Result, Ok, Err, arith, Text, Expression, alt, Holds, Matches, IsFound, IsPart, ArePartsFrom, Context, Options, Status, RunFault, MessageWrite, IsShown, BeginsGroup, Groups, IfHolds, EachGives, File, Ending, whole, missing, broken, Matched, Selected, HasSelected, FaultMetBy, FaultMet, Stops, Reached, Message, Messages, AnySelected, StatusOf, Form, nothing, names, counts, parts, lines, around, form, shown_name, shown_number, GroupsOf, SelectedLines, CountOf, RowsOf, PartsOfLine, PartRowsOf, OutAs, Source, Reading, file_of, files_of, Writer, WritesAll, Devices, FailuresMet, LeftMet, Story, BreaksOff, RunGives, IsSameChoice, ServesForOthers, part_searches, line_cost, lines_cost, files_cost, sum_by-cons, mul-le-mul_left, mul-le-mul_right}
 use Rattle.re_syntax.proofs.lemmas.Decisions.{Any-first, Any-later, Any-cases, Any-none}
 use Rattle.grep_core.specs.declared.status.RunFault.TheVariants.{Write, Memory}
 use Rattle.grep_core.proofs.lemmas.CostLaws.{cost_within}
@@ -76,20 +76,20 @@ EachGives-map R S f (x ∷ xs) _ h = (h.0, h.1, f x h.0 h.2, EachGives-map R S f
 
 module _ (options : Options) (context : Context) where
   IsShown-same : (ds es : List Expression) → IsSameChoice ds es → (text : List Text) (k : ℕ) → IsShown ds options context text k → IsShown es options context text k
-  IsShown-same ds es same text k s = record { place = s.place; on = s.on; selected = Selected-same ds es options same (get_or text s.place []) s.selected; before = s.before; after = s.after }
+  IsShown-same ds es same _ k s = record { place = s.place; on = s.on; selected = Selected-same ds es options same _ s.selected; before = s.before; after = s.after }
 
   BeginsGroup-same : (ds es : List Expression) → IsSameChoice ds es → (text : List Text) (k : ℕ) → BeginsGroup ds options context text k → BeginsGroup es options context text k
   BeginsGroup-same _ _ _ _ zero begins = begins
   BeginsGroup-same ds es same text (suc k) hidden = λ shown. hidden (IsShown-same es ds (other_way ds es same) text k shown)
 
   Groups-same : (ds es : List Expression) → IsSameChoice ds es → (name : Option Text) (shown_number : ℕ → Option ℕ) (text groups : List Text) → Groups ds options context name shown_number text groups → Groups es options context name shown_number text groups
-  Groups-same ds es same _ _ text groups h =
+  Groups-same ds es same _ _ text _ h =
       let back = other_way ds es same in
       EachGives-map _ _
       (λ line out. IfHolds-map (IsShown-same ds es same text line.0) (IsShown-same es ds back text line.0)
       (λ shown. (shown.0, IfHolds-map (Selected-same ds es options same line.1) (Selected-same es ds options back line.1) (λ a. a) (λ b. b) shown.1, IfHolds-map (BeginsGroup-same ds es same text line.0) (BeginsGroup-same es ds back text line.0) (λ a. a) (λ b. b) shown.2))
       (λ b. b))
-      (enumerate_from 0 text) groups h
+      _ _ h
 
 module _ (options : Options) where
   HasSelected-same : (ds es : List Expression) → IsSameChoice ds es → (file : File) → HasSelected ds options file → HasSelected es options file
@@ -120,10 +120,10 @@ module _ (options : Options) where
     -- ---- output
 
     SelectedLines-same : (many : Bool) (file : File) (selected : List (ℕ × Text)) → SelectedLines ds options many file selected → SelectedLines es options many file selected
-    SelectedLines-same _ _ selected h =
+    SelectedLines-same _ _ _ h =
         EachGives-map _ _
         (λ line zs. IfHolds-map (Selected-same ds es options same line.1) (Selected-same es ds options (other_way ds es same) line.1) (λ a. a) (λ b. b))
-        _ selected h
+        _ _ h
 
     CountOf-same : (many : Bool) (ending : Ending) (file : File) (out : List Text) → CountOf ds options many ending file out → CountOf es options many ending file out
     CountOf-same _ missing _ _ h = h
@@ -137,13 +137,13 @@ module _ (options : Options) where
     OutAs-same _ nothing _ _ h = h
     OutAs-same _ names files _ h =
         (h.0, EachGives-map _ _ (λ file zs. IfHolds-map (HasSelected-same ds es same file) (HasSelected-same es ds (other_way ds es same) file) (λ a. a) (λ b. b)) files h.0 h.1, h.2)
-    OutAs-same many counts files out h = EachGives-map _ _ (λ file rows. CountOf-same many file.ending file rows) files out h
-    OutAs-same many parts files out h =
+    OutAs-same many counts _ _ h = EachGives-map _ _ (λ file rows. CountOf-same many file.ending file rows) _ _ h
+    OutAs-same many parts _ _ h =
         EachGives-map (PartRowsOf ds options many) (PartRowsOf es options many)
         (λ file rows r. (r.0, SelectedLines-same many file r.0 r.1, EachGives-map (PartsOfLine ds options many file) (PartsOfLine es options many file) (PartsOfLine-same many file) r.0 rows r.2))
-        files out h
-    OutAs-same many lines files out h =
-        EachGives-map (RowsOf ds options many) (RowsOf es options many) (λ file rows r. (r.0, SelectedLines-same many file r.0 r.1, r.2)) files out h
+        _ _ h
+    OutAs-same many lines _ _ h =
+        EachGives-map (RowsOf ds options many) (RowsOf es options many) (λ file rows r. (r.0, SelectedLines-same many file r.0 r.1, r.2)) _ _ h
     OutAs-same many (around context) files _ h =
         (h.0, EachGives-map (GroupsOf ds options many context) (GroupsOf es options many context) (λ file rows r. Groups-same options context ds es same (shown_name many file) (shown_number options) file.lines rows r) files h.0 h.1, h.2)
 
@@ -200,23 +200,23 @@ module _ (options : Options) where
 
     module _ (fewer : length ds ≤ length es) (sources : List Source) where
       abbrev Story-same : (reached : List Source) (given : List (Option Text) → Type 0) (old new : Devices) → Story ds options sources reached given old new → Story es options sources reached given old new
-      Story-same reached _ _ _ s = record {
+      Story-same _ _ _ _ s = record {
         readings = s.readings;
         are_readings = s.are_readings;
         failures = s.failures;
-        are_failures = FailuresMet-same reached s.readings s.failures s.are_failures;
+        are_failures = FailuresMet-same _ _ _ s.are_failures;
         counted = s.counted;
         left = s.left;
-        are_left = LeftMet-same reached s.readings s.left s.are_left;
+        are_left = LeftMet-same _ _ _ s.are_left;
         gave_back = s.gave_back;
         steps = cost_within _ _ (files_cost-more (length ds) (length es) fewer (files_of sources s.readings)) s.steps;
       }
 
       out_same : (many : Bool) (files : List File) (old new : Writer) → WritesAll (OutAs ds options many (form options) files) old new → WritesAll (OutAs es options many (form options) files) old new
-      out_same many files _ _ w = record { text = w.text; due = OutAs-same many (form options) files w.text w.due; all = w.all }
+      out_same many _ _ _ w = record { text = w.text; due = OutAs-same many (form options) _ _ w.due; all = w.all }
 
       messages_same : (files : List File) (old new : Writer) → WritesAll (Messages ds options files) old new → WritesAll (Messages es options files) old new
-      messages_same files _ _ w = record { text = w.text; due = Messages-same files w.text w.due; all = w.all }
+      messages_same _ _ _ w = record { text = w.text; due = Messages-same _ _ w.due; all = w.all }
 
       module _ (given : List (Option Text) → Type 0) (old new : Devices) where
         BreaksOff-same : BreaksOff ds options sources given old new → BreaksOff es options sources given old new
@@ -224,16 +224,16 @@ module _ (options : Options) where
           at = b.at;
           in_sources = b.in_sources;
           story = Story-same _ given old new b.story;
-          wrote = record { first = b.wrote.first; due_first = OutAs-same _ (form options) _ b.wrote.first b.wrote.due_first; text = b.wrote.text; due = OutAs-same _ (form options) _ b.wrote.text b.wrote.due; past = b.wrote.past };
-          reported = record { first = b.reported.first; due_first = Messages-same _ b.reported.first b.reported.due_first; text = b.reported.text; due = Messages-same _ b.reported.text b.reported.due; past = b.reported.past };
+          wrote = record { first = b.wrote.first; due_first = OutAs-same _ (form options) _ _ b.wrote.due_first; text = b.wrote.text; due = OutAs-same _ (form options) _ _ b.wrote.due; past = b.wrote.past };
+          reported = record { first = b.reported.first; due_first = Messages-same _ _ b.reported.due_first; text = b.reported.text; due = Messages-same _ _ b.reported.due; past = b.reported.past };
         }
 
         pub RunGives-same : (result : Result Status RunFault) → RunGives ds options sources given old new result → RunGives es options sources given old new result
         RunGives-same (Ok status) f = record {
           story = Story-same sources given old new f.story;
-          wrote = out_same _ _ old.out new.out f.wrote;
-          reported = messages_same _ old.messages new.messages f.reported;
-          is_status = StatusOf-same _ status f.is_status;
+          wrote = out_same _ _ _ _ f.wrote;
+          reported = messages_same _ _ _ f.reported;
+          is_status = StatusOf-same _ _ f.is_status;
         }
         RunGives-same (Err Write) b = (BreaksOff-same b.0, b.1, b.2)
         RunGives-same (Err MessageWrite) b = (BreaksOff-same b.0, b.1, b.2)

@@ -51,7 +51,7 @@ module _ (P : Text → Type 0) (block : Text) (place : Span) (whole : IsBlock bl
   end_bytes = omega (arith, n.ends, n.starts, bytes_with n.before n.line)
 
   pub free_up_to : All HasNoNewline (n.before ++ n.line ∷ [])
-  free_up_to = free_before (n.before ++ n.line ∷ []) n.after (rw (n.divided ∙ sym (append_assoc n.before (n.line ∷ []) n.after)) at (free_lines block whole))
+  free_up_to = free_before _ _ (rw (n.divided ∙ sym (append_assoc n.before (n.line ∷ []) n.after)) at (free_lines block whole))
 
 -- ---- what is written for them
 
@@ -103,7 +103,7 @@ module _ (es : List Expression) (options : Options) (many : Bool) (name : Text) 
   pub rows_matched : (number : ℕ) (before : List Text) (line : Text) (own : List Text) → AreUnselected es options before → Selected es options line → (at : ℕ) → at ≡ number + length before → RowsOfSelected es options many (form options) name at line own
       → RowsOfLines es options many name number (before ++ line ∷ []) own 1
   rows_matched number before line own none selected at is are =
-      rows_one_more number before line [] own 0 (rows_unselected number before none) (rw (← is) (inl (selected, are))) (decided_yes selected)
+      rows_one_more _ _ _ [] _ 0 (rows_unselected number before none) (rw (← is) (inl (selected, are))) (decided_yes selected)
 
   -- under `-v` those lines are selected, and the one after them is not
   pub rows_unmatched : (number : ℕ) (before rows : List Text) (line : Text) → RowsOfLines es options many name number before rows (length before) → ¬ Selected es options line → RowsOfLines es options many name number (before ++ line ∷ []) rows (length before)
@@ -222,10 +222,10 @@ module _ {s : Sought} {stretch : SearchedBlock} {before all : List Text} (d : Is
       (rows_selected options many name number before, rest stretch.line d.next, d.bytes ∙ sym (bare_bytes name bare number before))
     where
       first : RowsOfLines es options many name number before (rows_selected options many name number before) (length before)
-      first = rows_numbered es options many name bare.asked number before (selected_unmatched es options inverts before (rw same at d.none))
+      first = rows_numbered es options many _ bare.asked _ _ (selected_unmatched es options inverts before (rw same at d.none))
 
       rest : (line : Option (Bor Text)) → Ends line → RowsOfLines es options many name number all (rows_selected options many name number before) (length before)
       rest None is = rw is first
       rest (Some l) (holds, is) =
           rw is
-          (rows_unmatched es options many name number before (rows_selected options many name number before) l.now first (unselected_matched es options inverts l.now (rw same at holds)))
+          (rows_unmatched es options many _ _ _ _ _ first (unselected_matched es options inverts l.now (rw same at holds)))

@@ -1,5 +1,5 @@
 -- One source is done: its summary and its message, after the rows of its lines.
-use Rattle.grep_core.proofs.Prelude.{◌≡◌, ℕ, Bool, true, false, Decides, IsTrue, List, [], ◌∷◌, ◌++◌, MatchBool, nat_le, length, refl, sym, ap, ◌∙◌, inl, inr, Option, Result, Ok, Err, false≢true, cases_Bool, cond-true, cond-false, Text, lines_of, ended_lines_of, Expression, Options, FileEnd, Missing, Whole, Broken, Left, FileFound, RunFault, MessageWrite, SearchFault, one_more, EachGives, File, Ending, whole, broken, form, message, FaultMet, Message, Reported, Source, Reading, not_opened, fails_after, ends_after, most_lines, up_to_limit, file_of, Devices, Writer, TakesAll, TakesFront, rows_after, SearchGives, is_fault, ending_of, summary_as, reported_of, SearchesSource, FinishesSource, BreaksSource, BreaksMessage, EndsSource, SourceGives}
+use Rattle.grep_core.proofs.Prelude.{◌≡◌, ℕ, Bool, true, false, Decides, IsTrue, List, [], ◌∷◌, ◌++◌, MatchBool, nat_le, length, refl, sym, ap, ◌∙◌, inl, inr, Option, Result, Ok, Err, false≢true, cases_Bool, cond-true, cond-false, Text, Expression, Options, FileEnd, Missing, Whole, Broken, Left, FileFound, RunFault, MessageWrite, SearchFault, one_more, EachGives, File, Ending, form, message, FaultMet, Message, Reported, Source, Reading, not_opened, fails_after, ends_after, most_lines, up_to_limit, file_of, Devices, Writer, TakesAll, TakesFront, rows_after, SearchGives, is_fault, ending_of, summary_as, reported_of, SearchesSource, FinishesSource, BreaksSource, BreaksMessage, EndsSource, SourceGives}
 use Rattle.re_search.specs.Meters.{Steps}
 use Rattle.grep_core.specs.declared.status.RunFault.TheVariants.{Write, Memory}
 use Rattle.grep_core.specs.declared.status.SearchFault.TheVariants as search_fault
@@ -14,8 +14,8 @@ limit_named name ls _ =
 -- the file for which a source stands has its name
 file_named : (name : Text) (r : Reading) → (file_of name r).name ≡ name
 file_named _ not_opened = refl
-file_named name (fails_after bytes) = limit_named name (ended_lines_of bytes) broken
-file_named name (ends_after bytes) = limit_named name (lines_of bytes) whole
+file_named _ (fails_after bytes) = limit_named _ _ _
+file_named _ (ends_after bytes) = limit_named _ _ _
 
 module _ (es : List Expression) (options : Options) where
   -- the message about one file
@@ -31,7 +31,7 @@ module _ (es : List Expression) (options : Options) where
     where
       by_flag : (silent : Bool) → MatchBool silent (reported_of silent end name ≡ []) (EachGives (Message es options) (file ∷ []) (reported_of silent end name))
       by_flag true = refl
-      by_flag false = EachGives-one (Message es options) file (message (ending_of end) name) m
+      by_flag false = EachGives-one (Message es options) _ _ m
 
   module _ {many shown : Bool} {source : Source} (given : List (Option Text) → Type 0) {name : Text} (named : name ≡ source.name) {end : FileEnd} {found : ℕ} where
     -- the summary could not be written
@@ -61,7 +61,7 @@ module _ (es : List Expression) (options : Options) where
           (TakesAll-more old.out mid new.out (rows_after (form options) shown s.rows) summary s.wrote (rw named at took))
 
       reported_too : Reported es options (file_of source.name s.reading ∷ []) (reported_of options.no_messages end source.name)
-      reported_too = file_reported end (file_of source.name s.reading) source.name (one_reported end (file_of source.name s.reading) s.fault s.ends (file_named source.name s.reading))
+      reported_too = file_reported _ _ _ (one_reported end (file_of source.name s.reading) s.fault s.ends (file_named source.name s.reading))
 
       -- all was written
       pub source_done : TakesAll old.messages new.messages (reported_of options.no_messages end name) → FinishesSource es options many shown source given old new end found
@@ -100,9 +100,9 @@ module _ (es : List Expression) (options : Options) (many shown : Bool) (source 
   -- the source is done, by what its search gave and what was written after it
   source_ended : (found : Result FileFound SearchFault) (result : Result FileFound RunFault) → SearchGives es options many shown source given old.source_failures new.source_failures old.out mid old.steps new.steps found
       → EndsSource options many name k mid new.out old.messages new.messages found result → SourceGives es options many shown source given k old new result
-  source_ended (Ok found) (Ok same) s e = rw e.0 (source_done es options given named old new s e.1 e.2)
+  source_ended (Ok found) (Ok same) s e = rw e.0 (source_done es options given named _ _ s e.1 e.2)
   source_ended (Ok found) (Err Write) s e = (source_unwritten es options given named s e.0 e.1, e.2)
-  source_ended (Ok found) (Err MessageWrite) s e = source_unreported es options given named old new s e.0 e.1 e.2
+  source_ended (Ok found) (Err MessageWrite) s e = source_unreported es options given named _ _ s e.0 e.1 e.2
   source_ended (Ok found) (Err (Memory at n)) s e = absurd e
   source_ended (Err search_fault.Write) result s e =
       rw e.0 (rw e.1 s, e.2)

@@ -90,7 +90,7 @@ wait-requires g c =
       block = before_block d;
       counted = d.many ∙ ap length (sym (before_lines d));
       few = c.lines.invariant.so_far.tracks.few;
-      due = asked_due c.lines.surroundings.progress.left c.args.request.now.options.invert_match c.next_held-stretch.result.count held.none c.next_held-stretch.result.before_count (before_counted d);
+      due = asked_due _ c.args.request.now.options.invert_match _ held.none _ (before_counted d);
     }
 
 pub pass-requires : goal.pass-requires
@@ -177,8 +177,8 @@ returns-in_err-show_line-2-clause-given g c =
     let reported = rw same at c.is_selected-found.ensures.reported in
     let once = searched_once c.args.request.now.options (length es) line (rw same at c.is_selected-found.ensures.steps) in
     let all_spent = searched_one_line c.args.request.now.options (length es) s.so_far.lines line s.so_far.steps once in
-    rw (is_err c.from_residual-in_err-show_line-2.result c.from_residual-in_err-show_line-2.ensures.1) (followed_stops s line next c.number-number.ensures reported all_spent
-    few _ c.wait.new.surroundings.recent refl c.in_err-show_line-2.field-0.0 c.in_err-show_line-2.ensures)
+    rw (is_err c.from_residual-in_err-show_line-2.result c.from_residual-in_err-show_line-2.ensures.1) (followed_stops s _ next c.number-number.ensures reported all_spent
+    few _ _ refl _ c.in_err-show_line-2.ensures)
 
 pub count_found-selected-requires-in-lines : goal.count_found-selected-requires-in-lines
 count_found-selected-requires-in-lines g c =
@@ -219,7 +219,7 @@ pub returns-in-Ok-Some-clause-given : goal.returns-in-Ok-Some-clause-given
 returns-in-Ok-Some-clause-given g c =
     let reader = c.args.lines.now.lines.reader in
     let p = held_searched g (goal.at.returns-in-Ok-Some-clause-given g c).After-pass-in-lines in
-    ends_as g.W.CountedWrite.contents g.W.CountedWrite.failures c.lines.out p.so_far c.take_next.new.lines c.take_next.new.out c.in-Ok-Some.end ((rw c.in-Ok-Some.field-0-is at c.in-Ok-Some.ensures) reader p.so_far.lines p.so_far.handed)
+    ends_as g.W.CountedWrite.contents g.W.CountedWrite.failures c.lines.out p.so_far c.take_next.new.lines _ _ ((rw c.in-Ok-Some.field-0-is at c.in-Ok-Some.ensures) reader p.so_far.lines p.so_far.handed)
 
 pub returns-in-Err-clause-given : goal.returns-in-Err-clause-given
 returns-in-Err-clause-given g c =

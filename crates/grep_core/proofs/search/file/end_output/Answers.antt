@@ -1,4 +1,3 @@
-use Rattle.grep_core.proofs.Prelude.{[]}
 use Rattle.grep_core.proofs.lemmas.RowLemmas.{writes_then_nothing}
 use Rattle.grep_core.proofs.search.file.end_output.Goals as goal
 

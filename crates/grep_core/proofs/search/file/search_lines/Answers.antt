@@ -134,7 +134,7 @@ pub returns-in-Ok-Some-clause-given : goal.returns-in-Ok-Some-clause-given
 returns-in-Ok-Some-clause-given g c =
     let reader = c.args.lines.now.lines.reader in
     let p = among g (goal.at.returns-in-Ok-Some-clause-given g c).Else-held-early in
-    ends_as g.W.CountedWrite.contents g.W.CountedWrite.failures c.write_held.new.out p c.take_next.new.lines c.take_next.new.out c.in-Ok-Some.end ((rw c.in-Ok-Some.field-0-is at c.in-Ok-Some.ensures) reader p.lines p.handed)
+    ends_as g.W.CountedWrite.contents g.W.CountedWrite.failures c.write_held.new.out p c.take_next.new.lines _ _ ((rw c.in-Ok-Some.field-0-is at c.in-Ok-Some.ensures) reader p.lines p.handed)
 
 pub returns-in-Err-clause-given : goal.returns-in-Err-clause-given
 returns-in-Err-clause-given g c =

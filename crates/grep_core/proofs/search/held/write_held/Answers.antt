@@ -13,7 +13,7 @@ returns-then-may_number-clause-ok g c =
     let (rest, ahead) = c.ready-block.ensures.ahead in
     let next = block_next block rest whole ahead (c.if-may_number.ensures.room refl) c.ready-block.ensures.none_at_end in
     let (matched, chosen, went, found) = c.in_ok-found.ensures.written in
-    takes_matched (c.requires.bare c.if-bare.true) c.if-not-invert.true whole next c.write_matched.ensures.steps matched chosen went found (c.count_newlines.ensures ∙ count_block block whole)
+    takes_matched (c.requires.bare c.if-bare.true) c.if-not-invert.true whole next c.write_matched.ensures.steps _ chosen went found (c.count_newlines.ensures ∙ count_block block whole)
 
 pub returns-in_err-found-clause-err : goal.returns-in_err-found-clause-err
 returns-in_err-found-clause-err g c =
@@ -23,7 +23,7 @@ returns-in_err-found-clause-err g c =
     let next = block_next block rest whole ahead (c.if-may_number.ensures.room refl) c.ready-block.ensures.none_at_end in
     let (matched, chosen, stopped, none) = c.in_err-found.ensures.written in
     rw (is_err c.from_residual.result c.from_residual.ensures.1)
-    (stops_matched (c.requires.bare c.if-bare.true) c.if-not-invert.true whole next c.write_matched.ensures.steps matched chosen stopped)
+    (stops_matched (c.requires.bare c.if-bare.true) c.if-not-invert.true whole next c.write_matched.ensures.steps _ chosen stopped)
 
 pub write_searched-requires : goal.write_searched-requires
 write_searched-requires g c =

@@ -38,7 +38,7 @@ returns-in_err-run-clause-steps g c =
     let at = c.in-Some.at in
     let many = ap length i.same.same_expressions in
     let within = (rw take_rest at c.in-Some.ensures.within).1 in
-    steps_within n (c.lines.start + (at.end + 1)) (length c.args.block.now) _ _ (omega (arith, within, length-drop c.lines.start c.args.block.now, runs.within)) (steps_for_more n c.lines.start (at.end + 1) i.steps (rw many at c.in-Some.ensures.steps))
+    steps_within n _ _ _ _ (omega (arith, within, length-drop c.lines.start c.args.block.now, runs.within)) (steps_for_more n c.lines.start (at.end + 1) i.steps (rw many at c.in-Some.ensures.steps))
 
 pub lines-preserved : goal.lines-preserved
 lines-preserved g c =
@@ -54,5 +54,5 @@ lines-preserved g c =
     record {
       writes = (sent ++ x, runs_next (IsSought s) runs at within next c.in_ok-run.run' x low cut, goes_on _ _ _ _ _ _ _ went more);
       same = same_over c.next_matched.ensures.same_matchers i.same;
-      steps = steps_for_more n c.lines.start (at.end + 1) i.steps (rw many at c.in-Some.ensures.steps);
+      steps = steps_for_more n _ _ i.steps (rw many at c.in-Some.ensures.steps);
     }

@@ -84,4 +84,4 @@ returns-then-is_err-clause-steps g c = λ before all d began few.
     searched_bytes c.args.request.now.options _ all few
 
 pub write_selected-requires-clause-room : goal.write_selected-requires-clause-room
-write_selected-requires-clause-room g c = if_kept c.make_room.result c.is_err.ensures.value c.if-is_err.false c.make_room.ensures
+write_selected-requires-clause-room g c = if_kept _ c.is_err.ensures.value c.if-is_err.false c.make_room.ensures

@@ -40,7 +40,7 @@ returns-in_err-write_selected-clause-steps g c =
     c.is_selected.ensures.same.same_expressions c.is_selected.ensures.steps c.write_selected.ensures.steps
 
 pub write_selected-requires : goal.write_selected-requires
-write_selected-requires g c = record { alike = still_alike c.is_selected.ensures.same c.requires.alike; room = if_kept c.make_room.result c.is_err.ensures.value c.if-is_err.false c.make_room.ensures }
+write_selected-requires g c = record { alike = still_alike c.is_selected.ensures.same c.requires.alike; room = if_kept _ c.is_err.ensures.value c.if-is_err.false c.make_room.ensures }
 
 pub returns-then-is_err-clause-steps : goal.returns-then-is_err-clause-steps
 returns-then-is_err-clause-steps g c =

@@ -5,11 +5,11 @@ use Rattle.grep_core.proofs.search.line.write_selected.Goals as goal
 
 pub returns-in-Lines-clause-ok : goal.returns-in-Lines-clause-ok
 returns-in-Lines-clause-ok g c =
-    row_written _ _ _ _ _ _ _ _ _ _ (sym c.in-Lines.ensures) c.write_text.result c.write_text.ensures
+    row_written _ _ _ _ _ _ _ _ _ _ (sym c.in-Lines.ensures) _ c.write_text.ensures
 
 pub returns-in-Lines-clause-err : goal.returns-in-Lines-clause-err
 returns-in-Lines-clause-err g c =
-    row_broken _ _ _ _ _ _ _ _ _ _ (sym c.in-Lines.ensures) c.write_text.result c.write_text.ensures
+    row_broken _ _ _ _ _ _ _ _ _ _ (sym c.in-Lines.ensures) _ c.write_text.ensures
 
 pub returns-in-Parts-clause-steps : goal.returns-in-Parts-clause-steps
 returns-in-Parts-clause-steps g c =

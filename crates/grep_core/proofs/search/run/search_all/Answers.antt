@@ -51,4 +51,4 @@ returns-clause-run g c =
     let sources = g.S.Sources.listed c.args.sources.now in
     let s = c.loop-k.invariant in
     let over : length sources ≤ c.loop-k.k = omega (arith, c.loop-k-test.false, c.count-count.ensures) in
-    run_ends sources _ c.loop-k.k _ _ (ap (nat_le 2) c.count-count.ensures) over s.so_far c.status_of.ensures
+    run_ends _ _ _ _ _ (ap (nat_le 2) c.count-count.ensures) over s.so_far c.status_of.ensures

@@ -1,4 +1,4 @@
-use Rattle.grep_core.proofs.Prelude.{rules, ◌≡◌, [], ◌∷◌, ◌++◌, ◌-◌, length, map, drop, sym, ap, ◌∙◌, append_assoc, append-nil, arith, length-drop, take_all, lines_of, terminated, LastLines, with_lines, last_of}
+use Rattle.grep_core.proofs.Prelude.{rules, ◌≡◌, [], ◌∷◌, ◌++◌, ◌-◌, length, drop, sym, ap, ◌∙◌, append_assoc, append-nil, arith, length-drop, take_all, lines_of, terminated, LastLines, with_lines, last_of}
 use Rattle.re_syntax.proofs.lemmas.LinesLaws.{lines_of-terminated}
 use Rattle.grep_core.proofs.lemmas.BlockLines.{holds_none, holds_more, holds_last, last_free}
 use Rattle.grep_core.proofs.lemmas.RecentLinesLemmas.{few_held}
@@ -11,7 +11,7 @@ loop-line-init c =
     let block = c.args.block.now in
     let start = c.last_lines-start.result in
     let rest = take_all (length block - start) (drop start block) (omega (arith, length-drop start block)) in
-    (tt, tt, [], c.into_iter-line-iterator.ensures.into_iter_gives ∙ c.split_file-line-items.ensures ∙ ap lines_of rest, rw (← c.self.view_is) (holds_none (record { limit = i.limit; lines = last_of i.held (map (λ line. line.items) i.lines.items) }) few))
+    (tt, tt, [], c.into_iter-line-iterator.ensures.into_iter_gives ∙ c.split_file-line-items.ensures ∙ ap lines_of rest, rw (← c.self.view_is) (holds_none _ few))
 
 pub loop-line-preserved : goal.loop-line-preserved
 loop-line-preserved c =
