@@ -68,7 +68,7 @@ module _ (es : List Expression) (options : Options) (context : Context) where
 
     -- what is shown of a line at a place
     pub Shows-exist : (number : Option ℕ) (text : List Text) (k : ℕ) (line : Text) → (out : List Text) × Shows es options context name number text k line out
-    Shows-exist number text k line = by_place (dec_shown text k) (dec_begins text k) (IsRow-exist number line)
+    Shows-exist number text k line = by_place (dec_shown text k) (dec_begins text k) (IsRow-exist _ _)
       where
         by_place : Dec (IsShown es options context text k) → Dec (BeginsGroup es options context text k) → (row : Text) × IsRow es options context name number line row → (out : List Text) × Shows es options context name number text k line out
         by_place (yes shown) (yes begins) row = (group_separator ∷ row.0 ∷ [], inl (shown, (row.0, row.1, inl (begins, refl))))
@@ -99,7 +99,7 @@ module _ (es : List Expression) (options : Options) (context : Context) where
       groups_none text _ h none =
           EachGives-nothing _
           (λ line out shows. elim shows [
-            | inl shown ↦ (let s : IsShown es options context text line.0 = shown.0 in absurd (none (any_at (Selected es options) text s.place [] s.on s.selected)))
+            | inl shown ↦ (let s : IsShown es options context text line.0 = shown.0 in absurd (none (any_at (Selected es options) _ _ [] s.on s.selected)))
             | inr hidden ↦ hidden.1
           ])
           _ _ h

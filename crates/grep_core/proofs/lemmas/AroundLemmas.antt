@@ -1,6 +1,6 @@
 -- A search that shows lines around selected ones: what is written of a file's first lines, one more
 -- line at a time.
-use Rattle.grep_core.proofs.Prelude.{AreUnselected, ◌≡◌, ℕ, ◌+◌, ◌-◌, nat_lt, ◌<◌, ◌≤◌, ◌⊎◌, ◌↔◌, Bool, true, false, ◌&&◌, ◌||◌, IsTrue, Decides, List, [], ◌∷◌, ◌++◌, length, take, drop, inl, inr, refl, sym, ap, subst, ◌∙◌, append_assoc, arith, if◌then◌else◌, enumerate_from, Text, Expression, Context, Options, Progress, EachGives, Selected, group_separator, IsShown, BeginsGroup, Groups, around, shown_number, name_shown, rows_after, progress_from, next_shown, with_waiting, after_line, last_of, rows_around, row_by, rows_at, min-eq_left, min-eq_right, cases_lt, false≢true, lt-ltb, le-ltb, or_right, false_from_ne_true, length-append, length-take-le, length-drop, append-nil, take-append-drop, drop_at, All-nil, All-cons, All-append, All-drop}
+use Rattle.grep_core.proofs.Prelude.{AreUnselected, ◌≡◌, ℕ, ◌+◌, ◌-◌, ◌<◌, ◌≤◌, ◌⊎◌, ◌↔◌, Bool, true, false, ◌&&◌, ◌||◌, IsTrue, Decides, List, [], ◌∷◌, ◌++◌, length, take, drop, inl, inr, refl, sym, ap, subst, ◌∙◌, append_assoc, arith, if◌then◌else◌, enumerate_from, Text, Expression, Context, Options, Progress, EachGives, Selected, group_separator, IsShown, BeginsGroup, Groups, around, shown_number, name_shown, rows_after, progress_from, next_shown, with_waiting, after_line, last_of, rows_around, row_by, rows_at, min-eq_left, min-eq_right, cases_lt, false≢true, lt-ltb, le-ltb, or_right, false_from_ne_true, length-append, length-take-le, length-drop, append-nil, take-append-drop, drop_at, All-nil, All-cons, All-append, All-drop}
 use Rattle.grep_core.proofs.lemmas.ChooseLaws.{EachGives-append}
 use Rattle.grep_core.proofs.lemmas.Decided.{dec_selected}
 use Rattle.grep_core.proofs.lemmas.Verdicts.{decided_yes, decided_no}
@@ -50,7 +50,7 @@ module _ (es : List Expression) (options : Options) (many : Bool) (name : Text) 
     groups = [];
     given = refl;
     written = sym (after_nothing (around context) before);
-    shown = said_before before;
+    shown = said_before _;
     first = λ _. refl;
   }
 
@@ -237,7 +237,7 @@ module _ (es : List Expression) (options : Options) (many : Bool) (name : Text) 
       → Tracks (with_waiting (length passed) p) (lines ++ passed) rows
   tracks_passed {p} passed none left_none t =
       let room = ap (λ (c : Context). c.before) t.same_context in
-      waits p _ (p.gap || nat_lt p.context.before (p.waiting + length passed)) _ none left_none
+      waits p _ _ _ none left_none
       (elim (cases_lt p.context.before (p.waiting + length passed)) [
         | inl over ↦ inr (omega (arith, over, room), min-eq_right (omega (arith, over)) ∙ room, or_right p.gap _ (lt-ltb _ _ over))
         | inr fits ↦ inl (omega (arith, fits, room), min-eq_left fits, ap (λ b. p.gap || b) (le-ltb _ _ fits) ∙ or_false p.gap)

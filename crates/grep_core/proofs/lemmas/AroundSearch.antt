@@ -170,10 +170,10 @@ module _ {R : Type 0} {f : Following R} where
             → later ≡ (if (next_shown p found).itself then [] else last_of context.before (recent ++ line ∷ [])) → FollowedSoFar f now old new began ended more (after_line p found) later
         followed_line took e kept = record {
           asked = s.asked;
-          so_far = record { lines = held_lines ++ line ∷ []; handed = next; wrote = written took e; few = at_most s.so_far line next found e; none_early = λ early. never_early options s.asked early; steps = spent };
+          so_far = record { lines = held_lines ++ line ∷ []; handed = next; wrote = written took e; few = at_most s.so_far line next _ e; none_early = λ early. never_early options s.asked early; steps = spent };
           tracks = tracked;
-          apart = waits_not_next p found s.apart;
-          held = held_next p _ _ s.held s.tracks.few s.tracks.within s.apart found (kept ∙ ap (λ n. if (next_shown p found).itself then [] else last_of n (recent ++ line ∷ [])) (sym (ap (λ (c : Context). c.before) s.tracks.same_context)));
+          apart = waits_not_next p _ s.apart;
+          held = held_next p _ _ s.held s.tracks.few s.tracks.within s.apart _ (kept ∙ ap (λ n. if (next_shown p found).itself then [] else last_of n (recent ++ line ∷ [])) (sym (ap (λ (c : Context). c.before) s.tracks.same_context)));
         }
 
         -- it could not be written, or the line could not be kept

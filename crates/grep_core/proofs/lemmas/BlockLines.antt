@@ -110,11 +110,11 @@ module _ (block : Text) (h : IsBlock block) where
   begins_none = ap length block_is ∙ ap (λ ts. length (terminated ts)) (sym (take_all (length lines - 0) lines (omega arith)))
 
   few_lines : (k : ℕ) → from_last k ≡ 0 → length lines ≤ k
-  few_lines k none = omega (arith, some_byte (take (length lines - k) lines) none, length-take (length lines - k) lines)
+  few_lines k none = omega (arith, some_byte _ none, length-take (length lines - k) lines)
 
   -- there are no more lines
   pub begins_all : (k most : ℕ) → 0 ≡ from_last k → k < most → drop 0 block ≡ terminated (last_of most lines)
-  begins_all k most is below = block_is ∙ ap terminated (sym (last_of-few most lines (omega (arith, few_lines k (sym is), below))))
+  begins_all k most is below = block_is ∙ ap terminated (sym (last_of-few _ _ (omega (arith, few_lines k (sym is), below))))
 
   -- the last `most` lines were looked at
   pub begins_last : {start : ℕ} (most : ℕ) → start ≡ from_last most → drop start block ≡ terminated (last_of most lines)

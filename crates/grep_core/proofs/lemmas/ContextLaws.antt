@@ -1,5 +1,5 @@
 -- A context has something to do with the output only where lines are written.
-use Rattle.grep_core.proofs.Prelude.{◌≡◌, Bool, true, false, ◌&&◌, ◌||◌, IsTrue, List, Option, refl, sym, ap, ◌∙◌, if◌then◌else◌, false≢true, Text, Expression, Context, Options, File, Form, nothing, names, counts, parts, lines, around, lines_with, OutAs, Out, are_many, ContextIsForLines}
+use Rattle.grep_core.proofs.Prelude.{◌≡◌, Bool, true, false, ◌&&◌, ◌||◌, IsTrue, List, Option, refl, sym, ap, ◌∙◌, if◌then◌else◌, false≢true, Text, Expression, Context, Options, File, Form, nothing, names, counts, parts, lines, around, lines_with, OutAs, Out, ContextIsForLines}
 
 -- what is asked for, where the lines that are asked for count only where nothing else is
 abbrev form_by : Bool → Bool → Bool → Bool → Bool → Form → Form
@@ -46,7 +46,7 @@ context_ignored es options context files out some h =
     let apart : (a b : Form) → asked a ≡ asked b = λ a b. form_apart options.quiet options.files_with_matches options.count options.only_matching options.invert_match a b some in
     let alone = form_alone options.quiet options.files_with_matches options.count options.only_matching options.invert_match in
     rw (apart (lines_with context) (lines_with options.context)) at
-    (out_apart es options context (are_many files) (asked (lines_with context)) files out (ap is_around (apart (lines_with context) lines) ∙ alone) h)
+    (out_apart es options _ _ _ _ _ (ap is_around (apart (lines_with context) lines) ∙ alone) h)
 
 -- lines around selected ones are shown only where lines are written and a context is given
 pub context_is_for_lines : (options : Options) → ContextIsForLines options

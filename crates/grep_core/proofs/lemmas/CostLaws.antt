@@ -16,7 +16,7 @@ cost_after first next {old} {mid} {new} a b = adds_both first next first next ol
 pub adds_once_more : (times cost : ℕ) (old mid new : Steps) → AddsAtMost (times * cost) old mid → AddsAtMost cost mid new → AddsAtMost ((times + 1) * cost) old new
 adds_once_more times cost old mid new a b =
     let all : times * cost + cost ≤ (times + 1) * cost = omega arith in
-    cost_within _ _ all (cost_after (times * cost) cost a b)
+    cost_within _ _ all (cost_after _ _ a b)
 
 -- the same cost more often
 pub adds_for_more : (few most cost : ℕ) (old new : Steps) → few ≤ most → AddsAtMost (few * cost) old new → AddsAtMost (most * cost) old new
@@ -39,7 +39,7 @@ module _ (options : Options) (matchers : ℕ) where
   -- a line was searched, and for its parts besides
   line_and_parts : (line : Text) {old mid new : Steps} → AddsAtMost (search_cost matchers line) old mid → AddsAtMost (parts_cost options matchers line) mid new → AddsAtMost (line_cost options matchers line) old new
   line_and_parts line a b =
-      cost_within _ _ (omega arith) (cost_after (search_cost matchers line) (parts_cost options matchers line) a b)
+      cost_within _ _ (omega arith) (cost_after _ _ a b)
 
   -- ---- lines
 
@@ -80,7 +80,7 @@ module _ (options : Options) (matchers : ℕ) where
       let width = ap length (terminated-append text (line ∷ [])) ∙ length-append (terminated text) (line ++ newline ∷ []) ∙ ap (λ n. length (terminated text) + n) (length-append line (newline ∷ [])) in
       let bytes : matchers * length (terminated (text ++ line ∷ [])) ≡ matchers * length (terminated text) + search_cost matchers line = ap (λ n. matchers * n) width ∙ (omega arith) in
       let own = parts_cost options matchers line in
-      cost_within _ _ (omega (arith, bytes, bytes_within text, sum_by_push (line_cost options matchers) text line)) (cost_after (matchers * length (terminated (text ++ line ∷ []))) own a asked)
+      cost_within _ _ (omega (arith, bytes, bytes_within text, sum_by_push (line_cost options matchers) text line)) (cost_after _ _ a asked)
 
   -- ---- files
 
@@ -89,7 +89,7 @@ module _ (options : Options) (matchers : ℕ) where
   searched_up_to files file others a b =
       let cost : File → ℕ = λ f. lines_cost options matchers f.lines in
       let all : files_cost options matchers files + lines_cost options matchers file.lines ≤ files_cost options matchers (files ++ file ∷ others) = omega (arith, sum_by-append cost files (file ∷ others), sum_by-cons cost file others) in
-      cost_within _ _ all (cost_after (files_cost options matchers files) (lines_cost options matchers file.lines) a b)
+      cost_within _ _ all (cost_after _ _ a b)
 
 -- a line was searched, and then for its parts, by matchers of the same expressions
 pub line_asked : {es ds : List Expression} (options : Options) (line : Text) {first mid last : Steps} → ds ≡ es

@@ -1,6 +1,6 @@
 -- The output, the messages and the status are determined by the expressions, the options and the
 -- files.
-use Rattle.grep_core.proofs.Prelude.{◌≡◌, ℕ, Bool, true, false, List, [], ◌∷◌, ◌++◌, sym, ap, ◌∙◌, length, map, drop, slice_range, MatchBool, decimal, Text, Expression, Options, Status, colon, prefix, EachGives, File, Ending, whole, missing, broken, Form, nothing, names, counts, parts, lines, around, form, shown_name, shown_number, head_of, CountOf, RowsOf, PartRowsOf, PartsOfLine, GroupsOf, OutAs, Out, are_many, Reached, Message, Messages, StatusOf}
+use Rattle.grep_core.proofs.Prelude.{◌≡◌, ℕ, Bool, true, false, List, [], ◌∷◌, ◌++◌, sym, ap, ◌∙◌, length, map, drop, slice_range, MatchBool, decimal, Text, Expression, Options, Status, colon, prefix, EachGives, File, Ending, whole, missing, broken, Form, nothing, names, counts, parts, lines, around, shown_name, shown_number, head_of, CountOf, RowsOf, PartRowsOf, PartsOfLine, GroupsOf, OutAs, Out, Reached, Message, Messages, StatusOf}
 use Rattle.re_syntax.proofs.lemmas.PartsLaws.{ArePartsFrom-unique}
 use Rattle.grep_core.proofs.lemmas.ChooseLaws.{same_value, IfHolds-both, EachGives-determined, Chosen-determined}
 use Rattle.grep_core.proofs.lemmas.AroundLaws.{Groups-determined}
@@ -42,7 +42,7 @@ module _ (es : List Expression) (options : Options) (many : Bool) where
 module _ (es : List Expression) (options : Options) where
   -- files have at most one output
   pub Out-determined : (files : List File) (out more : List Text) → Out es options files out → Out es options files more → out ≡ more
-  Out-determined files _ _ a b = OutAs-determined es options (are_many files) (form options) _ _ _ a b
+  Out-determined files _ _ a b = OutAs-determined es options _ _ _ _ _ a b
 
   -- there is at most one list of the files that are reached
   pub Reached-determined : (files r s : List File) → Reached es options files r → Reached es options files s → r ≡ s
@@ -57,7 +57,7 @@ module _ (es : List Expression) (options : Options) where
 
   -- files have at most one list of messages
   pub Messages-determined : (files : List File) (reported more : List Text) → Messages es options files reported → Messages es options files more → reported ≡ more
-  Messages-determined files reported more a b = by_flag options.no_messages a b
+  Messages-determined files reported more a b = by_flag _ a b
     where
       Reported : Bool → List Text → Type 0
       Reported none rows = MatchBool none (rows ≡ []) ((reached : List File) × Reached es options files reached × EachGives (Message es options) reached rows)

@@ -1,5 +1,5 @@
 -- All expressions, options and files have their output, their messages and their status.
-use Rattle.grep_core.proofs.Prelude.{◌≡◌, ℕ, Bool, true, false, IsTrue, List, [], ◌∷◌, ◌++◌, inl, inr, refl, length, map, drop, slice_range, MatchBool, Any, decimal, Text, Expression, Context, Options, Status, NoneSelected, Error, colon, prefix, EachGives, File, Ending, whole, missing, broken, Selected, HasSelected, Form, nothing, names, counts, parts, lines, around, form, shown_name, shown_number, head_of, numbered, SelectedLines, CountOf, RowsOf, PartRowsOf, PartsOfLine, GroupsOf, OutAs, Out, are_many, FaultMet, Reached, Message, Messages, AnySelected, StatusOf}
+use Rattle.grep_core.proofs.Prelude.{◌≡◌, ℕ, Bool, true, false, IsTrue, List, [], ◌∷◌, ◌++◌, inl, inr, refl, length, map, drop, slice_range, MatchBool, Any, decimal, Text, Expression, Context, Options, Status, NoneSelected, Error, colon, prefix, EachGives, File, Ending, whole, missing, broken, Selected, HasSelected, Form, nothing, names, counts, parts, lines, around, shown_name, shown_number, head_of, numbered, SelectedLines, CountOf, RowsOf, PartRowsOf, PartsOfLine, GroupsOf, OutAs, Out, FaultMet, Reached, Message, Messages, AnySelected, StatusOf}
 use Rattle.re_syntax.proofs.lemmas.Decisions.{dec_any, dec_both, dec_IsTrue}
 use Rattle.re_syntax.proofs.lemmas.PartsExist.{AreParts-exist}
 use Rattle.grep_core.specs.declared.status.Status.TheVariants.{Selected as selected}
@@ -51,7 +51,7 @@ module _ (es : List Expression) (options : Options) (many : Bool) where
 module _ (es : List Expression) (options : Options) where
   -- files have an output
   pub Out-exist : (files : List File) → (out : List Text) × Out es options files out
-  Out-exist files = OutAs-exist es options (are_many files) (form options) _
+  Out-exist files = OutAs-exist es options _ _ _
 
   -- there is a list of the files that are reached
   pub Reached-exist : (files : List File) → (reached : List File) × Reached es options files reached

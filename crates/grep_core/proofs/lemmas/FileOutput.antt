@@ -92,7 +92,7 @@ module _ (es : List Expression) (options : Options) (many : Bool) where
 
   -- the name of the file, where a line is selected
   named_out : (file : File) (some : Bool) → Decides some (HasSelected es options file) → OutAs es options many names (file ∷ []) (if some then file.name ∷ [] else [])
-  named_out file true d = (file ∷ [], EachGives-one (λ x zs. IfHolds (HasSelected es options x) (zs ≡ x ∷ []) (zs ≡ [])) file (file ∷ []) (inl (d.0 refl, refl)), refl)
+  named_out file true d = (file ∷ [], EachGives-one (λ x zs. IfHolds (HasSelected es options x) (zs ≡ x ∷ []) (zs ≡ [])) _ _ (inl (d.0 refl, refl)), refl)
   named_out file false d = ([], EachGives-one (λ x zs. IfHolds (HasSelected es options x) (zs ≡ x ∷ []) (zs ≡ [])) file [] (inr ((λ s. false≢true (d.1 s)), refl)), refl)
 
   -- the count of a file that was read to its end
@@ -126,7 +126,7 @@ module _ (es : List Expression) (options : Options) (many : Bool) where
   output_left _ _ nothing _ _ _ _ h d = λ i. h i ++ []
   output_left file ls names rows selected named early h d =
       rw h
-      (rw (← named) (named_out file (nat_lt 0 selected) d))
+      (rw (← named) (named_out _ _ d))
   output_left file ls counts rows selected named early h d = absurd (elim early [ inl e ↦ (cc) | inr e ↦ (cc) ])
   output_left file ls parts rows selected named early h d = absurd (elim early [ inl e ↦ (cc) | inr e ↦ (cc) ])
   output_left file ls lines rows selected named early h d = absurd (elim early [ inl e ↦ (cc) | inr e ↦ (cc) ])

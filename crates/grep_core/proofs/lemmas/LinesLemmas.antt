@@ -130,7 +130,7 @@ module _ (es : List Expression) (options : Options) (many shown : Bool) (name : 
   writes_lines : IsPlain (form options) → {more lines : List Text} {old mid new : Writer} {selected found : ℕ} → WritesLines lines old mid selected → TakesLines es options many name (length lines + 1) more mid new found → WritesLines (lines ++ more) old new (selected + found)
   writes_lines plain {more} {lines} {old} {mid} {new} {found = found} w t =
       let (has, all, are, counted) = adds_lines plain more lines w.rows t.rows w.chosen found (plain_written plain w.of) w.are_chosen t.are_rows in
-      record { rows = w.rows ++ t.rows; of = written_plain (form options) plain _ _ has; wrote = TakesAll-more old mid new w.rows t.rows w.wrote t.wrote; chosen = all; are_chosen = are; counted = omega (arith, counted, w.counted) }
+      record { rows = w.rows ++ t.rows; of = written_plain _ plain _ _ has; wrote = TakesAll-more old mid new w.rows t.rows w.wrote t.wrote; chosen = all; are_chosen = are; counted = omega (arith, counted, w.counted) }
 
   -- lines were passed where the selected ones are only counted
   writes_counted : IsPlain (form options) → form options ≡ counts → (passed lines : List Text) {old new : Writer} {selected : ℕ} (count : ℕ) → WritesLines lines old new selected → HoldsOfMany (Selected es options) passed count → WritesLines (lines ++ passed) old new (selected + count)
@@ -138,7 +138,7 @@ module _ (es : List Expression) (options : Options) (many shown : Bool) (name : 
       let same : selected ≡ selected + count = omega (arith, none) in
       rw (← same) (rw (append-nil lines) w)
   writes_counted plain asked (line ∷ passed) lines {new = new} {selected = selected} count w (others, h, inl (s, is)) =
-      let one = writes_line plain w (line_counted es options many name (length lines + 1) line new asked s) in
+      let one = writes_line plain w (line_counted es options _ _ _ _ _ asked s) in
       let same : selected + 1 + others ≡ selected + count = omega (arith, is) in
       rw same at
       (rw (append_assoc lines (line ∷ []) passed) at (writes_counted plain asked passed (lines ++ line ∷ []) others one h))
@@ -250,7 +250,7 @@ goes_on false b _ _ _ _ = refl
 -- so are lines that were searched at once
 pub goes_on_with : (found : ℕ) {early asked : Bool} → early ≡ asked → (nat_lt 0 found && early) ≡ false → IsTrue asked → found ≡ 0
 goes_on_with found {early} {asked} is both early_is = elim (cases_lt 0 found) [
-  | inl some ↦ absurd (false≢true (sym (goes_on (nat_lt 0 found) early asked is both early_is) ∙ lt-ltb 0 found some))
+  | inl some ↦ absurd (false≢true (sym (goes_on _ _ _ is both early_is) ∙ lt-ltb 0 found some))
   | inr none ↦ omega (arith, none)
 ]
 
@@ -349,7 +349,7 @@ module _ {R : Type 0} {remaining : R → Option Text} {failures : R → ℕ} {es
         sum = omega (arith, is, s.few, numbers_on, next.counted, next.few, found_within es options many name (before.number + 1) all took.rows found took.are_rows)
 
         all_written : WritesLines es options many shown name (s.lines ++ all) old new more
-        all_written = rw sum at (writes_lines es options many shown name plain s.wrote (rw first_number at took))
+        all_written = rw sum at (writes_lines es options _ shown _ plain s.wrote (rw first_number at took))
 
         -- their rows were written
         pub searched_among : (IsTrue (leaves_early options) → found ≡ 0) → SearchedOn s now new ended more
@@ -357,7 +357,7 @@ module _ {R : Type 0} {remaining : R → Option Text} {failures : R → ℕ} {es
           lines = s.lines ++ all;
           handed = next;
           wrote = all_written;
-          few = omega (arith, sum, s.few, numbers_on, found_within es options many name (before.number + 1) all took.rows found took.are_rows);
+          few = omega (arith, sum, s.few, numbers_on, found_within es options _ _ _ _ _ _ took.are_rows);
           none_early = λ early. sym sum ∙ (omega (arith, s.none_early early, none early));
           steps = all_spent;
         }
@@ -374,8 +374,8 @@ module _ {R : Type 0} {remaining : R → Option Text} {failures : R → ℕ} {es
           → GivesOn s now new ended (Err Write)
       breaks_in_lines broke =
           let at_first = rw first_number at broke in
-          let added = adds_lines es options many shown name plain all s.lines s.wrote.rows at_first.rows s.wrote.chosen at_first.found (plain_written es options many shown name plain s.wrote.of) s.wrote.are_chosen at_first.are_rows in
-          breaks_in es options many shown _ _ next.hands.none_failed (written_plain es options many shown name (form options) plain (s.lines ++ all) (s.wrote.rows ++ at_first.rows) added.0)
+          let added = adds_lines es options many shown name plain all s.lines s.wrote.rows at_first.rows s.wrote.chosen at_first.found (plain_written es options _ shown _ plain s.wrote.of) s.wrote.are_chosen at_first.are_rows in
+          breaks_in es options _ _ _ _ next.hands.none_failed (written_plain es options _ shown _ _ plain _ _ added.0)
           (TakesFront-more s.wrote.wrote at_first.wrote) (at_first.counted ∙ ap one_more s.wrote.wrote.none_failed) all_spent (begins name next)
 
       -- that, or there is no room for the parts of one of them
@@ -384,7 +384,7 @@ module _ {R : Type 0} {remaining : R → Option Text} {failures : R → ℕ} {es
       stops_in_lines _ _ _ Write broke = breaks_in_lines broke
       stops_in_lines same few new (Memory n) (counted, unwritten) =
           rw unwritten
-          (stops_among es options many shown _ _ _ n s.wrote all_spent (begins name next) (omega (arith, counted, s.handed.counted))
+          (stops_among es options _ _ _ _ _ n s.wrote all_spent (begins name next) (omega (arith, counted, s.handed.counted))
           (rw same (has_read remaining failures name reader before.lines s.lines s.handed.hands few)) next.hands.none_failed)
 
   -- one more line was handed out
@@ -414,7 +414,7 @@ module _ {R : Type 0} {remaining : R → Option Text} {failures : R → ℕ} {es
       number = is_number ∙ is_next ∙ ap (λ n. n + 1) (sym s.handed.counted)
 
       took : {new : Writer} → IsPlain (form options) → (found : Bool) → TakesLine es options many name count own mid new found → WritesLines es options many shown name (s.lines ++ own ∷ []) old new (if found then selected + 1 else selected)
-      took plain found t = writes_line es options many shown name plain s.wrote (rw number at t)
+      took plain found t = writes_line es options _ shown _ plain s.wrote (rw number at t)
 
       pub spent : {ended : Steps} → AddsAtMost (line_cost options (length es) own) amid ended → SearchesLines options (length es) (s.lines ++ own ∷ []) began ended
       spent one = searched_one_line options (length es) s.lines own s.steps one
@@ -426,7 +426,7 @@ module _ {R : Type 0} {remaining : R → Option Text} {failures : R → ℕ} {es
         lines = s.lines ++ own ∷ [];
         handed = handed;
         wrote = rw e (took plain found t);
-        few = at_most found e;
+        few = at_most _ e;
         none_early = λ early. e ∙ ap (λ b. if b then selected + 1 else selected) (goes_on early) ∙ s.none_early early;
         steps = spent one;
       }
@@ -436,7 +436,7 @@ module _ {R : Type 0} {remaining : R → Option Text} {failures : R → ℕ} {es
           → more ≡ (if found then selected + 1 else selected) → early ≡ leaves_early options → (found && early) ≡ true
           → GivesOn s now new ended (Ok (record { end = Left; selected = more }))
       leaves_at plain {found = true} {early = true} t one e is_early both =
-          searches_left es options many shown _ _ (rw (← e) at (took plain true t)) (spent one) (begins name handed) next.hands.none_failed (sym is_early) (omega (arith, e))
+          searches_left es options _ _ _ _ (rw (← e) at (took plain true t)) (spent one) (begins name handed) next.hands.none_failed (sym is_early) (omega (arith, e))
       leaves_at _ {found = true} {early = false} t _ e _ both = absurd (false≢true both)
       leaves_at _ {found = false} t _ e _ both = absurd (false≢true both)
 
@@ -508,7 +508,7 @@ module _ {R : Type 0} {remaining : R → Option Text} {failures : R → ℕ} {es
     -- buffered output could not be sent, or an allocation failed
     pub stops_as : (fault : SearchFault) → Taken (Err fault) → GivesOn s now (writer contents write_failures new) ended (Err fault)
     stops_as Write (h, stopped) =
-        breaks_in es options many shown _ _ h.hands.none_failed s.wrote.of (rw (append-nil s.wrote.rows) at (TakesFront-more s.wrote.wrote (TakesFront-written [] stopped)))
+        breaks_in es options _ _ _ _ h.hands.none_failed s.wrote.of (rw (append-nil s.wrote.rows) at (TakesFront-more s.wrote.wrote (TakesFront-written [] stopped)))
         (stopped.counted ∙ ap one_more s.wrote.wrote.none_failed) s.steps (begins name h)
     stops_as (Memory count) (h, few, is_count, went) =
-        stops_after es options many shown _ _ (sent went) s.steps (begins name h) (h.counted ∙ is_count) (has_read remaining failures name reader now.lines s.lines h.hands few) h.hands.none_failed
+        stops_after es options _ _ _ _ (sent went) s.steps (begins name h) (h.counted ∙ is_count) (has_read remaining failures name reader now.lines s.lines h.hands few) h.hands.none_failed

@@ -46,7 +46,7 @@ module _ (P : Text → Type 0) where
     goes_on = λ more c.
         let others = rw (ap lines_of (left ∙ after) ∙ lines_of-terminated n.after free) at c in
         let here : Chosen P (lines_of (drop start block)) (n.line ∷ more) = rw n.divided
-        (EachGives-append _ n.before (n.line ∷ n.after) [] (n.line ∷ more) (none_chosen n.before n.passed) (n.line ∷ [], more, inl (n.holds, refl), others, refl)) in
+        (EachGives-append _ n.before (n.line ∷ n.after) [] (n.line ∷ more) (none_chosen _ n.passed) (n.line ∷ [], more, inl (n.holds, refl), others, refl)) in
         let (all, are, bytes, long) = s.goes_on (n.line ∷ more) here in (
           all,
           are,
@@ -75,7 +75,7 @@ module _ (P : Text → Type 0) where
   -- no more are
   pub runs_out : {block sent : Text} {run start count : ℕ} → RunsTo block run start count sent → All (λ line. ¬ P line) (lines_of (drop start block)) → (all : List Text) × Chosen P (lines_of block) all × (sent ++ slice_range block run start ≡ terminated all) × (count ≡ length all)
   runs_out {block} {sent} {run} {start} s none =
-      let (all, are, bytes, long) = s.goes_on [] (none_chosen (lines_of (drop start block)) none) in
+      let (all, are, bytes, long) = s.goes_on [] (none_chosen _ none) in
       (all, are, sym (bytes ∙ append-nil (sent ++ slice_range block run start)), omega (arith, long))
 
 -- a write failed in a run of them
@@ -111,7 +111,7 @@ module _ (es : List Expression) {options : Options} {many : Bool} (name : Text) 
 pub steps_for_more : (n start more : ℕ) {old mid new : Steps} → AddsAtMost (n * start) old mid → AddsAtMost (n * more) mid new → AddsAtMost (n * (start + more)) old new
 steps_for_more n start more a b =
     let joined : n * start + n * more ≡ n * (start + more) = omega arith in
-    rw joined at (cost_after (n * start) (n * more) a b)
+    rw joined at (cost_after _ _ a b)
 
 pub steps_within : (n few most : ℕ) (old new : Steps) → few ≤ most → AddsAtMost (n * few) old new → AddsAtMost (n * most) old new
 steps_within n few most old new h a =

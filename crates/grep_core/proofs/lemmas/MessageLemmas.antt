@@ -13,7 +13,7 @@ message_row-is name text =
 
 module _ {W : Type 0} (contents : W → Option Text) (failures : W → ℕ) {T E : Type 0} (a b : W) (name : Text) (r : Result T E) where
   pub writes_read_error : Writes contents failures a b (output_line (codes "grep: ") (head colon (Some name) None ++ codes " read error")) r → Writes contents failures a b (output_line [] (read_error name)) r
-  writes_read_error w = rw (message_row-is name (codes " read error")) at w
+  writes_read_error w = rw (message_row-is _ _) at w
 
   pub writes_cannot_open : Writes contents failures a b (output_line (codes "grep: ") (head colon (Some name) None ++ codes " cannot open")) r → Writes contents failures a b (output_line [] (cannot_open name)) r
-  writes_cannot_open w = rw (message_row-is name (codes " cannot open")) at w
+  writes_cannot_open w = rw (message_row-is _ _) at w

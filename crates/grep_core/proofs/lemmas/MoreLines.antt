@@ -43,12 +43,12 @@ module _ (es : List Expression) (options : Options) (many : Bool) (name : Text) 
       RowsOf es options many (file_with name (xs ++ line ∷ []) ending) (out ++ (head_of es options many (file_with name xs ending) (length xs + 1) ++ line) ∷ [])
   RowsOf-end xs line _ h selected =
       let row : ℕ × Text → Text = λ l. head_of es options many (file_with name xs ending) l.0 ++ l.1 in
-      (h.0 ++ (length xs + 1, line) ∷ [], SelectedLines-end xs line h.0 h.1 selected, ap (λ t. t ++ row (length xs + 1, line) ∷ []) h.2 ∙ sym (map-append row h.0 ((length xs + 1, line) ∷ [])))
+      (h.0 ++ (length xs + 1, line) ∷ [], SelectedLines-end xs _ _ h.1 selected, ap (λ t. t ++ row (length xs + 1, line) ∷ []) h.2 ∙ sym (map-append row h.0 ((length xs + 1, line) ∷ [])))
 
   -- one more line, which is not selected
   pub RowsOf-passed : (xs : List Text) (line : Text) (out : List Text) → RowsOf es options many (file_with name xs ending) out → (Selected es options line → ⊥) →
       RowsOf es options many (file_with name (xs ++ line ∷ []) ending) out
-  RowsOf-passed xs line _ h passed = (h.0, SelectedLines-passed xs line h.0 h.1 passed, h.2)
+  RowsOf-passed xs line _ h passed = (h.0, SelectedLines-passed xs _ _ h.1 passed, h.2)
 
   -- the rows of more lines begin with those of fewer
   pub RowsOf-front : (xs more : List Text) (out : List Text) → RowsOf es options many (file_with name xs ending) out → (rest : List Text) × RowsOf es options many (file_with name (xs ++ more) ending) (out ++ rest)
@@ -61,12 +61,12 @@ module _ (es : List Expression) (options : Options) (many : Bool) (name : Text) 
   pub PartRowsOf-end : (xs : List Text) (line : Text) (out rows : List Text) → PartRowsOf es options many (file_with name xs ending) out → Selected es options line →
       PartsOfLine es options many (file_with name xs ending) (length xs + 1, line) rows → PartRowsOf es options many (file_with name (xs ++ line ∷ []) ending) (out ++ rows)
   PartRowsOf-end xs line out rows h selected parts =
-      (h.0 ++ (length xs + 1, line) ∷ [], SelectedLines-end xs line h.0 h.1 selected, EachGives-end _ h.0 (length xs + 1, line) out rows h.2 parts)
+      (h.0 ++ (length xs + 1, line) ∷ [], SelectedLines-end xs _ _ h.1 selected, EachGives-end _ _ _ _ _ h.2 parts)
 
   -- one more line, which is not selected
   pub PartRowsOf-passed : (xs : List Text) (line : Text) (out : List Text) → PartRowsOf es options many (file_with name xs ending) out → (Selected es options line → ⊥) →
       PartRowsOf es options many (file_with name (xs ++ line ∷ []) ending) out
-  PartRowsOf-passed xs line _ h passed = (h.0, SelectedLines-passed xs line h.0 h.1 passed, h.2)
+  PartRowsOf-passed xs line _ h passed = (h.0, SelectedLines-passed xs _ _ h.1 passed, h.2)
 
   -- the rows of the parts of more lines begin with those of fewer
   pub PartRowsOf-front : (xs more : List Text) (out : List Text) → PartRowsOf es options many (file_with name xs ending) out → (rest : List Text) × PartRowsOf es options many (file_with name (xs ++ more) ending) (out ++ rest)

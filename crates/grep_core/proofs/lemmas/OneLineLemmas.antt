@@ -49,7 +49,7 @@ line_passed _ _ _ _ _ _ w false e d = record { rows = []; are_rows = inr ((λ s.
 -- where only their number is written, no line has rows
 pub line_only_counted : (es : List Expression) (options : Options) (many : Bool) (name : Text) (number : ℕ) (line : Text) (w : Writer) → form options ≡ counts → (found : Bool) → Decides found (Selected es options line) → TakesLine es options many name number line w w found
 line_only_counted es options many _ _ _ w asked true d = line_counted es options many _ _ _ w asked (d.0 refl)
-line_only_counted es options many _ _ _ w _ false d = line_passed es options many _ _ _ w false refl d
+line_only_counted es options many _ _ _ w _ false d = line_passed es options _ _ _ _ w _ refl d
 
 -- a selected line has the rows that were written for it
 pub line_selected : {es ds : List Expression} {options : Options} {many : Bool} {name : Text} {number : ℕ} {line : Text} {a b : Writer} {verdict : Bool} → verdict ≡ true → Decides verdict (Selected es options line)
@@ -73,4 +73,4 @@ by_sign true true P d = ((λ f. absurd (false≢true f)), (λ none. absurd (none
 by_sign true false P d = ((λ _ m. false≢true (d.1 m)), (λ _. refl))
 
 pub selected_by : (es : List Expression) (options : Options) (line : Text) {matched verdict : Bool} → verdict ≡ selects options matched → Decides matched (Matched es options line) → Decides verdict (Selected es options line)
-selected_by es options line {matched} is d = rw is (by_sign options.invert_match matched (Matched es options line) d)
+selected_by es options line {matched} is d = rw is (by_sign _ _ (Matched es options line) d)

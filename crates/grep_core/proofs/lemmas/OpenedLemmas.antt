@@ -82,7 +82,7 @@ module _ (es : List Expression) (options : Options) (many shown : Bool) (source 
   source_broken s = record {
     reading = s.reading;
     is_reading = opened source s.reading opens s.is_reading;
-    failures = counted_on es options many shown _ given _ gives _ _ _ counted s.failures;
+    failures = counted_on es options _ _ _ given _ gives _ _ _ counted s.failures;
     rows = s.rows;
     are_rows = s.are_rows;
     wrote = s.wrote;
@@ -161,7 +161,7 @@ module _ (es : List Expression) (options : Options) (many shown : Bool) (source 
 -- has a selected line
 module _ (es : List Expression) (options : Options) (many : Bool) (plain : IsPlain (form options)) (first shown : Bool) (source : Source) (given : List (Option Text) → Type 0) where
   same_rows : (rows : List Text) → rows_after (form options) first rows ≡ rows_after (form options) shown rows
-  same_rows rows = plain_rows (form options) plain first rows ∙ sym (plain_rows (form options) plain shown rows)
+  same_rows rows = plain_rows _ plain _ _ ∙ sym (plain_rows _ plain _ _)
 
   counts_anyway : {reading : Reading} {before after : ℕ} → CountsSource es options many first source given reading before after → CountsSource es options many shown source given reading before after
   counts_anyway s = record { own = s.own; are_own = s.are_own; counted = s.counted; left = s.left; are_left = s.are_left; gave_back = s.gave_back }
@@ -177,7 +177,7 @@ module _ (es : List Expression) (options : Options) (many : Bool) (plain : IsPla
       ends = s.ends;
       rows = s.rows;
       are_rows = s.are_rows;
-      wrote = rw (same_rows s.rows) at s.wrote;
+      wrote = rw (same_rows _) at s.wrote;
       steps = s.steps;
     }
 
@@ -188,7 +188,7 @@ module _ (es : List Expression) (options : Options) (many : Bool) (plain : IsPla
       failures = counts_anyway s.failures;
       rows = s.rows;
       are_rows = s.are_rows;
-      wrote = rw (same_rows s.rows) at s.wrote;
+      wrote = rw (same_rows _) at s.wrote;
       counted = s.counted;
       steps = s.steps;
     }
@@ -204,7 +204,7 @@ module _ (es : List Expression) (options : Options) (many : Bool) (plain : IsPla
       read = s.read;
       rows = s.rows;
       are_rows = s.are_rows;
-      wrote = rw (same_rows s.rows) at s.wrote;
+      wrote = rw (same_rows _) at s.wrote;
       steps = s.steps;
     }
 
@@ -227,4 +227,4 @@ module _ {R : Type 0} (remaining : R → Option Text) (failures : R → ℕ) (es
     given_in r s =
         let at_source = rw same_source at s in
         let from_none = rw fresh_start at at_source in
-        source_gives es options many shown _ given _ gives opens _ _ _ _ _ _ counted r from_none
+        source_gives es options _ _ _ given _ gives opens _ _ _ _ _ _ counted r from_none

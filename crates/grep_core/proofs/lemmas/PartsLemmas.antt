@@ -44,7 +44,7 @@ module _ (es : List Expression) (options : Options) (many : Bool) (name : Text) 
     pub parts_done : {from : ℕ} {old now : Writer} → PartsSoFar from old now → ((i j : ℕ) → IsFound es line options.line_regexp from i j → ⊥) → WritesSelected es options many name number line old now
     parts_done {from} s none = record {
       rows = map part_row s.done;
-      are_rows = are_rows _ (rw (ap (λ l. s.done ++ l) (none_left from s.left s.are_left none) ∙ append-nil s.done) at s.are_parts);
+      are_rows = are_rows _ (rw (ap (λ l. s.done ++ l) (none_left _ _ s.are_left none) ∙ append-nil s.done) at s.are_parts);
       wrote = s.wrote;
     }
 

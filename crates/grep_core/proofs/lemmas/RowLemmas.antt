@@ -12,6 +12,6 @@ module _ {W : Type 0} (contents : W → Option Text) (failures : W → ℕ) wher
   pub writes_row : {T E : Type 0} (a b c : W) (margin front text : Text) (r : Result T E) → GoesOut contents failures a b margin
       → Writes contents failures b c (front ++ (text ++ newline ∷ [])) r → Writes contents failures a c (output_line margin (front ++ text)) r
   writes_row a b c margin front text r p q =
-      rw (output_line-parts margin front text) at (writes_last contents failures a b c margin (front ++ (text ++ newline ∷ [])) r p q)
+      rw (output_line-parts _ _ _) at (writes_last contents failures a b c margin (front ++ (text ++ newline ∷ [])) r p q)
 
 pub ruleset writing = (goes_nowhere, goes_on, stops_early, stops_later, writes_last, writes_row)

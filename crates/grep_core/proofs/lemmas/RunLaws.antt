@@ -73,7 +73,7 @@ module _ {es : List Expression} {options : Options} {many : Bool} where
       steps = adds_none 0 0 d.steps;
     };
     output = [];
-    is_output = nothing_written (form options);
+    is_output = nothing_written _;
     wrote = rw (after_nothing (form options) false) (TakesAll-nothing _);
     messages = [];
     are_reported = Reported-nothing es options;
@@ -182,17 +182,17 @@ module _ {es : List Expression} {options : Options} {many : Bool} where
         readings = readings;
         are_readings = are_all;
         failures = s.story.failures + failed.own;
-        are_failures = met_here failed.own failed.are_own;
-        counted = counted_here failed.own failed.counted;
+        are_failures = met_here _ failed.are_own;
+        counted = counted_here _ failed.counted;
         left = s.story.left ++ failed.left;
-        are_left = left_here failed.left failed.are_left;
+        are_left = left_here _ failed.are_left;
         gave_back = join s.story.left failed.left s.story.gave_back failed.gave_back;
         steps = spent new steps;
       }
 
       module _ (is_many : many ≡ nat_le 2 (length all_sources)) where
         all_many : many ≡ are_many files
-        all_many = is_many ∙ ap (nat_le 2) (sym (length-files_of all_sources readings are_all))
+        all_many = is_many ∙ ap (nat_le 2) (sym (length-files_of _ _ are_all))
 
         within : length before < length all_sources
         within = omega (arith, length-append before (source ∷ after))
@@ -352,19 +352,19 @@ module _ {es : List Expression} {options : Options} {many : Bool} where
 
       pub run_stopped : {end : FileEnd} {found : ℕ} → FinishesSource es options many some source own_given mid new end found → (options.quiet && nat_lt 0 found) ≡ true → Finishes es options sources all_given old new selected
       run_stopped {found = found} f both =
-          rw cut (finishes_here after f.reading f.is_reading many_here _ _ (both_hold options.quiet (nat_lt 0 found) both f.some) f.are_rows f.wrote f.are_messages f.reported f.failures f.steps)
+          rw cut (finishes_here after f.reading f.is_reading many_here _ _ (both_hold _ _ both f.some) f.are_rows f.wrote f.are_messages f.reported f.failures f.steps)
 
       -- the search of the source was given up
       pub run_fault : {k : ℕ} (fault : RunFault) → k ≡ length before → SourceGives es options many some source own_given k mid new (Err fault) → RunGives es options sources all_given old new (Err fault)
       run_fault Write place (b, same) = (
         rw cut (let more = says_more after b.reading b.is_reading many_here in
-            breaks_off after b.reading b.is_reading many_here _ _ {text = s.messages ++ more.0} b.are_rows (λ l. TakesFront-longer l b.wrote) more.1 (subst (λ m. TakesPast old.messages m s.messages (s.messages ++ more.0)) (sym same) (TakesPast-all more.0 s.reported)) b.failures b.steps),
+            breaks_off after b.reading b.is_reading many_here _ _ {text = s.messages ++ more.0} b.are_rows (λ l. TakesFront-longer l b.wrote) more.1 (subst (λ m. TakesPast old.messages m s.messages (s.messages ++ more.0)) (sym same) (TakesPast-all _ s.reported)) b.failures b.steps),
         b.counted ∙ ap one_more s.wrote.none_failed,
         ap (λ (w : Writer). w.failures) same ∙ s.reported.none_failed,
       )
       run_fault MessageWrite place b = (
         rw cut (let more = says_front after b.reading b.is_reading many_here b.messages b.are_messages in
-            breaks_off after b.reading b.is_reading many_here new b.rows b.are_rows (λ l. TakesFront-all l b.wrote) more.1 (TakesPast-more new.messages (b.messages ++ more.0) s.reported (TakesFront-longer more.0 b.reported)) b.failures b.steps),
+            breaks_off after b.reading b.is_reading many_here new b.rows b.are_rows (λ l. TakesFront-all l b.wrote) more.1 (TakesPast-more _ _ s.reported (TakesFront-longer _ b.reported)) b.failures b.steps),
         b.wrote.none_failed ∙ s.wrote.none_failed,
         b.counted ∙ ap one_more s.reported.none_failed,
       )
@@ -379,10 +379,10 @@ module _ {es : List Expression} {options : Options} {many : Bool} where
         story = s.story;
         wrote = record {
           text = rows_after (form options) false s.output;
-          due = rw (is_many ∙ ap (nat_le 2) (sym (length-files_of sources s.story.readings s.story.are_readings))) at (grouped_out es options many (form options) files s.output s.is_output);
+          due = rw (is_many ∙ ap (nat_le 2) (sym (length-files_of _ _ s.story.are_readings))) at (grouped_out es options many (form options) files s.output s.is_output);
           all = s.wrote;
         };
-        reported = record { text = s.messages; due = Messages-reached es options _ _ _ (Reached-all es options files s.goes_on) s.are_reported; all = s.reported };
+        reported = record { text = s.messages; due = Messages-reached es options _ _ _ (Reached-all es options _ s.goes_on) s.are_reported; all = s.reported };
         is_status = status some faulty s.some_reported s.faulty_reported;
       }
     where
@@ -414,13 +414,13 @@ module _ {es : List Expression} {options : Options} {many : Bool} where
       -- under `-q` a line of it is selected
       pub run_ends_at : {end : FileEnd} {found : ℕ} {here : Bool} → FinishesSource es options many some (source_at sources k) own_given mid new end found → here ≡ nat_lt 0 found → (options.quiet && here) ≡ true → RunGives es options sources all_given old new (Ok selected)
       run_ends_at f here_is both =
-          run_stopped _ own_given all_given join s (drop (suc k) sources) (cut_at sources k _ inside) is_many _ f (rw here_is at both)
+          run_stopped _ own_given all_given join s (drop (suc k) sources) (cut_at _ k _ inside) is_many _ f (rw here_is at both)
 
       -- its search was given up
       pub run_given_up : (fault : RunFault) {ds : List Expression} {listed : List Source} → ds ≡ es → listed ≡ sources → SourceGives ds options many some (source_at listed k) own_given k mid new (Err fault) → RunGives es options sources all_given old new (Err fault)
       run_given_up fault {listed = listed} same_expressions same_sources h =
           let searched = subst (λ l. SourceGives es options many some (source_at l k) own_given k mid new (Err fault)) same_sources (subst (λ xs. SourceGives xs options many some (source_at listed k) own_given k mid new (Err fault)) same_expressions h) in
-          run_fault _ own_given all_given join s (drop (suc k) sources) (cut_at sources k _ inside) is_many _ _ place searched
+          run_fault _ own_given all_given join s (drop (suc k) sources) (cut_at _ k _ inside) is_many _ _ place searched
 
   -- all sources were searched
   pub run_ends : (sources : List Source) (given : List (Option Text) → Type 0) (k : ℕ) (old new : Devices) {some faulty : Bool} {status : Status} → many ≡ nat_le 2 (length sources) → length sources ≤ k → RunSoFar es options many (take k sources) given old new some faulty → status ≡ status_by some faulty

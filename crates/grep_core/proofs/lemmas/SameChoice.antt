@@ -159,11 +159,11 @@ module _ (options : Options) where
         go : (b : Bool) → MatchBool b (reported ≡ []) ((reached : List File) × Reached ds options files reached × EachGives (Message ds options) reached reported)
             → MatchBool b (reported ≡ []) ((reached : List File) × Reached es options files reached × EachGives (Message es options) reached reported)
         go true h = h
-        go false h = (h.0, Reached-same files h.0 h.1, EachGives-map (Message ds options) (Message es options) (λ file reported. for_fault file (λ a. a) (λ b. b)) h.0 reported h.2)
+        go false h = (h.0, Reached-same _ _ h.1, EachGives-map (Message ds options) (Message es options) (λ file reported. for_fault file (λ a. a) (λ b. b)) _ _ h.2)
 
     StatusOf-same : (files : List File) (status : Status) → StatusOf ds options files status → StatusOf es options files status
     StatusOf-same files _ h =
-        IfHolds-map (λ q. (q.0, AnySelected-same ds es same files q.1)) (λ q. (q.0, AnySelected-same es ds (other_way ds es same) files q.1)) (λ a. a)
+        IfHolds-map (λ q. (q.0, AnySelected-same ds es same _ q.1)) (λ q. (q.0, AnySelected-same es ds (other_way ds es same) _ q.1)) (λ a. a)
         (λ rest. IfHolds-map (AnyFault-same ds es same files) (AnyFault-same es ds (other_way ds es same) files) (λ a. a)
         (λ last. IfHolds-map (AnySelected-same ds es same files) (AnySelected-same es ds (other_way ds es same) files) (λ a. a) (λ b. b) last) rest)
         h
@@ -213,7 +213,7 @@ module _ (options : Options) where
       }
 
       out_same : (many : Bool) (files : List File) (old new : Writer) → WritesAll (OutAs ds options many (form options) files) old new → WritesAll (OutAs es options many (form options) files) old new
-      out_same many _ _ _ w = record { text = w.text; due = OutAs-same many (form options) _ _ w.due; all = w.all }
+      out_same many _ _ _ w = record { text = w.text; due = OutAs-same _ _ _ _ w.due; all = w.all }
 
       messages_same : (files : List File) (old new : Writer) → WritesAll (Messages ds options files) old new → WritesAll (Messages es options files) old new
       messages_same _ _ _ w = record { text = w.text; due = Messages-same _ _ w.due; all = w.all }
@@ -224,7 +224,7 @@ module _ (options : Options) where
           at = b.at;
           in_sources = b.in_sources;
           story = Story-same _ given old new b.story;
-          wrote = record { first = b.wrote.first; due_first = OutAs-same _ (form options) _ _ b.wrote.due_first; text = b.wrote.text; due = OutAs-same _ (form options) _ _ b.wrote.due; past = b.wrote.past };
+          wrote = record { first = b.wrote.first; due_first = OutAs-same _ _ _ _ b.wrote.due_first; text = b.wrote.text; due = OutAs-same _ _ _ _ b.wrote.due; past = b.wrote.past };
           reported = record { first = b.reported.first; due_first = Messages-same _ _ b.reported.due_first; text = b.reported.text; due = Messages-same _ _ b.reported.due; past = b.reported.past };
         }
 

@@ -108,7 +108,7 @@ module _ (es : List Expression) (options : Options) (many : Bool) (name : Text) 
   -- under `-v` those lines are selected, and the one after them is not
   pub rows_unmatched : (number : ℕ) (before rows : List Text) (line : Text) → RowsOfLines es options many name number before rows (length before) → ¬ Selected es options line → RowsOfLines es options many name number (before ++ line ∷ []) rows (length before)
   rows_unmatched number before rows line are out =
-      rw (append-nil rows) at (rows_one_more number before line rows [] (length before) are (inr (out, refl)) (decided_no out))
+      rw (append-nil rows) at (rows_one_more _ _ _ _ [] _ are (inr (out, refl)) (decided_no out))
 
 -- bare rows are the lines with their newlines
 pub bare_bytes : {options : Options} {many : Bool} (name : Text) → IsBare options many → (number : ℕ) (ls : List Text) → written [] (rows_selected options many name number ls) ≡ terminated ls
@@ -143,7 +143,7 @@ plain_if false _ none _ = refl
 -- then none of the lines before the matched one is selected
 pub unselected_before : (es : List Expression) (options : Options) (count : ℕ) → (options.invert_match ≡ true → count ≡ 0) → (ls : List Text) → length ls ≤ count → All (λ line. ¬ IsSought (record { expressions = es; whole = options.line_regexp }) line) ls → AreUnselected es options ls
 unselected_before es options count none ls few unsought = λ k d below.
-    unselected_unmatched es options (plain_if options.invert_match count none (omega (arith, few, below))) ls unsought k d below
+    unselected_unmatched es options (plain_if _ _ none (omega (arith, few, below))) ls unsought k d below
 
 -- a stretch is asked for under `-v` only where rows are bare
 pub bare_if : {count : ℕ} {P : Type 0} (invert bare : Bool) → ((not invert || bare) ≡ false → count ≡ 0) → (IsTrue bare → P) → invert ≡ true → (count ≡ 0) ⊎ P
@@ -193,16 +193,16 @@ module _ {s : Sought} {stretch : SearchedBlock} {before all : List Text} (d : Is
   -- the lines before the last are some of them
   next_within : (line : Option (Bor Text)) → Ends line → (length before ≤ length all) × All HasNoNewline before
   next_within None same = (omega (arith, ap length same), rw same at d.free)
-  next_within (Some l) (holds, is) = (omega (arith, ap length is, length-append before (l.now ∷ [])), free_before before (l.now ∷ []) (rw is at d.free))
+  next_within (Some l) (holds, is) = (omega (arith, ap length is, length-append before (l.now ∷ [])), free_before _ _ (rw is at d.free))
 
   pub before_within : length before ≤ stretch.count
-  before_within = omega (arith, (next_within stretch.line d.next).0, d.counted)
+  before_within = omega (arith, (next_within _ d.next).0, d.counted)
 
   pub before_counted : stretch.before_count ≤ stretch.count
   before_counted = omega (arith, before_within, d.many)
 
   pub before_free : All HasNoNewline before
-  before_free = (next_within stretch.line d.next).1
+  before_free = (next_within _ d.next).1
 
   -- they are whole lines
   pub before_block : IsBlock stretch.before.now
@@ -228,4 +228,4 @@ module _ {s : Sought} {stretch : SearchedBlock} {before all : List Text} (d : Is
       rest None is = rw is first
       rest (Some l) (holds, is) =
           rw is
-          (rows_unmatched es options many _ _ _ _ _ first (unselected_matched es options inverts l.now (rw same at holds)))
+          (rows_unmatched es options many _ _ _ _ _ first (unselected_matched es options inverts _ (rw same at holds)))

@@ -46,7 +46,7 @@ module _ (es : List Expression) (options : Options) where
           failures = s.failures;
           rows = s.rows ++ summary;
           are_rows = s.are_rows;
-          wrote = rw (after_summary (form options) shown many source.name end found s.rows) (TakesFront-more s.wrote front_here);
+          wrote = rw (after_summary _ _ _ _ _ _ _) (TakesFront-more s.wrote front_here);
           counted = failed ∙ ap one_more s.wrote.none_failed;
           steps = s.steps;
         }
@@ -57,11 +57,11 @@ module _ (es : List Expression) (options : Options) where
 
       all_out : TakesAll old.out new.out (rows_after (form options) shown (s.rows ++ summary))
       all_out =
-          rw (after_summary (form options) shown many source.name end found s.rows)
+          rw (after_summary _ _ _ _ _ _ _)
           (TakesAll-more old.out mid new.out (rows_after (form options) shown s.rows) summary s.wrote (rw named at took))
 
       reported_too : Reported es options (file_of source.name s.reading ∷ []) (reported_of options.no_messages end source.name)
-      reported_too = file_reported _ _ _ (one_reported end (file_of source.name s.reading) s.fault s.ends (file_named source.name s.reading))
+      reported_too = file_reported _ _ _ (one_reported _ _ s.fault s.ends (file_named _ _))
 
       -- all was written
       pub source_done : TakesAll old.messages new.messages (reported_of options.no_messages end name) → FinishesSource es options many shown source given old new end found
@@ -113,4 +113,4 @@ module _ (es : List Expression) (options : Options) (many shown : Bool) (source 
   pub source_ended_as : {asked : Options} {all_many : Bool} → options ≡ asked → many ≡ all_many → (found : Result FileFound SearchFault) (result : Result FileFound RunFault)
       → SearchGives es options many shown source given old.source_failures new.source_failures old.out mid old.steps new.steps found → EndsSource options many name k mid new.out old.messages new.messages found result → SourceGives es asked all_many shown source given k old new result
   source_ended_as same_options same_many found result s e =
-      rw same_options at (rw same_many at (source_ended found result s e))
+      rw same_options at (rw same_many at (source_ended _ _ s e))

@@ -46,7 +46,7 @@ waits_not_by p false e h = λ some. absurd (omega (arith, some, ltb-false 0 p.le
 
 pub waits_not_next : (p : Progress) (selected : Bool) → WaitsNot p → WaitsNot (after_line p selected)
 waits_not_next p true h = λ _. refl
-waits_not_next p false h = waits_not_by p (nat_lt 0 p.left) refl h
+waits_not_next p false h = waits_not_by p _ refl h
 
 module _ (p : Progress) (lines : List Text) (line : Text) {recent new : List Text} (held : recent ≡ last_of p.waiting lines) (few : p.waiting ≤ p.context.before) (within : p.waiting ≤ length lines) (apart : WaitsNot p) where
   held_by : (more : Bool) → nat_lt 0 p.left ≡ more → new ≡ (if more then [] else last_of p.context.before (recent ++ line ∷ []))

@@ -119,14 +119,14 @@ returns-in_err-show_line-clause-given g c =
     let (before, all, d, n) = c.next_held-stretch.ensures.divided in
     let (mid, s, same, next, all_spent, reported, some) = at_selected g (goal.at.returns-in_err-show_line-clause-given g c).In-Some in
     let is_number : c.number-in-Some.result + c.next_held-stretch.result.count ≡ (passed_state n d.free).number = omega (arith, c.number-in-Some.ensures, d.counted) in
-    rw (is_err c.from_residual.result c.from_residual.ensures.1) (followed_stops s c.in-Some.text.now next is_number reported all_spent
-    (few_after (terminated all) n.rest (rw n.ahead at c.lines.invariant.few_held)) _ c.wait.new.surroundings.recent refl c.in_err-show_line.field-0.0 c.in_err-show_line.ensures)
+    rw (is_err _ c.from_residual.ensures.1) (followed_stops s _ next is_number reported all_spent
+    (few_after (terminated all) n.rest (rw n.ahead at c.lines.invariant.few_held)) _ _ refl _ c.in_err-show_line.ensures)
 
 pub lines-preserved-in-Some : goal.lines-preserved-in-Some
 lines-preserved-in-Some g c =
     let i = c.lines.invariant in
     let (before, all, d, n) = c.next_held-stretch.ensures.divided in
-    let waits = rw (before_lines d) at (if_kept c.wait.result c.is_err.ensures.value c.if-is_err.false c.wait.ensures) in
+    let waits = rw (before_lines d) at (if_kept _ c.is_err.ensures.value c.if-is_err.false c.wait.ensures) in
     let line = c.in-Some.text.now in
     let (mid, s, same, next, all_spent, reported, some) = at_selected g (goal.at.lines-preserved-in-Some g c).In-Some in
     let now = c.pass.new.self in
@@ -177,7 +177,7 @@ returns-in_err-show_line-2-clause-given g c =
     let reported = rw same at c.is_selected-found.ensures.reported in
     let once = searched_once c.args.request.now.options (length es) line (rw same at c.is_selected-found.ensures.steps) in
     let all_spent = searched_one_line c.args.request.now.options (length es) s.so_far.lines line s.so_far.steps once in
-    rw (is_err c.from_residual-in_err-show_line-2.result c.from_residual-in_err-show_line-2.ensures.1) (followed_stops s _ next c.number-number.ensures reported all_spent
+    rw (is_err _ c.from_residual-in_err-show_line-2.ensures.1) (followed_stops s _ next c.number-number.ensures reported all_spent
     few _ _ refl _ c.in_err-show_line-2.ensures)
 
 pub count_found-selected-requires-in-lines : goal.count_found-selected-requires-in-lines
@@ -206,7 +206,7 @@ lines-preserved g c =
     let all_spent = searched_one_line c.args.request.now.options (length es) s.so_far.lines line s.so_far.steps once in
     let shown = c.in_ok-show_line-2.ensures in
     let (before, all, d, n) = held.divided in
-    let waits = rw (before_lines d) at (if_kept c.wait.result c.is_err.ensures.value c.if-is_err.false c.wait.ensures) in
+    let waits = rw (before_lines d) at (if_kept _ c.is_err.ensures.value c.if-is_err.false c.wait.ensures) in
     let limit = waiting_limit waits i.limit in
     record {
       so_far = rw shown.goes_on (followed_line s line next c.number-number.ensures reported all_spent shown.wrote c.count_found-selected-in-lines.ensures (shown.holds ∙ ap (λ n. if (next_shown c.wait.new.surroundings.progress c.is_selected-found.result).itself then [] else last_of n (c.wait.new.surroundings.recent.lines ++ line ∷ [])) limit));

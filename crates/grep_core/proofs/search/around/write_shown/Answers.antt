@@ -4,15 +4,15 @@ use Rattle.grep_core.proofs.search.around.write_shown.Goals as goal
 
 pub returns-in_err-write_separator : goal.returns-in_err-write_separator
 returns-in_err-write_separator g c =
-    rw (is_err c.from_residual.result c.from_residual.ensures.1)
+    rw (is_err _ c.from_residual.ensures.1)
     (stops_between _ _ _ _ _ _ c.in_err-write_separator.ensures)
 
 pub returns-in_err-write_waiting : goal.returns-in_err-write_waiting
 returns-in_err-write_waiting g c =
-    rw (is_err c.from_residual-in_err-write_waiting.result c.from_residual-in_err-write_waiting.ensures.1)
-    (stops_waiting _ _ _ _ _ (holds_too c.args.shown.itself c.if-not-shown.false) c.in_ok-write_separator.ensures c.in_err-write_waiting.ensures)
+    rw (is_err _ c.from_residual-in_err-write_waiting.ensures.1)
+    (stops_waiting _ _ _ _ _ (holds_too _ c.if-not-shown.false) c.in_ok-write_separator.ensures c.in_err-write_waiting.ensures)
 
 pub returns : goal.returns
 returns g c =
-    row_last _ _ _ _ _ (holds_too c.args.shown.itself c.if-not-shown.false) _ _
+    row_last _ _ _ _ _ (holds_too _ c.if-not-shown.false) _ _
     c.in_ok-write_separator.ensures c.in_ok-write_waiting.ensures c.write_shown.ensures

@@ -67,7 +67,7 @@ returns-in-Ok-Some-clause-given g c =
 pub returns-in-Err-clause-given : goal.returns-in-Err-clause-given
 returns-in-Err-clause-given g c =
     let p = counted g (goal.at.returns-in-Err-clause-given g c).After-saturating_add-selected in
-    stops_as g.W.CountedWrite.contents g.W.CountedWrite.failures c.lines.out p c.take_next.new.lines _ _ (c.in-Err.ensures c.args.lines.now.lines.reader p.lines p.handed)
+    stops_as g.W.CountedWrite.contents g.W.CountedWrite.failures c.lines.out p _ _ _ (c.in-Err.ensures c.args.lines.now.lines.reader p.lines p.handed)
 
 pub count_matched-matched-requires-clause-block : goal.count_matched-matched-requires-clause-block
 count_matched-matched-requires-clause-block g c = c.ready_lines-block.ensures.whole

@@ -71,7 +71,7 @@ lines-smaller-then-held g c =
     let i = c.lines.invariant in
     let h = c.in_ok-held.ensures.ok in
     let next = handed_passed h.next h.free i.so_far.handed h.width c.pass.ensures.passed in
-    omega (arith, h.some c.if-held.true, numbers_on i.so_far h.all next, next.few, next.counted)
+    omega (arith, h.some c.if-held.true, numbers_on i.so_far _ next, next.few, next.counted)
 
 pub search_line-requires : goal.search_line-requires
 search_line-requires g c =
@@ -140,4 +140,4 @@ pub returns-in-Err-clause-given : goal.returns-in-Err-clause-given
 returns-in-Err-clause-given g c =
     let reader = c.args.lines.now.lines.reader in
     let p = among g (goal.at.returns-in-Err-clause-given g c).Else-held-early in
-    stops_as g.W.CountedWrite.contents g.W.CountedWrite.failures c.write_held.new.out p c.take_next.new.lines c.take_next.new.out c.in-Err.fault (c.in-Err.ensures reader p.lines p.handed)
+    stops_as g.W.CountedWrite.contents g.W.CountedWrite.failures c.write_held.new.out p _ _ _ (c.in-Err.ensures reader p.lines p.handed)

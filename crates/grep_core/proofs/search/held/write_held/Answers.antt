@@ -22,7 +22,7 @@ returns-in_err-found-clause-err g c =
     let (rest, ahead) = c.ready-block.ensures.ahead in
     let next = block_next block rest whole ahead (c.if-may_number.ensures.room refl) c.ready-block.ensures.none_at_end in
     let (matched, chosen, stopped, none) = c.in_err-found.ensures.written in
-    rw (is_err c.from_residual.result c.from_residual.ensures.1)
+    rw (is_err _ c.from_residual.ensures.1)
     (stops_matched (c.requires.bare c.if-bare.true) c.if-not-invert.true whole next c.write_matched.ensures.steps _ chosen stopped)
 
 pub write_searched-requires : goal.write_searched-requires
@@ -60,5 +60,5 @@ returns-in_err-found-2-clause-err g c =
     let same = held.same.same_expressions in
     let later = divided_kept (same_sought held.same) d in
     let few = stretch_spent (sym same) d held.steps in
-    rw (is_err c.from_residual-in_err-found-2.result c.from_residual-in_err-found-2.ensures.1)
+    rw (is_err _ c.from_residual-in_err-found-2.ensures.1)
     (record { all = all; free = d.free; next = n; stops = rw (same, c.number-number.ensures) at (c.in_err-found-2.ensures.err before all later); spent = rw same at (c.write_searched.ensures.steps before all later c.args.meter.now few) })

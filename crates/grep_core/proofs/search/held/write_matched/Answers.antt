@@ -1,4 +1,4 @@
-use Rattle.grep_core.proofs.Prelude.{◌+◌, ◌++◌, None, length, drop, ap, subst, arith, length-drop, lines_of, IsSought, sought_of, expressions_of}
+use Rattle.grep_core.proofs.Prelude.{◌++◌, None, length, drop, ap, subst, arith, length-drop, lines_of, IsSought, sought_of, expressions_of}
 use Rattle.std.proofs.lemmas.List.{take_rest}
 use Rattle.re_search.specs.Working.Sought.{FindsSought}
 use Rattle.re_search.proofs.lemmas.KeptMatchers.{same_over, same_sought}
@@ -12,7 +12,7 @@ returns-in_err-push_all-clause-written g c =
     let s = sought_of c.args.whole c.args.matchers.now in
     let (sent, runs, went) = c.lines.invariant.writes in
     let (all, are, stopped) = run_stops s runs went c.in_err-push_all.ensures in
-    rw (is_err c.from_residual.result c.from_residual.ensures.1) (all, are, stopped, tt)
+    rw (is_err _ c.from_residual.ensures.1) (all, are, stopped, tt)
 
 pub returns-in_default-clause-written : goal.returns-in_default-clause-written
 returns-in_default-clause-written g c =
@@ -28,7 +28,7 @@ returns-in_err-run-clause-written g c =
     let s = sought_of c.args.whole c.args.matchers.now in
     let (sent, runs, went) = c.lines.invariant.writes in
     let (all, are, stopped) = run_stops s runs went c.in_err-run.ensures.err in
-    rw (is_err c.from_residual-in_err-run.result c.from_residual-in_err-run.ensures.1) (all, are, stopped, tt)
+    rw (is_err _ c.from_residual-in_err-run.ensures.1) (all, are, stopped, tt)
 
 pub returns-in_err-run-clause-steps : goal.returns-in_err-run-clause-steps
 returns-in_err-run-clause-steps g c =
@@ -38,7 +38,7 @@ returns-in_err-run-clause-steps g c =
     let at = c.in-Some.at in
     let many = ap length i.same.same_expressions in
     let within = (rw take_rest at c.in-Some.ensures.within).1 in
-    steps_within n _ _ _ _ (omega (arith, within, length-drop c.lines.start c.args.block.now, runs.within)) (steps_for_more n c.lines.start (at.end + 1) i.steps (rw many at c.in-Some.ensures.steps))
+    steps_within n _ _ _ _ (omega (arith, within, length-drop c.lines.start c.args.block.now, runs.within)) (steps_for_more n _ _ i.steps (rw many at c.in-Some.ensures.steps))
 
 pub lines-preserved : goal.lines-preserved
 lines-preserved g c =

@@ -40,7 +40,7 @@ returns-in_err-push_all-clause-err g c = λ before all d.
     let es = expressions_of c.args.matchers.now in
     let (rows, are, bytes) = stretch_inverted d es w.options refl w.many w.name.now c.if-request.true (c.args.number + 1) (c.requires.bare c.if-request.true) in
     let unsent = rw bytes at c.in_err-push_all.ensures in
-    rw (is_err c.from_residual.result c.from_residual.ensures.1) (record { rows = rows; found = length before; are_rows = are; wrote = TakesFront-written rows unsent; counted = unsent.counted })
+    rw (is_err _ c.from_residual.ensures.1) (record { rows = rows; found = length before; are_rows = are; wrote = TakesFront-written rows unsent; counted = unsent.counted })
 
 pub returns-clause-ok : goal.returns-clause-ok
 returns-clause-ok g c = λ before all d.

@@ -6,7 +6,7 @@ use Rattle.grep_core.proofs.search.line.search_line.Goals as goal
 
 pub returns-then-not-is_selected-clause-ok : goal.returns-then-not-is_selected-clause-ok
 returns-then-not-is_selected-clause-ok g c =
-    line_passed _ _ _ _ _ _ _ c.is_selected.result c.if-not-is_selected.true c.is_selected.ensures.reported
+    line_passed _ _ _ _ _ _ _ _ c.if-not-is_selected.true c.is_selected.ensures.reported
 
 pub returns-then-not-is_selected-clause-steps : goal.returns-then-not-is_selected-clause-steps
 returns-then-not-is_selected-clause-steps g c =
@@ -19,7 +19,7 @@ returns-clause-ok g c =
 
 pub returns-in_err-write_selected-clause-err : goal.returns-in_err-write_selected-clause-err
 returns-in_err-write_selected-clause-err g c =
-    rw (is_err c.from_residual.result c.from_residual.ensures.1)
+    rw (is_err _ c.from_residual.ensures.1)
     (line_broken c.if-not-is_selected.false c.is_selected.ensures.reported
     c.is_selected.ensures.same.same_expressions c.in_err-write_selected.ensures.err)
 
