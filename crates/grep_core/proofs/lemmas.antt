@@ -27,7 +27,6 @@ pub mod OneFile
 pub mod OneLineLemmas
 pub mod FileOutput
 pub mod LinesLemmas
-pub mod EndLemmas
 pub mod WaitingRows
 pub mod AroundSearch
 pub mod OpenedLemmas

@@ -1,6 +1,6 @@
 -- The last lines of a block: where they begin, and that no others need be held after lines that
 -- are.
-use Rattle.grep_core.proofs.Prelude.{◌≡◌, ◌≢◌, ℕ, ◌+◌, ◌-◌, ◌<◌, ◌≤◌, min, inl, inr, List, [], ◌∷◌, ◌++◌, All, length, take, drop, get_or, refl, sym, ap, ◌∙◌, subst, arith, length-append, append_assoc, append-nil, take-append-drop, take-append_seam, drop-append_seam, cases_lt, length-take, length-drop, get_or-drop, get_or_append_left, get_or-append-add, drop-drop, drop-append-le, take_more, take_all, All-drop, Text, newline, terminated, lines_of, HasNoNewline, IsBlock, LastLines, with_lines, last_of}
+use Rattle.grep_core.proofs.Prelude.{◌≡◌, ◌≢◌, ℕ, ◌+◌, ◌-◌, ◌<◌, ◌≤◌, min, inl, inr, List, [], ◌∷◌, ◌++◌, All, length, take, drop, get_or, refl, sym, ap, ◌∙◌, arith, length-append, append_assoc, append-nil, take-append-drop, take-append_seam, drop-append_seam, cases_lt, length-take, length-drop, get_or-drop, get_or_append_left, get_or-append-add, drop-drop, drop-append-le, take_more, take_all, All-drop, Text, newline, terminated, lines_of, HasNoNewline, IsBlock, LastLines, with_lines, last_of}
 use Rattle.re_syntax.proofs.lemmas.LinesLaws.{lines_of-terminated, terminated-append}
 use Rattle.grep_io.proofs.lemmas.WindowBlocks.{ends_in_newline, drop_past}
 use Rattle.grep_core.proofs.lemmas.WaitingRows.{length-last_of}
@@ -16,9 +16,9 @@ pub last_of-many : {A : Type 0} (most n : ℕ) (xs ys : List A) → n ≤ length
 last_of-many most n xs ys within few =
     let k = length xs - n in
     let front : k ≤ length xs = omega arith in
-    let joined : last_of n xs ++ ys ≡ drop k (xs ++ ys) = sym (drop-append-le k xs ys front) in
-    let long : length (last_of n xs ++ ys) ≡ n + length ys = length-append (last_of n xs) ys ∙ ap (λ m. m + length ys) (length-last_of n xs within) in
-    let all : length (xs ++ ys) ≡ length xs + length ys = length-append xs ys in
+    let joined = sym (drop-append-le k xs ys front) in
+    let long = length-append (last_of n xs) ys ∙ ap (λ m. m + length ys) (length-last_of n xs within) in
+    let all = length-append xs ys in
     let places : k + (n + length ys - most) ≡ length xs + length ys - min (n + length ys) most = omega (arith, within, few) in
     ap (λ m. drop (m - most) (last_of n xs ++ ys)) long ∙ ap (drop (n + length ys - most)) joined ∙ drop-drop (n + length ys - most) k (xs ++ ys) ∙ ap (λ m. drop m (xs ++ ys)) places ∙ ap (λ m. drop (m - min (n + length ys) most) (xs ++ ys)) (sym all)
 
@@ -27,7 +27,7 @@ pub last_of-again : {A : Type 0} (most : ℕ) (xs ys : List A) → last_of most 
 last_of-again most xs ys = elim (cases_lt most (length xs)) [
   | inl over ↦
       (let same : min (most + length ys) most ≡ most = omega arith in
-      last_of-many most most xs ys (omega (arith, over)) (omega arith) ∙ ap (λ m. last_of m (xs ++ ys)) same)
+      last_of-many _ _ xs ys (omega (arith, over)) (omega arith) ∙ ap (λ m. last_of m (xs ++ ys)) same)
   | inr fits ↦ ap (λ l. last_of most (l ++ ys)) (last_of-few most xs fits)
 ]
 
@@ -36,7 +36,7 @@ pub last_of-late : {A : Type 0} (most : ℕ) (xs ys : List A) → last_of most (
 last_of-late most xs ys = elim (cases_lt most (length ys)) [
   | inl over ↦
       (let k = length ys - most in
-      let long : length (xs ++ last_of most ys) ≡ length xs + most = length-append xs (last_of most ys) ∙ ap (λ m. length xs + m) (length-last_of most ys (omega (arith, over))) in
+      let long = length-append xs (last_of most ys) ∙ ap (λ m. length xs + m) (length-last_of most ys (omega (arith, over))) in
       let short : length xs + most - most ≡ length xs + 0 = omega arith in
       let places : length xs + k ≡ length (xs ++ ys) - most = omega (arith, over, length-append xs ys) in
       ap (λ m. drop (m - most) (xs ++ last_of most ys)) long ∙ ap (λ m. drop m (xs ++ last_of most ys)) short ∙ drop_past xs (last_of most ys) 0 ∙ sym (drop_past xs ys k) ∙ ap (λ m. drop m (xs ++ ys)) places)
@@ -50,8 +50,8 @@ pub holds_none : (h : LastLines) → length h.lines ≤ h.limit → h ≡ with_l
 holds_none h few = ap (λ ls. let r : LastLines = record { limit = h.limit; lines = ls } in r) (sym (ap (last_of h.limit) (append-nil h.lines) ∙ last_of-few h.limit h.lines few))
 
 -- one more
-pub holds_more : (h held now : LastLines) (done : List Text) (line : Text) → held ≡ with_lines h done → now ≡ with_lines held (line ∷ []) → now ≡ with_lines h (done ++ line ∷ [])
-holds_more h held now done line e is =
+pub holds_more : {held now : LastLines} (h : LastLines) (done : List Text) (line : Text) → held ≡ with_lines h done → now ≡ with_lines held (line ∷ []) → now ≡ with_lines h (done ++ line ∷ [])
+holds_more h done line e is =
     is ∙ ap (λ (x : LastLines). with_lines x (line ∷ [])) e
     ∙ ap (λ ls. let r : LastLines = record { limit = h.limit; lines = ls } in r) (last_of-again h.limit (h.lines ++ done) (line ∷ []) ∙ ap (last_of h.limit) (append_assoc h.lines done (line ∷ [])))
 
@@ -99,7 +99,7 @@ module _ (block : Text) (h : IsBlock block) where
   block_is = h.2 ∙ ap terminated (sym these)
 
   free : All HasNoNewline lines
-  free = subst (All HasNoNewline) (sym these) h.1
+  free = rw these h.1
 
   -- its last lines
   pub last_free : (most : ℕ) → All HasNoNewline (last_of most lines)
@@ -110,17 +110,17 @@ module _ (block : Text) (h : IsBlock block) where
   begins_none = ap length block_is ∙ ap (λ ts. length (terminated ts)) (sym (take_all (length lines - 0) lines (omega arith)))
 
   few_lines : (k : ℕ) → from_last k ≡ 0 → length lines ≤ k
-  few_lines k none = omega (arith, some_byte (take (length lines - k) lines) none, length-take (length lines - k) lines)
+  few_lines k none = omega (arith, some_byte _ none, length-take (length lines - k) lines)
 
   -- there are no more lines
   pub begins_all : (k most : ℕ) → 0 ≡ from_last k → k < most → drop 0 block ≡ terminated (last_of most lines)
-  begins_all k most is below = block_is ∙ ap terminated (sym (last_of-few most lines (omega (arith, few_lines k (sym is), below))))
+  begins_all k most is below = block_is ∙ ap terminated (sym (last_of-few _ _ (omega (arith, few_lines k (sym is), below))))
 
   -- the last `most` lines were looked at
-  pub begins_last : (start most : ℕ) → start ≡ from_last most → drop start block ≡ terminated (last_of most lines)
-  begins_last start most is =
+  pub begins_last : {start : ℕ} (most : ℕ) → start ≡ from_last most → drop start block ≡ terminated (last_of most lines)
+  begins_last {start} most is =
       let m = length lines - most in
-      let with_parts : block ≡ terminated (take m lines) ++ terminated (drop m lines) = block_is ∙ ap terminated (sym (take-append-drop m lines)) ∙ terminated-append (take m lines) (drop m lines) in
+      let with_parts = block_is ∙ ap terminated (sym (take-append-drop m lines)) ∙ terminated-append (take m lines) (drop m lines) in
       ap (drop start) with_parts ∙ ap (λ n. drop n (terminated (take m lines) ++ terminated (drop m lines))) is ∙ drop-append_seam (terminated (take m lines)) (terminated (drop m lines))
 
   -- one line more
@@ -168,5 +168,5 @@ module _ (block : Text) (h : IsBlock block) where
 
     pub begins_before : (next : ℕ) → next ≤ length (take (start - 1) block) → (0 < next → get_or (take (start - 1) block) (next - 1) 0 ≡ newline) → HasNoNewline (drop next (take (start - 1) block)) → next ≡ from_last (k + 1)
     begins_before next within ended cut =
-        end_at front line next (ends_in_newline (take m lines)) (free m [] (omega (arith, below)))
-        (subst (λ t. next ≤ length t) before within) (λ more. ap (λ t. get_or t (next - 1) 0) (sym before) ∙ ended more) (subst (λ t. HasNoNewline (drop next t)) before cut)
+        end_at _ _ _ (ends_in_newline (take m lines)) (free m [] (omega (arith, below)))
+        (rw before at within) (λ more. ap (λ t. get_or t (next - 1) 0) (sym before) ∙ ended more) (rw before at cut)

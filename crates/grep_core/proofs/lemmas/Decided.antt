@@ -26,8 +26,8 @@ module _ (es : List Expression) (options : Options) where
 
   -- whether a fault is met is decided, by how the file ended
   dec_fault_met_by : (ending : Ending) (file : File) → Dec (FaultMetBy es options ending file)
-  dec_fault_met_by whole file = no (λ h. h)
-  dec_fault_met_by missing file = yes tt
+  dec_fault_met_by whole _ = no (λ h. h)
+  dec_fault_met_by missing _ = yes tt
   dec_fault_met_by broken file = by_flag (options.quiet || options.files_with_matches) (dec_has_selected file)
     where
       by_flag : (early : Bool) → Dec (HasSelected es options file) → Dec (IsTrue early → HasSelected es options file → ⊥)
@@ -37,4 +37,4 @@ module _ (es : List Expression) (options : Options) where
 
   -- whether a fault is met is decided
   pub dec_fault_met : (file : File) → Dec (FaultMet es options file)
-  dec_fault_met file = dec_fault_met_by file.ending file
+  dec_fault_met _ = dec_fault_met_by _ _

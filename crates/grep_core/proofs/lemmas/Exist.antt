@@ -1,5 +1,5 @@
 -- All expressions, options and files have their output, their messages and their status.
-use Rattle.grep_core.proofs.Prelude.{◌≡◌, ℕ, Bool, true, false, IsTrue, List, [], ◌∷◌, ◌++◌, inl, inr, refl, length, map, drop, slice_range, MatchBool, Any, decimal, Text, Expression, Context, Options, Status, NoneSelected, Error, colon, prefix, EachGives, File, Ending, whole, missing, broken, Selected, HasSelected, Form, nothing, names, counts, parts, lines, around, form, shown_name, shown_number, head_of, numbered, SelectedLines, CountOf, RowsOf, PartRowsOf, PartsOfLine, GroupsOf, OutAs, Out, are_many, message, FaultMet, Reached, Message, Messages, AnySelected, StatusOf}
+use Rattle.grep_core.proofs.Prelude.{◌≡◌, ℕ, Bool, true, false, IsTrue, List, [], ◌∷◌, ◌++◌, inl, inr, refl, length, map, drop, slice_range, MatchBool, Any, decimal, Text, Expression, Context, Options, Status, NoneSelected, Error, colon, prefix, EachGives, File, Ending, whole, missing, broken, Selected, HasSelected, Form, nothing, names, counts, parts, lines, around, shown_name, shown_number, head_of, numbered, SelectedLines, CountOf, RowsOf, PartRowsOf, PartsOfLine, GroupsOf, OutAs, Out, FaultMet, Reached, Message, Messages, AnySelected, StatusOf}
 use Rattle.re_syntax.proofs.lemmas.Decisions.{dec_any, dec_both, dec_IsTrue}
 use Rattle.re_syntax.proofs.lemmas.PartsExist.{AreParts-exist}
 use Rattle.grep_core.specs.declared.status.Status.TheVariants.{Selected as selected}
@@ -14,7 +14,7 @@ module _ (es : List Expression) (options : Options) (many : Bool) where
 
   -- a file has its count
   pub CountOf-exist : (ending : Ending) (file : File) → (out : List Text) × CountOf es options many ending file out
-  CountOf-exist missing file = ([], refl)
+  CountOf-exist missing _ = ([], refl)
   CountOf-exist whole file = let ls = SelectedLines-exist file in ((prefix colon (shown_name many file) ++ decimal (length ls.0)) ∷ [], (ls.0, ls.1, refl))
   CountOf-exist broken file = let ls = SelectedLines-exist file in ((prefix colon (shown_name many file) ++ decimal (length ls.0)) ∷ [], (ls.0, ls.1, refl))
 
@@ -41,7 +41,7 @@ module _ (es : List Expression) (options : Options) (many : Bool) where
 
   -- files have an output in each form
   pub OutAs-exist : (shape : Form) (files : List File) → (out : List Text) × OutAs es options many shape files out
-  OutAs-exist nothing files = ([], refl)
+  OutAs-exist nothing _ = ([], refl)
   OutAs-exist names files = let fs = Chosen-exist _ (dec_has_selected es options) files in (map (λ file. file.name) fs.0, (fs.0, fs.1, refl))
   OutAs-exist counts files = EachGives-exist _ (λ file. CountOf-exist file.ending file) files
   OutAs-exist parts files = EachGives-exist _ PartRowsOf-exist files
@@ -51,7 +51,7 @@ module _ (es : List Expression) (options : Options) (many : Bool) where
 module _ (es : List Expression) (options : Options) where
   -- files have an output
   pub Out-exist : (files : List File) → (out : List Text) × Out es options files out
-  Out-exist files = OutAs-exist es options (are_many files) (form options) files
+  Out-exist files = OutAs-exist es options _ _ _
 
   -- there is a list of the files that are reached
   pub Reached-exist : (files : List File) → (reached : List File) × Reached es options files reached
@@ -64,7 +64,7 @@ module _ (es : List Expression) (options : Options) where
 
   -- a file has a list of messages about it, which may be empty
   pub Message-exist : (file : File) → (reported : List Text) × Message es options file reported
-  Message-exist file = IfHolds-exist (message file.ending file.name) [] (dec_fault_met es options file)
+  Message-exist file = IfHolds-exist _ [] (dec_fault_met es options file)
 
   -- files have a list of messages
   pub Messages-exist : (files : List File) → (reported : List Text) × Messages es options files reported
@@ -82,7 +82,7 @@ module _ (es : List Expression) (options : Options) where
   StatusOf-exist files = by_case (dec_both (dec_IsTrue options.quiet) any) (dec_any _ (dec_fault_met es options) files) any
     where
       any : Dec (AnySelected es options files)
-      any = dec_any_selected es options files
+      any = dec_any_selected es options _
 
       by_case : Dec (IsTrue options.quiet × AnySelected es options files) → Dec (Any (FaultMet es options) files) → Dec (AnySelected es options files) → (status : Status) × StatusOf es options files status
       by_case (yes a) b c = (selected, inl (a, refl))

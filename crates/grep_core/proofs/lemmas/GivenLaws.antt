@@ -4,7 +4,7 @@ use Rattle.grep_core.specs.declared.status.RunFault.TheVariants.{Write, Memory}
 
 module _ (es : List Expression) (options : Options) (sources : List Source) where
   abbrev Story-given : (reached : List Source) (given other : List (Option Text) → Type 0) → ((left : List (Option Text)) → given left → other left) → (old new : Devices) → Story es options sources reached given old new → Story es options sources reached other old new
-  Story-given reached given other more old new s = record {
+  Story-given _ _ _ more _ _ s = record {
     readings = s.readings;
     are_readings = s.are_readings;
     failures = s.failures;

@@ -20,17 +20,17 @@ has_one_answer options = record {
 -- a pattern means at most one expression
 pub IsMeant-determined : (syntax : Syntax) (fold : Bool) (text : Text) (d e : Expression) → IsMeant syntax fold text d → IsMeant syntax fold text e → d ≡ e
 IsMeant-determined syntax fold text d e p q =
-    let same : p.0 ≡ q.0 = spells_one text syntax p.0 q.0 p.1 q.1 in
+    let same = spells_one text syntax p.0 q.0 p.1 q.1 in
     p.2 ∙ ap (λ s. if fold then folded s else s) same ∙ sym q.2
 
 -- patterns mean at most one list of expressions
 pub means_one : (syntax : Syntax) (options : Options) → MeansOne syntax options
-means_one syntax options [] [] [] p q = refl
-means_one syntax options [] [] (e ∷ es) p q = absurd q
-means_one syntax options [] (d ∷ ds) es p q = absurd p
-means_one syntax options (text ∷ texts) [] es p q = absurd p
-means_one syntax options (text ∷ texts) (d ∷ ds) [] p q = absurd q
+means_one _ _ [] [] [] p q = refl
+means_one _ _ [] [] (e ∷ es) p q = absurd q
+means_one _ _ [] (d ∷ ds) _ p q = absurd p
+means_one _ _ (text ∷ texts) [] _ p q = absurd p
+means_one _ _ (text ∷ texts) (d ∷ ds) [] p q = absurd q
 means_one syntax options (text ∷ texts) (d ∷ ds) (e ∷ es) p q =
-    let first : d ≡ e = IsMeant-determined syntax options.ignore_case text d e p.0 q.0 in
-    let rest : ds ≡ es = means_one syntax options texts ds es p.1 q.1 in
+    let first = IsMeant-determined syntax options.ignore_case text d e p.0 q.0 in
+    let rest = means_one syntax options texts ds es p.1 q.1 in
     λ i. first i ∷ rest i

@@ -1,5 +1,5 @@
 -- The matched lines of a block, which are written as they are.
-use Rattle.grep_core.proofs.Prelude.{◌≡◌, ℕ, ◌+◌, ◌-◌, ◌*◌, Result, Ok, Err, IsErr, false≢true, WritesMatched, AddsAtMost, Numbered, IsNextOf, TakesHeld, StopsHeld, most_lines, writer, ◌<◌, ◌≤◌, Bool, true, false, List, [], ◌∷◌, ◌++◌, All, Option, length, take, drop, slice_range, refl, sym, ap, ◌∙◌, subst, arith, inl, inr, append_assoc, append-nil, length-append, length-drop, take-append_seam, drop-drop, All-head, All-tail, Text, newline, terminated, lines_of, HasNoNewline, Expression, Span, IsBlock, IsNext, Sought, IsSought, Options, Selected, Chosen, colon, head, form, shown_number, name_shown, written, IsBare, RowsOfSelected, RowsOfLines, GoesOut, StopsWithin}
+use Rattle.grep_core.proofs.Prelude.{◌≡◌, ℕ, ◌+◌, ◌-◌, ◌*◌, false≢true, AddsAtMost, Numbered, IsNextOf, TakesHeld, StopsHeld, most_lines, writer, ◌<◌, ◌≤◌, Bool, true, false, List, [], ◌∷◌, ◌++◌, All, Option, length, take, drop, slice_range, refl, sym, ap, ◌∙◌, arith, inl, inr, append_assoc, append-nil, length-append, length-drop, take-append_seam, drop-drop, All-head, All-tail, Text, newline, terminated, lines_of, HasNoNewline, Expression, Span, IsBlock, IsNext, Sought, IsSought, Options, Selected, Chosen, colon, head, form, shown_number, name_shown, written, IsBare, RowsOfSelected, RowsOfLines, GoesOut, StopsWithin}
 use Rattle.re_syntax.proofs.lemmas.LinesLaws.{lines_of-terminated}
 use Rattle.re_syntax.proofs.lemmas.Decisions.{dec_any}
 use Rattle.re_syntax.proofs.lemmas.HoldsDecided.{dec_matches}
@@ -44,9 +44,9 @@ module _ (P : Text → Type 0) where
     within = omega (arith, below, length-drop start block, s.within);
     few = omega (arith, s.few);
     goes_on = λ more c.
-        let others : Chosen P n.after more = subst (λ ls. Chosen P ls more) (ap lines_of (left ∙ after) ∙ lines_of-terminated n.after free) c in
-        let here : Chosen P (lines_of (drop start block)) (n.line ∷ more) = subst (λ ls. Chosen P ls (n.line ∷ more)) (sym n.divided)
-        (EachGives-append _ n.before (n.line ∷ n.after) [] (n.line ∷ more) (none_chosen n.before n.passed) (n.line ∷ [], more, inl (n.holds, refl), others, refl)) in
+        let others = rw (ap lines_of (left ∙ after) ∙ lines_of-terminated n.after free) at c in
+        let here : Chosen P (lines_of (drop start block)) (n.line ∷ more) = rw n.divided
+        (EachGives-append _ n.before (n.line ∷ n.after) [] (n.line ∷ more) (none_chosen _ n.passed) (n.line ∷ [], more, inl (n.holds, refl), others, refl)) in
         let (all, are, bytes, long) = s.goes_on (n.line ∷ more) here in (
           all,
           are,
@@ -75,26 +75,26 @@ module _ (P : Text → Type 0) where
   -- no more are
   pub runs_out : {block sent : Text} {run start count : ℕ} → RunsTo block run start count sent → All (λ line. ¬ P line) (lines_of (drop start block)) → (all : List Text) × Chosen P (lines_of block) all × (sent ++ slice_range block run start ≡ terminated all) × (count ≡ length all)
   runs_out {block} {sent} {run} {start} s none =
-      let (all, are, bytes, long) = s.goes_on [] (none_chosen (lines_of (drop start block)) none) in
+      let (all, are, bytes, long) = s.goes_on [] (none_chosen _ none) in
       (all, are, sym (bytes ∙ append-nil (sent ++ slice_range block run start)), omega (arith, long))
 
 -- a write failed in a run of them
-pub run_stops : {W : Type 0} (contents : W → Option Text) (failures : W → ℕ) (s : Sought) {block sent : Text} {run start count : ℕ} (a b c : W) → RunsTo (IsSought s) block run start count sent → GoesOut contents failures a b sent → StopsWithin contents failures b c (slice_range block run start)
+pub run_stops : {W : Type 0} {contents : W → Option Text} {failures : W → ℕ} (s : Sought) {block sent : Text} {run start count : ℕ} {a b c : W} → RunsTo (IsSought s) block run start count sent → GoesOut contents failures a b sent → StopsWithin contents failures b c (slice_range block run start)
     → (all : List Text) × Chosen (IsSought s) (lines_of block) all × StopsWithin contents failures a c (terminated all)
-run_stops contents failures s {block} {sent} {run} {start} a b c runs went stopped =
+run_stops {contents = contents} {failures = failures} s {block} {sent} {run} {start} {a = a} {b = b} {c = c} runs went stopped =
     let (more, chosen) = Chosen-exist (IsSought s) (λ line. dec_any _ (λ e. dec_matches e line s.whole) s.expressions) (lines_of (drop start block)) in
     let (all, are, bytes, long) = runs.goes_on more chosen in
-    (all, are, subst (StopsWithin contents failures a c) (sym bytes) (stops_early contents failures a c (sent ++ slice_range block run start) (terminated more) (stops_later contents failures a b c sent (slice_range block run start) went stopped)))
+    (all, are, rw bytes (stops_early contents failures a c (sent ++ slice_range block run start) (terminated more) (stops_later contents failures a b c sent (slice_range block run start) went stopped)))
 
 -- where selected lines are written as they are, they are the rows
-module _ (es : List Expression) (options : Options) (many : Bool) (name : Text) (bare : IsBare options many) (plain : options.invert_match ≡ false) where
+module _ (es : List Expression) {options : Options} {many : Bool} (name : Text) (bare : IsBare options many) (plain : options.invert_match ≡ false) where
   pub rows_chosen : (number : ℕ) (ls all : List Text) → Chosen (IsSought (record { expressions = es; whole = options.line_regexp })) ls all → (rows : List Text) × RowsOfLines es options many name number ls rows (length all) × (written [] rows ≡ terminated all)
-  rows_chosen number [] all none = ([], (refl, ap length none), sym (ap terminated none))
+  rows_chosen _ [] _ none = ([], (refl, ap length none), sym (ap terminated none))
   rows_chosen number (l ∷ ls) all (front, rest, inl (holds, one), others, is) =
       let (rows, are, bytes) = rows_chosen (number + 1) ls rest others in
-      let same : all ≡ l ∷ rest = is ∙ ap (λ f. f ++ rest) one in
-      let own : List Text = (head colon (name_shown many name) (shown_number options number) ++ l) ∷ [] in
-      let is_own : RowsOfSelected es options many (form options) name number l own = subst (λ shape. RowsOfSelected es options many shape name number l own) (sym bare.asked) refl in
+      let same = is ∙ ap (λ f. f ++ rest) one in
+      let own = (head colon (name_shown many name) (shown_number options number) ++ l) ∷ [] in
+      let is_own : RowsOfSelected es options many (form options) name number l own = rw bare.asked refl in
       let selected = selected_matched es options plain l holds in
       let none : head colon (name_shown many name) (shown_number options number) ≡ [] = rw (bare.no_name, bare.no_number) refl in (
         own ++ rows,
@@ -103,27 +103,21 @@ module _ (es : List Expression) (options : Options) (many : Bool) (name : Text) 
       )
   rows_chosen number (l ∷ ls) all (front, rest, inr (out, none), others, is) =
       let (rows, are, bytes) = rows_chosen (number + 1) ls rest others in
-      let same : all ≡ rest = is ∙ ap (λ f. f ++ rest) none in
+      let same = is ∙ ap (λ f. f ++ rest) none in
       let unselected : ¬ Selected es options l = λ h. out (rw plain at h) in
       (rows, ([], rows, false, length rest, inr (unselected, refl), decided_no unselected, are, refl, ap length same), bytes ∙ sym (ap terminated same))
 
--- what a call writes that ends with a failed write
-pub stopped_result : {W E : Type 0} (contents : W → Option Text) (failures : W → ℕ) (s : Sought) (block : Text) (a c : W) (r : Result ℕ E) → IsErr r → (all : List Text) × Chosen (IsSought s) (lines_of block) all × StopsWithin contents failures a c (terminated all)
-    → WritesMatched contents failures s block a c r
-stopped_result contents failures s block a c (Ok found) failed p = absurd (false≢true failed)
-stopped_result contents failures s block a c (Err fault) failed (all, are, stopped) = (all, are, stopped, tt)
-
 -- each matcher took a step for each byte, and then for more of them
-pub steps_for_more : (n start more : ℕ) (old mid new : Steps) → AddsAtMost (n * start) old mid → AddsAtMost (n * more) mid new → AddsAtMost (n * (start + more)) old new
-steps_for_more n start more old mid new a b =
+pub steps_for_more : (n start more : ℕ) {old mid new : Steps} → AddsAtMost (n * start) old mid → AddsAtMost (n * more) mid new → AddsAtMost (n * (start + more)) old new
+steps_for_more n start more a b =
     let joined : n * start + n * more ≡ n * (start + more) = omega arith in
-    subst (λ k. AddsAtMost k old new) joined (cost_after (n * start) (n * more) old mid new a b)
+    rw joined at (cost_after _ _ a b)
 
 pub steps_within : (n few most : ℕ) (old new : Steps) → few ≤ most → AddsAtMost (n * few) old new → AddsAtMost (n * most) old new
 steps_within n few most old new h a =
     let split : n * few + n * (most - few) ≡ n * (few + (most - few)) = omega arith in
     let whole : few + (most - few) ≡ most = omega (arith, h) in
-    cost_within (n * few) (n * most) old new (omega (arith, split, ap (λ k. n * k) whole)) a
+    cost_within _ _ (omega (arith, split, ap (λ k. n * k) whole)) a
 
 -- a block that is ahead is the next lines
 pub block_next : {R : Type 0} {now : Numbered R} (block rest : Text) → IsBlock block → now.lines.ahead ≡ block ++ rest → now.number + length block ≤ most_lines → (now.lines.stage ≡ Ended → now.lines.ahead ≡ []) → IsNextOf now (lines_of block)
@@ -140,25 +134,25 @@ module _ {M : Type 0} {contents : M → Option Text} {failures : M → ℕ} {es 
     (matched : List Text) (chosen : Chosen (IsSought (record { expressions = es; whole = options.line_regexp })) (lines_of block) matched) where
   pub takes_matched : {count found : ℕ} → GoesOut contents failures old new (terminated matched) → found ≡ length matched → count ≡ length (lines_of block) → TakesHeld es options many name now (writer contents failures old) (writer contents failures new) began ended (record { bytes = length block; count = count; found = found; goes_on = false })
   takes_matched went found counted =
-      let (rows, are, is) = rows_chosen es options many name bare plain (now.number + 1) (lines_of block) matched chosen in
+      let (rows, are, is) = rows_chosen es name bare plain (now.number + 1) (lines_of block) matched chosen in
       record {
         all = lines_of block;
         free = free_lines block is_block;
         next = next;
         width = ap length (block_lines block is_block);
         counted = counted;
-        took = record { rows = rows; are_rows = subst (RowsOfLines es options many name (now.number + 1) (lines_of block) rows) (sym found) are; wrote = TakesAll-written contents failures old new rows (subst (GoesOut contents failures old new) (sym is) went) };
-        spent = block_spent es options block began ended is_block steps;
+        took = record { rows = rows; are_rows = rw found are; wrote = TakesAll-written rows (rw (← is) at went) };
+        spent = block_spent es options _ is_block steps;
         some = λ goes. absurd (false≢true goes);
       }
 
   pub stops_matched : StopsWithin contents failures old new (terminated matched) → StopsHeld es options many name now (writer contents failures old) (writer contents failures new) began ended Write
   stops_matched stopped =
-      let (rows, are, is) = rows_chosen es options many name bare plain (now.number + 1) (lines_of block) matched chosen in
+      let (rows, are, is) = rows_chosen es name bare plain (now.number + 1) (lines_of block) matched chosen in
       record {
         all = lines_of block;
         free = free_lines block is_block;
         next = next;
-        stops = record { rows = rows; found = length matched; are_rows = are; wrote = TakesFront-written contents failures old new rows (subst (StopsWithin contents failures old new) (sym is) stopped); counted = stopped.counted };
-        spent = block_spent es options block began ended is_block steps;
+        stops = record { rows = rows; found = length matched; are_rows = are; wrote = TakesFront-written rows (rw (← is) at stopped); counted = stopped.counted };
+        spent = block_spent es options _ is_block steps;
       }

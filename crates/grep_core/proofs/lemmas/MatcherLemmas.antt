@@ -4,9 +4,9 @@ use Rattle.re_search.proofs.lemmas.ReadingLaws.{refused_unreadable}
 
 -- two lists, element by element, joined
 pub AllZip-append : {X Y : Type 0} (P : X → Y → Type 0) (xs vs : List X) (ys ws : List Y) → AllZip P xs ys → AllZip P vs ws → AllZip P (xs ++ vs) (ys ++ ws)
-AllZip-append P [] vs [] ws h k = k
-AllZip-append P [] vs (y ∷ ys) ws h k = absurd h
-AllZip-append P (x ∷ xs) vs [] ws h k = absurd h
+AllZip-append P [] _ [] _ h k = k
+AllZip-append P [] _ (y ∷ ys) _ h k = absurd h
+AllZip-append P (x ∷ xs) _ [] _ h k = absurd h
 AllZip-append P (x ∷ xs) vs (y ∷ ys) ws h k = (h.0, AllZip-append P xs vs ys ws h.1 k)
 
 -- what is after the elements of a list
@@ -18,18 +18,18 @@ module _ (syntax : Syntax) (options : Options) where
   -- no pattern was read yet
   pub AreMatchers-none : (texts : List Text) (matchers : List Matcher) → texts ≡ [] → matchers ≡ [] → AreMatchers syntax options texts matchers
   AreMatchers-none texts matchers e f =
-      subst (λ ts. AreMatchers syntax options ts matchers) (sym e) (subst (AreMatchers syntax options []) (sym f) (record { meant = tt; wholes = λ i d h. absurd (let false : ⊥ = omega (arith, h) in false); readable = λ i d h. absurd (let false : ⊥ = omega (arith, h) in false); counted = refl }))
+      rw e (rw f (record { meant = tt; wholes = λ i d h. absurd (let false : ⊥ = omega (arith, h) in false); readable = λ i d h. absurd (let false : ⊥ = omega (arith, h) in false); counted = refl }))
 
   module _ (texts : List Text) (matchers : List Matcher) (text : Text) (s : AreMatchers syntax options texts matchers) where
     -- one more was read
     pub AreMatchers-push : (all : List Text) (new : List Matcher) (m : Matcher) → all ≡ texts ++ text ∷ [] → new ≡ matchers ++ m ∷ [] → IsMeant syntax options.ignore_case text (matched_expression m) → wants_whole m ≡ options.line_regexp → IsSmallFor syntax options.ignore_case (matched_expression m)
         → AreMatchers syntax options all new
     AreMatchers-push all new m both pushed meant whole small =
-        subst (λ ts. AreMatchers syntax options ts new) (sym both) (subst (AreMatchers syntax options (texts ++ text ∷ [])) (sym pushed) (record {
+        rw both (rw pushed (record {
           meant =
-              subst (AllZip (λ t e. IsMeant syntax options.ignore_case t e) (texts ++ text ∷ [])) (sym (map-append matched_expression matchers (m ∷ [])))
+              rw (map-append matched_expression matchers (m ∷ []))
               (AllZip-append (λ t e. IsMeant syntax options.ignore_case t e) texts (text ∷ []) (expressions_of matchers) (matched_expression m ∷ []) s.meant (meant, tt));
-          wholes = subst (All (λ w. w ≡ options.line_regexp)) (sym (map-append wants_whole matchers (m ∷ []))) (All-push (λ w. w ≡ options.line_regexp) (map wants_whole matchers) (wants_whole m) s.wholes whole);
+          wholes = rw (map-append wants_whole matchers (m ∷ [])) (All-push (λ w. w ≡ options.line_regexp) (map wants_whole matchers) (wants_whole m) s.wholes whole);
           readable = All-push (IsReadable syntax options.ignore_case) texts text s.readable (matched_expression m, meant, small);
           counted = length_push matchers m ∙ ap (λ n. n + 1) s.counted ∙ sym (length_push texts text);
         }))
@@ -40,9 +40,9 @@ pub refused_or_memory : (syntax : Syntax) (fold : Bool) (texts : List Text) (tex
 refused_or_memory syntax fold texts text readable rest all is fault (inl memory) place at = inl memory
 refused_or_memory syntax fold texts text readable rest all is fault (inr shown) place at =
     let h = at_end texts text rest in
-    inr (subst (λ n. IsFirstRefused syntax fold all n fault) at (subst (λ l. IsFirstRefused syntax fold l (length texts) fault) is (record {
+    inr (subst (λ n. IsFirstRefused syntax fold all n fault) at (rw (← is) (record {
       in_texts = h.2;
-      readable_before = subst (All (IsReadable syntax fold)) (sym h.0) readable;
-      unreadable = λ r. refused_unreadable syntax fold text fault shown (subst (IsReadable syntax fold) h.1 r);
-      shown = subst (λ t. IsRefusedFor syntax fold t fault) (sym h.1) shown;
+      readable_before = rw h.0 readable;
+      unreadable = λ r. refused_unreadable syntax fold text fault shown (rw h.1 at r);
+      shown = rw h.1 shown;
     })))

@@ -1,5 +1,5 @@
 -- The messages, file by file, up to the one at which `-q` stops.
-use Rattle.grep_core.proofs.Prelude.{◌≡◌, Bool, true, false, List, [], ◌∷◌, ◌++◌, inl, inr, refl, subst, MatchBool, Any, append-nil, Text, Expression, Options, EachGives, File, Stops, Reached, Message, Reported, Messages}
+use Rattle.grep_core.proofs.Prelude.{◌≡◌, Bool, true, false, List, [], ◌∷◌, ◌++◌, inl, inr, refl, MatchBool, Any, append-nil, Text, Expression, Options, EachGives, File, Stops, Reached, Message, Reported, Messages}
 use Rattle.re_syntax.proofs.lemmas.Decisions.{Any-first, Any-later}
 use Rattle.grep_core.proofs.lemmas.ChooseLaws.{EachGives-append, EachGives-exist}
 use Rattle.grep_core.proofs.lemmas.Exist.{Reached-exist, Message-exist}
@@ -7,17 +7,17 @@ use Rattle.grep_core.proofs.lemmas.Exist.{Reached-exist, Message-exist}
 module _ (es : List Expression) (options : Options) where
   -- after files at which a run does not stop, the files that are reached follow
   pub Reached-after : (front rest reached : List File) → (Any (Stops es options) front → ⊥) → Reached es options rest reached → Reached es options (front ++ rest) (front ++ reached)
-  Reached-after [] rest reached none r = r
+  Reached-after [] _ _ none r = r
   Reached-after (file ∷ front) rest reached none r =
       (front ++ reached, refl, inr ((λ s. none (Any-first (Stops es options) file front s)), Reached-after front rest reached (λ a. none (Any-later (Stops es options) file front a)) r))
 
   -- where a run stops at no file, all are reached
   pub Reached-all : (files : List File) → (Any (Stops es options) files → ⊥) → Reached es options files files
-  Reached-all files none = subst (λ xs. Reached es options xs xs) (append-nil files) (Reached-after files [] [] none refl)
+  Reached-all files none = rw (append-nil files) at (Reached-after files [] [] none refl)
 
   -- where a run stops at a file, it is the last that is reached
   pub Reached-stopped : (front rest : List File) (file : File) → (Any (Stops es options) front → ⊥) → Stops es options file → Reached es options (front ++ file ∷ rest) (front ++ file ∷ [])
-  Reached-stopped front rest file none stops = Reached-after front (file ∷ rest) (file ∷ []) none ([], refl, inl (stops, refl))
+  Reached-stopped _ _ _ none stops = Reached-after _ _ _ none ([], refl, inl (stops, refl))
 
   -- the messages are those about the files that are reached
   pub Messages-reached : (files reached : List File) (reported : List Text) → Reached es options files reached → Reported es options reached reported → Messages es options files reported

@@ -1,5 +1,5 @@
 -- The bytes of a message, written as a row.
-use Rattle.grep_core.proofs.Prelude.{◌≡◌, ℕ, [], ◌∷◌, ◌++◌, Option, None, Some, Result, codes, sym, ap, ◌∙◌, append_assoc, append-nil, subst, Text, newline, colon, head, output_line, Writes, cannot_open, read_error}
+use Rattle.grep_core.proofs.Prelude.{◌≡◌, ℕ, [], ◌∷◌, ◌++◌, Option, None, Some, Result, codes, sym, ap, ◌∙◌, append_assoc, append-nil, Text, newline, colon, head, output_line, Writes, cannot_open, read_error}
 
 -- a message of `grep: `, the file's name, a colon and some text
 abbrev message_row : Text → Text → Text
@@ -13,7 +13,7 @@ message_row-is name text =
 
 module _ {W : Type 0} (contents : W → Option Text) (failures : W → ℕ) {T E : Type 0} (a b : W) (name : Text) (r : Result T E) where
   pub writes_read_error : Writes contents failures a b (output_line (codes "grep: ") (head colon (Some name) None ++ codes " read error")) r → Writes contents failures a b (output_line [] (read_error name)) r
-  writes_read_error w = subst (λ bytes. Writes contents failures a b bytes r) (message_row-is name (codes " read error")) w
+  writes_read_error w = rw (message_row-is _ _) at w
 
   pub writes_cannot_open : Writes contents failures a b (output_line (codes "grep: ") (head colon (Some name) None ++ codes " cannot open")) r → Writes contents failures a b (output_line [] (cannot_open name)) r
-  writes_cannot_open w = subst (λ bytes. Writes contents failures a b bytes r) (message_row-is name (codes " cannot open")) w
+  writes_cannot_open w = rw (message_row-is _ _) at w

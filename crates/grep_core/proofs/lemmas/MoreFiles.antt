@@ -7,8 +7,8 @@ use Rattle.grep_core.proofs.lemmas.Exist.{OutAs-exist, groups_exist}
 module _ (es : List Expression) (options : Options) (many : Bool) where
   -- the output for some files, and that for others after it
   pub GroupedAs-append : (shape : Form) (xs ys : List File) (us vs : List Text) → GroupedAs es options many shape xs us → GroupedAs es options many shape ys vs → GroupedAs es options many shape (xs ++ ys) (us ++ vs)
-  GroupedAs-append nothing xs ys us vs a b = λ i. a i ++ b i
-  GroupedAs-append names xs ys us vs a b = (a.0 ++ b.0, EachGives-append _ xs ys a.0 b.0 a.1 b.1, (λ i. a.2 i ++ b.2 i) ∙ sym (map-append (λ file. file.name) a.0 b.0))
+  GroupedAs-append nothing _ _ _ _ a b = λ i. a i ++ b i
+  GroupedAs-append names xs ys _ _ a b = (a.0 ++ b.0, EachGives-append _ xs ys a.0 b.0 a.1 b.1, (λ i. a.2 i ++ b.2 i) ∙ sym (map-append (λ file. file.name) a.0 b.0))
   GroupedAs-append counts xs ys us vs a b = EachGives-append _ xs ys us vs a b
   GroupedAs-append parts xs ys us vs a b = EachGives-append _ xs ys us vs a b
   GroupedAs-append lines xs ys us vs a b = EachGives-append _ xs ys us vs a b
@@ -29,9 +29,9 @@ module _ (es : List Expression) (options : Options) (many : Bool) where
 
   -- without the first separator it is the output
   pub grouped_out : (shape : Form) (files : List File) (rows : List Text) → GroupedAs es options many shape files rows → OutAs es options many shape files (rows_after shape false rows)
-  grouped_out nothing files rows h = h
-  grouped_out names files rows h = h
-  grouped_out counts files rows h = h
-  grouped_out parts files rows h = h
-  grouped_out lines files rows h = h
-  grouped_out (around context) files rows h = (rows, h, refl)
+  grouped_out nothing _ _ h = h
+  grouped_out names _ _ h = h
+  grouped_out counts _ _ h = h
+  grouped_out parts _ _ h = h
+  grouped_out lines _ _ h = h
+  grouped_out (around context) _ rows h = (rows, h, refl)

@@ -1,5 +1,5 @@
 -- A run over one source, by its lines: its output, messages, status and failures.
-use Rattle.grep_core.proofs.Prelude.{◌≡◌, false, ◌⊎◌, ◌||◌, IsTrue, List, [], refl, ap, subst, ◌∙◌, arith, inl, inr, Text, ended_lines_of, Expression, Options, File, Ending, whole, broken, HasSelected, FaultMet, FaultMetBy, Reading, not_opened, fails_after, ends_after, up_to_limit, file_of, failures_of}
+use Rattle.grep_core.proofs.Prelude.{◌≡◌, false, ◌⊎◌, ◌||◌, IsTrue, List, [], refl, ap, ◌∙◌, arith, inl, inr, Text, ended_lines_of, Expression, Options, File, Ending, whole, broken, HasSelected, FaultMet, Reading, not_opened, fails_after, ends_after, up_to_limit, file_of, failures_of}
 use Rattle.grep_io.proofs.lemmas.FileLaws.{up_to_limit-beyond}
 
 -- ---- readings
@@ -11,17 +11,17 @@ not_whole name ls =
 
 -- a source that stands for a whole file did not fail
 pub whole-failures : (name : Text) (r : Reading) → (file_of name r).ending ≡ whole → failures_of r ≡ 0
-whole-failures name not_opened e = absurd (let no : ⊥ = cc in no)
-whole-failures name (fails_after bytes) e = let is = not_whole name (ended_lines_of bytes) in absurd (let no : ⊥ = cc in no)
-whole-failures name (ends_after bytes) e = refl
+whole-failures name not_opened e = absurd (cc)
+whole-failures name (fails_after bytes) e = let is = not_whole name (ended_lines_of bytes) in absurd (cc)
+whole-failures _ (ends_after bytes) e = refl
 
 -- ---- a file that was left
 
 module _ (es : List Expression) (options : Options) where
   -- under `-q` and `-l` no fault is met after a selected line
   pub FaultMet-left : (file : File) → (file.ending ≡ whole) ⊎ (file.ending ≡ broken) → IsTrue (options.quiet || options.files_with_matches) → HasSelected es options file → FaultMet es options file → ⊥
-  FaultMet-left file (inl e) early has met = subst (λ end. FaultMetBy es options end file) e met
-  FaultMet-left file (inr e) early has met = subst (λ end. FaultMetBy es options end file) e met early has
+  FaultMet-left file (inl e) early has met = rw e at met
+  FaultMet-left file (inr e) early has met = rw e at met early has
 
 -- ---- one file, without `-q`
 

@@ -1,5 +1,5 @@
 -- A search of a source that was opened, by the search of its reader.
-use Rattle.grep_core.proofs.Prelude.{◌≡◌, ℕ, zero, suc, ◌≤◌, ◌⊎◌, Bool, true, false, List, [], ◌∷◌, length, take, Option, Result, Ok, Err, IfSome, refl, sym, ap, subst, ◌∙◌, inl, inr, arith, false≢true, Consumes-nil, Consumes, Text, Expression, Options, FileEnd, Missing, FileFound, SearchFault, one_more, Groups, Chosen, LineReader, File, Selected, Form, nothing, names, counts, parts, lines, around, form, shown_name, shown_number, numbered, Source, Reading, not_opened, fails_after, ends_after, open_source, IsReadingOf, file_of, failures_of, AreLeft, OneLeft, HasRead, Writer, TakesAll, TakesFront, first_lines, count_more, SearchGives, rows_after, IsPlain, LineRowsOf, CountsSource, BreaksSource, StopsSource, SearchesSource}
+use Rattle.grep_core.proofs.Prelude.{◌≡◌, ℕ, zero, suc, ◌≤◌, ◌⊎◌, Bool, true, false, List, [], ◌∷◌, length, take, Option, Result, Ok, Err, IfSome, refl, sym, ap, ◌∙◌, inl, inr, arith, false≢true, Consumes-nil, Text, Expression, Options, FileEnd, Missing, FileFound, SearchFault, one_more, LineReader, File, Selected, Form, nothing, names, counts, parts, lines, around, form, Source, Reading, not_opened, fails_after, ends_after, open_source, IsReadingOf, file_of, failures_of, AreLeft, OneLeft, HasRead, Writer, first_lines, count_more, SearchGives, rows_after, IsPlain, LineRowsOf, CountsSource, BreaksSource, StopsSource, SearchesSource}
 use Rattle.re_syntax.proofs.lemmas.Decisions.{Any-none}
 use Rattle.re_syntax.proofs.lemmas.LinesLaws.{all_none, lines_of-terminated}
 use Rattle.re_search.specs.Meters.{Steps}
@@ -14,9 +14,9 @@ use Rattle.grep_core.proofs.lemmas.GroupLaws.{after_nothing}
 
 -- a source that was opened and then read may have done what was read
 pub opened : (source : Source) (r : Reading) → IfSome source.opens (λ b. b ≡ true) → IsReadingOf (open_source source.name source.bytes) r → IsReadingOf source r
-opened source not_opened opens h = absurd (false≢true (sym h))
-opened source (fails_after bytes) opens h = (opens, h.1)
-opened source (ends_after bytes) opens h = (opens, h.1)
+opened _ not_opened _ h = absurd (false≢true (sym h))
+opened _ (fails_after bytes) opens h = (opens, h.1)
+opened _ (ends_after bytes) opens h = (opens, h.1)
 
 -- what a reader counts from nothing on is added to the count
 pub count_on : (n own : ℕ) → own ≤ 1 → count_more n (count_more 0 own) ≡ count_more n own
@@ -37,39 +37,38 @@ few_failures (ends_after bytes) = omega arith
 
 -- what the reader of an open source had left is what that of the source had
 left_of : (source : Source) (r : Reading) (left : List (Option Text)) → AreLeft (open_source source.name source.bytes) r left → AreLeft source r left
-left_of source not_opened left h = h
-left_of source (fails_after bytes) left h = h
-left_of source (ends_after bytes) left h = h
+left_of _ not_opened _ h = h
+left_of _ (fails_after bytes) _ h = h
+left_of _ (ends_after bytes) _ h = h
 
 -- what was read of the open source was read of the source
-read_of : (source : Source) (rest : Option Text) (text : List Text) → HasRead (open_source source.name source.bytes) rest text → HasRead source rest text
-read_of source rest text h = record { given = h.given; are_given = h.are_given; held = h.held; few_held = h.few_held; read = h.read }
+read_of : (source : Source) {rest : Option Text} {text : List Text} → HasRead (open_source source.name source.bytes) rest text → HasRead source rest text
+read_of _ h = record { given = h.given; are_given = h.are_given; held = h.held; few_held = h.few_held; read = h.read }
 
 module _ (es : List Expression) (options : Options) (many shown : Bool) (source : Source) (given : List (Option Text) → Type 0) (rest : Option Text) (gives : given (rest ∷ []))
     (before after failed : ℕ) (counted : after ≡ count_more before failed) where
   -- what was counted of the reader from nothing on was counted of the source
-  counted_on : (reading : Reading) → CountsSource es options many shown (open_source source.name source.bytes) (OneLeft rest) reading 0 failed → CountsSource es options many shown source given reading before after
-  counted_on reading s = record {
+  counted_on : {reading : Reading} → CountsSource es options many shown (open_source source.name source.bytes) (OneLeft rest) reading 0 failed → CountsSource es options many shown source given reading before after
+  counted_on {reading} s = record {
     own = s.own;
     are_own = s.are_own;
     counted = counted ∙ ap (count_more before) s.counted ∙ count_on before s.own few;
     left = s.left;
     are_left = left_of source reading s.left s.are_left;
-    gave_back = subst given (sym s.gave_back) gives;
+    gave_back = rw s.gave_back gives;
   }
     where
       few : s.own ≤ 1
       few = elim s.are_own [ inl f ↦ omega (arith, f.1, few_failures reading) | inr f ↦ omega (arith, f.1) ]
 
-module _ (es : List Expression) (options : Options) (many shown : Bool) (source : Source) (given : List (Option Text) → Type 0) (rest : Option Text) (gives : given (rest ∷ []))
-    (opens : IfSome source.opens (λ b. b ≡ true)) (old new : Writer) (began ended : Steps) (before after failed : ℕ) (counted : after ≡ count_more before failed) where
+module _ (es : List Expression) (options : Options) (many shown : Bool) (source : Source) (given : List (Option Text) → Type 0) (rest : Option Text) (gives : given (rest ∷ [])) (opens : IfSome source.opens (λ b. b ≡ true)) (old new : Writer) (began ended : Steps) {after : ℕ} (before failed : ℕ) (counted : after ≡ count_more before failed) where
   -- a search of its reader was a search of the source
-  source_searched : (end : FileEnd) (selected : ℕ) → SearchesSource es options many shown (open_source source.name source.bytes) (OneLeft rest) 0 failed old new began ended end selected
+  source_searched : {end : FileEnd} {selected : ℕ} → SearchesSource es options many shown (open_source source.name source.bytes) (OneLeft rest) 0 failed old new began ended end selected
       → SearchesSource es options many shown source given before after old new began ended end selected
-  source_searched end selected s = record {
+  source_searched s = record {
     reading = s.reading;
     is_reading = opened source s.reading opens s.is_reading;
-    failures = counted_on es options many shown source given rest gives before after failed counted s.reading s.failures;
+    failures = counted_on es options many shown source given rest gives before after failed counted s.failures;
     some = s.some;
     fault = s.fault;
     ends = s.ends;
@@ -83,7 +82,7 @@ module _ (es : List Expression) (options : Options) (many shown : Bool) (source 
   source_broken s = record {
     reading = s.reading;
     is_reading = opened source s.reading opens s.is_reading;
-    failures = counted_on es options many shown source given rest gives before after failed counted s.reading s.failures;
+    failures = counted_on es options _ _ _ given _ gives _ _ _ counted s.failures;
     rows = s.rows;
     are_rows = s.are_rows;
     wrote = s.wrote;
@@ -91,15 +90,15 @@ module _ (es : List Expression) (options : Options) (many shown : Bool) (source 
     steps = s.steps;
   }
 
-  source_stopped : (n : ℕ) → StopsSource es options many shown (open_source source.name source.bytes) (OneLeft rest) n 0 failed old new began ended → StopsSource es options many shown source given n before after old new began ended
-  source_stopped n s = record {
+  source_stopped : {n : ℕ} → StopsSource es options many shown (open_source source.name source.bytes) (OneLeft rest) n 0 failed old new began ended → StopsSource es options many shown source given n before after old new began ended
+  source_stopped s = record {
     reading = s.reading;
     is_reading = opened source s.reading opens s.is_reading;
     none_failed = counted ∙ ap (count_more before) s.none_failed;
     rest = s.rest;
-    gave_back = subst given (sym s.gave_back) gives;
+    gave_back = rw s.gave_back gives;
     in_file = s.in_file;
-    read = read_of source s.rest _ s.read;
+    read = read_of _ s.read;
     rows = s.rows;
     are_rows = s.are_rows;
     wrote = s.wrote;
@@ -108,14 +107,14 @@ module _ (es : List Expression) (options : Options) (many shown : Bool) (source 
 
   -- so is what it gives
   source_gives : (r : Result FileFound SearchFault) → SearchGives es options many shown (open_source source.name source.bytes) (OneLeft rest) 0 failed old new began ended r → SearchGives es options many shown source given before after old new began ended r
-  source_gives (Ok found) s = source_searched found.end found.selected s
+  source_gives (Ok found) s = source_searched s
   source_gives (Err Write) s = source_broken s
-  source_gives (Err (Memory n)) s = source_stopped n s
+  source_gives (Err (Memory n)) s = source_stopped s
 
 module _ (es : List Expression) (options : Options) (many shown : Bool) (source : Source) (given : List (Option Text) → Type 0) (w : Writer) (steps : Steps) where
   -- out of memory before a source was read
-  pub source_unread : (before after : ℕ) → after ≡ before → (rest : Option Text) → rest ≡ source.bytes → given (rest ∷ []) → StopsSource es options many shown source given 0 before after w w steps steps
-  source_unread before after same rest none_read gives =
+  pub source_unread : {before after : ℕ} → after ≡ before → (rest : Option Text) → rest ≡ source.bytes → given (rest ∷ []) → StopsSource es options many shown source given 0 before after w w steps steps
+  source_unread same rest none_read gives =
       let some = IsReadingOf-exists source in
       record {
         reading = some.0;
@@ -124,10 +123,10 @@ module _ (es : List Expression) (options : Options) (many shown : Bool) (source 
         rest = rest;
         gave_back = gives;
         in_file = omega arith;
-        read = record { given = []; are_given = lines_of-terminated [] all_none ∙ no_lines (file_of source.name some.0).lines; held = []; few_held = none_in_nothing; read = subst (λ r. Consumes source.bytes r []) (sym none_read) (Consumes-nil source.bytes) };
+        read = record { given = []; are_given = lines_of-terminated [] all_none ∙ no_lines (file_of source.name some.0).lines; held = []; few_held = none_in_nothing; read = rw none_read (Consumes-nil source.bytes) };
         rows = [];
         are_rows = rows_begun es options many (form options) 0 (file_of source.name some.0) [] (no_rows (form options) (first_lines 0 (file_of source.name some.0)) refl);
-        wrote = subst (TakesAll w w) (sym (after_nothing (form options) shown)) (TakesAll-nothing w);
+        wrote = rw (after_nothing (form options) shown) (TakesAll-nothing w);
         steps = unsearched_lines options (length es) (file_of source.name some.0).lines steps;
       }
     where
@@ -136,16 +135,16 @@ module _ (es : List Expression) (options : Options) (many shown : Bool) (source 
       no_lines (line ∷ text) = refl
 
       no_rows : (shape : Form) (file : File) → file.lines ≡ [] → LineRowsOf es options many shape file []
-      no_rows nothing file e = refl
-      no_rows names file e = refl
-      no_rows counts file e = refl
-      no_rows parts file e = ([], subst (λ ls. Chosen (λ l. Selected es options l.1) (numbered ls) []) (sym e) refl, refl)
-      no_rows lines file e = ([], subst (λ ls. Chosen (λ l. Selected es options l.1) (numbered ls) []) (sym e) refl, refl)
-      no_rows (around context) file e = subst (λ ls. Groups es options context (shown_name many file) (shown_number options) ls []) (sym e) refl
+      no_rows nothing _ e = refl
+      no_rows names _ e = refl
+      no_rows counts _ e = refl
+      no_rows parts file e = ([], rw e refl, refl)
+      no_rows lines file e = ([], rw e refl, refl)
+      no_rows (around context) file e = rw e refl
 
   -- a source that could not be opened
-  pub source_missing : (before after : ℕ) → IfSome source.opens (λ b. b ≡ false) → after ≡ one_more before → given [] → SearchesSource es options many shown source given before after w w steps steps Missing 0
-  source_missing before after closed e gives = record {
+  pub source_missing : {after : ℕ} (before : ℕ) → IfSome source.opens (λ b. b ≡ false) → after ≡ one_more before → given [] → SearchesSource es options many shown source given before after w w steps steps Missing 0
+  source_missing before closed e gives = record {
     reading = not_opened;
     is_reading = closed;
     failures = record { own = 1; are_own = inl (tt, refl); counted = e; left = []; are_left = refl; gave_back = gives };
@@ -154,7 +153,7 @@ module _ (es : List Expression) (options : Options) (many shown : Bool) (source 
     ends = λ _. refl;
     rows = [];
     are_rows = output_all es options many source.name [] Missing (form options) [] [] (rows_none es options many source.name (form options)) refl;
-    wrote = subst (TakesAll w w) (sym (after_nothing (form options) shown)) (TakesAll-nothing w);
+    wrote = rw (after_nothing (form options) shown) (TakesAll-nothing w);
     steps = unsearched_lines options (length es) [] steps;
   }
 
@@ -162,23 +161,23 @@ module _ (es : List Expression) (options : Options) (many shown : Bool) (source 
 -- has a selected line
 module _ (es : List Expression) (options : Options) (many : Bool) (plain : IsPlain (form options)) (first shown : Bool) (source : Source) (given : List (Option Text) → Type 0) where
   same_rows : (rows : List Text) → rows_after (form options) first rows ≡ rows_after (form options) shown rows
-  same_rows rows = plain_rows (form options) plain first rows ∙ sym (plain_rows (form options) plain shown rows)
+  same_rows rows = plain_rows _ plain _ _ ∙ sym (plain_rows _ plain _ _)
 
-  counts_anyway : (reading : Reading) (before after : ℕ) → CountsSource es options many first source given reading before after → CountsSource es options many shown source given reading before after
-  counts_anyway reading before after s = record { own = s.own; are_own = s.are_own; counted = s.counted; left = s.left; are_left = s.are_left; gave_back = s.gave_back }
+  counts_anyway : {reading : Reading} {before after : ℕ} → CountsSource es options many first source given reading before after → CountsSource es options many shown source given reading before after
+  counts_anyway s = record { own = s.own; are_own = s.are_own; counted = s.counted; left = s.left; are_left = s.are_left; gave_back = s.gave_back }
 
   module _ (failed_before failed : ℕ) (old new : Writer) (began ended : Steps) where
-    searches_anyway : (end : FileEnd) (selected : ℕ) → SearchesSource es options many first source given failed_before failed old new began ended end selected → SearchesSource es options many shown source given failed_before failed old new began ended end selected
-    searches_anyway end selected s = record {
+    searches_anyway : {end : FileEnd} {selected : ℕ} → SearchesSource es options many first source given failed_before failed old new began ended end selected → SearchesSource es options many shown source given failed_before failed old new began ended end selected
+    searches_anyway s = record {
       reading = s.reading;
       is_reading = s.is_reading;
-      failures = counts_anyway s.reading failed_before failed s.failures;
+      failures = counts_anyway s.failures;
       some = s.some;
       fault = s.fault;
       ends = s.ends;
       rows = s.rows;
       are_rows = s.are_rows;
-      wrote = subst (TakesAll old new) (same_rows s.rows) s.wrote;
+      wrote = rw (same_rows _) at s.wrote;
       steps = s.steps;
     }
 
@@ -186,16 +185,16 @@ module _ (es : List Expression) (options : Options) (many : Bool) (plain : IsPla
     breaks_anyway s = record {
       reading = s.reading;
       is_reading = s.is_reading;
-      failures = counts_anyway s.reading failed_before failed s.failures;
+      failures = counts_anyway s.failures;
       rows = s.rows;
       are_rows = s.are_rows;
-      wrote = subst (TakesFront old new) (same_rows s.rows) s.wrote;
+      wrote = rw (same_rows _) at s.wrote;
       counted = s.counted;
       steps = s.steps;
     }
 
-    stops_anyway : (n : ℕ) → StopsSource es options many first source given n failed_before failed old new began ended → StopsSource es options many shown source given n failed_before failed old new began ended
-    stops_anyway n s = record {
+    stops_anyway : {n : ℕ} → StopsSource es options many first source given n failed_before failed old new began ended → StopsSource es options many shown source given n failed_before failed old new began ended
+    stops_anyway s = record {
       reading = s.reading;
       is_reading = s.is_reading;
       none_failed = s.none_failed;
@@ -205,28 +204,27 @@ module _ (es : List Expression) (options : Options) (many : Bool) (plain : IsPla
       read = s.read;
       rows = s.rows;
       are_rows = s.are_rows;
-      wrote = subst (TakesAll old new) (same_rows s.rows) s.wrote;
+      wrote = rw (same_rows _) at s.wrote;
       steps = s.steps;
     }
 
     pub gives_anyway : (r : Result FileFound SearchFault) → SearchGives es options many first source given failed_before failed old new began ended r → SearchGives es options many shown source given failed_before failed old new began ended r
-    gives_anyway (Ok found) s = searches_anyway found.end found.selected s
+    gives_anyway (Ok found) s = searches_anyway s
     gives_anyway (Err Write) s = breaks_anyway s
-    gives_anyway (Err (Memory n)) s = stops_anyway n s
+    gives_anyway (Err (Memory n)) s = stops_anyway s
 
 -- the reader that a source was opened with, and the lines made of it
-module _ {R : Type 0} (remaining : R → Option Text) (failures : R → ℕ) (es : List Expression) (options : Options) (many shown : Bool) (source : Source) (given : List (Option Text) → Type 0) (rest : Option Text) (gives : given (rest ∷ [])) (opens : IfSome source.opens (λ b. b ≡ true))
-    (reader : R) (bytes : remaining reader ≡ source.bytes) (fresh : failures reader ≡ 0) (start : LineReader R) (holds : start.reader ≡ reader) (name : Text) (named : name ≡ source.name) (old new : Writer) (began ended : Steps) where
+module _ {R : Type 0} (remaining : R → Option Text) (failures : R → ℕ) (es : List Expression) (options : Options) (many shown : Bool) (source : Source) (given : List (Option Text) → Type 0) (rest : Option Text) (gives : given (rest ∷ [])) (opens : IfSome source.opens (λ b. b ≡ true)) {reader : R} (bytes : remaining reader ≡ source.bytes) (fresh : failures reader ≡ 0) (start : LineReader R) (holds : start.reader ≡ reader) {name : Text} (named : name ≡ source.name) (old new : Writer) (began ended : Steps) where
   same_source : open_source name (remaining start.reader) ≡ open_source source.name source.bytes
   same_source = λ i. open_source (named i) ((ap remaining holds ∙ bytes) i)
 
   fresh_start : failures start.reader ≡ 0
   fresh_start = ap failures holds ∙ fresh
 
-  module _ (before after failed : ℕ) (counted : after ≡ count_more before failed) where
+  module _ {after : ℕ} (before failed : ℕ) (counted : after ≡ count_more before failed) where
     -- what the search of the lines gives
     pub given_in : (r : Result FileFound SearchFault) → SearchGives es options many shown (open_source name (remaining start.reader)) (OneLeft rest) (failures start.reader) failed old new began ended r → SearchGives es options many shown source given before after old new began ended r
     given_in r s =
-        let at_source = subst (λ src. SearchGives es options many shown src (OneLeft rest) (failures start.reader) failed old new began ended r) same_source s in
-        let from_none = subst (λ n. SearchGives es options many shown (open_source source.name source.bytes) (OneLeft rest) n failed old new began ended r) fresh_start at_source in
-        source_gives es options many shown source given rest gives opens old new began ended before after failed counted r from_none
+        let at_source = rw same_source at s in
+        let from_none = rw fresh_start at at_source in
+        source_gives es options _ _ _ given _ gives opens _ _ _ _ _ _ counted r from_none

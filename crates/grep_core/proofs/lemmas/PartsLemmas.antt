@@ -1,5 +1,5 @@
 -- The parts of a line that were written, one more part at a time.
-use Rattle.grep_core.proofs.Prelude.{◌≡◌, ℕ, ◌≤◌, Bool, List, [], ◌∷◌, ◌++◌, length, map, slice_range, refl, sym, ap, subst, ◌∙◌, append_assoc, append-nil, map-append, Text, Expression, IsFound, IsPart, ArePartsFrom, AreParts, Options, one_more, parts, form, head_of, Writer, TakesAll, TakesFront, file_so_far, RowsOfSelected, WritesSelected, BreaksSelected}
+use Rattle.grep_core.proofs.Prelude.{◌≡◌, ℕ, ◌≤◌, Bool, List, [], ◌∷◌, ◌++◌, length, map, slice_range, refl, sym, ap, ◌∙◌, append_assoc, append-nil, map-append, Text, Expression, IsFound, IsPart, ArePartsFrom, AreParts, Options, one_more, parts, form, head_of, Writer, TakesAll, TakesFront, file_so_far, RowsOfSelected, WritesSelected, BreaksSelected}
 use Rattle.re_syntax.proofs.lemmas.PartsLaws.{IsPart-unique}
 use Rattle.re_syntax.proofs.lemmas.PartsExist.{AreParts-exist}
 use Rattle.grep_core.proofs.lemmas.WriterLaws.{TakesAll-nothing, TakesAll-more, TakesFront-more, TakesFront-longer}
@@ -24,54 +24,54 @@ module _ (es : List Expression) (options : Options) (many : Bool) (name : Text) 
       record { done = []; left = all.0; are_parts = all.1; are_left = all.1; on_line = on; wrote = TakesAll-nothing w }
 
   -- the next part is the first of those that are left
-  next_left : (from i j : ℕ) (left : List (ℕ × ℕ)) → ArePartsFrom es line options.line_regexp from left → IsPart es line options.line_regexp from i j
+  next_left : {from : ℕ} (i j : ℕ) (left : List (ℕ × ℕ)) → ArePartsFrom es line options.line_regexp from left → IsPart es line options.line_regexp from i j
       → (rest : List (ℕ × ℕ)) × (left ≡ (i, j) ∷ rest) × ArePartsFrom es line options.line_regexp j rest
-  next_left from i j [] none p = absurd (none i j p.found)
-  next_left from i j ((k, l) ∷ rest) are p =
+  next_left i j [] none p = absurd (none i j p.found)
+  next_left {from} i j ((k, l) ∷ rest) are p =
       let same = IsPart-unique es line options.line_regexp from k l i j are.0 p in
-      (rest, (λ n. (same.0 n, same.1 n) ∷ rest), subst (λ m. ArePartsFrom es line options.line_regexp m rest) same.1 are.1)
+      (rest, (λ n. (same.0 n, same.1 n) ∷ rest), rw same.1 at are.1)
 
   none_left : (from : ℕ) (left : List (ℕ × ℕ)) → ArePartsFrom es line options.line_regexp from left → ((i j : ℕ) → IsFound es line options.line_regexp from i j → ⊥) → left ≡ []
-  none_left from [] are none = refl
-  none_left from ((k, l) ∷ rest) are none = absurd (none k l are.0.found)
+  none_left _ [] _ none = refl
+  none_left _ ((k, l) ∷ rest) are none = absurd (none k l are.0.found)
 
   module _ (asked : form options ≡ parts) where
     -- the rows of all parts are the rows of the line
     are_rows : (ps : List (ℕ × ℕ)) → AreParts es line options.line_regexp ps → RowsOfSelected es options many (form options) name number line (map part_row ps)
-    are_rows ps are = subst (λ shape. RowsOfSelected es options many shape name number line (map part_row ps)) (sym asked) (ps, are, refl)
+    are_rows ps are = rw asked (ps, are, refl)
 
     -- no part is left
-    pub parts_done : (from : ℕ) (old now : Writer) → PartsSoFar from old now → ((i j : ℕ) → IsFound es line options.line_regexp from i j → ⊥) → WritesSelected es options many name number line old now
-    parts_done from old now s none = record {
+    pub parts_done : {from : ℕ} {old now : Writer} → PartsSoFar from old now → ((i j : ℕ) → IsFound es line options.line_regexp from i j → ⊥) → WritesSelected es options many name number line old now
+    parts_done {from} s none = record {
       rows = map part_row s.done;
-      are_rows = are_rows s.done (subst (AreParts es line options.line_regexp) (ap (λ l. s.done ++ l) (none_left from s.left s.are_left none) ∙ append-nil s.done) s.are_parts);
+      are_rows = are_rows _ (rw (ap (λ l. s.done ++ l) (none_left _ _ s.are_left none) ∙ append-nil s.done) at s.are_parts);
       wrote = s.wrote;
     }
 
     -- a write failed within the row of the next part
-    pub parts_broken : (from i j : ℕ) (old mid now : Writer) → PartsSoFar from old mid → IsPart es line options.line_regexp from i j → TakesFront mid now (part_row (i, j) ∷ []) → now.failures ≡ one_more mid.failures
+    pub parts_broken : {from i j : ℕ} (old mid now : Writer) → PartsSoFar from old mid → IsPart es line options.line_regexp from i j → TakesFront mid now (part_row (i, j) ∷ []) → now.failures ≡ one_more mid.failures
         → BreaksSelected es options many name number line old now
-    parts_broken from i j old mid now s p front failed =
-        let next = next_left from i j s.left s.are_left p in
+    parts_broken {i = i} {j = j} old mid now s p front failed =
+        let next = next_left i j s.left s.are_left p in
         let all = s.done ++ s.left in
-        let rows_are : map part_row all ≡ (map part_row s.done ++ part_row (i, j) ∷ []) ++ map part_row next.0 =
+        let rows_are =
         ap (λ l. map part_row (s.done ++ l)) next.1 ∙ map-append part_row s.done ((i, j) ∷ next.0) ∙ sym (append_assoc (map part_row s.done) (part_row (i, j) ∷ []) (map part_row next.0)) in
         record {
           rows = map part_row all;
           are_rows = are_rows all s.are_parts;
-          wrote = subst (TakesFront old now) (sym rows_are) (TakesFront-longer old now (map part_row s.done ++ part_row (i, j) ∷ []) (map part_row next.0) (TakesFront-more old mid now (map part_row s.done) (part_row (i, j) ∷ []) s.wrote front));
+          wrote = rw rows_are (TakesFront-longer _ (TakesFront-more s.wrote front));
           counted = failed ∙ ap one_more s.wrote.none_failed;
         }
 
   -- the row of the next part was written
-  pub parts_next : (from i j : ℕ) (old mid now : Writer) → PartsSoFar from old mid → IsPart es line options.line_regexp from i j → TakesAll mid now (part_row (i, j) ∷ []) → PartsSoFar j old now
-  parts_next from i j old mid now s p took =
-      let next = next_left from i j s.left s.are_left p in
+  pub parts_next : {from i j : ℕ} (old mid now : Writer) → PartsSoFar from old mid → IsPart es line options.line_regexp from i j → TakesAll mid now (part_row (i, j) ∷ []) → PartsSoFar j old now
+  parts_next {i = i} {j = j} old mid now s p took =
+      let next = next_left i j s.left s.are_left p in
       record {
         done = s.done ++ (i, j) ∷ [];
         left = next.0;
-        are_parts = subst (AreParts es line options.line_regexp) (ap (λ l. s.done ++ l) next.1 ∙ sym (append_assoc s.done ((i, j) ∷ []) next.0)) s.are_parts;
+        are_parts = rw (ap (λ l. s.done ++ l) next.1 ∙ sym (append_assoc s.done ((i, j) ∷ []) next.0)) at s.are_parts;
         are_left = next.2;
         on_line = p.found.on_line;
-        wrote = subst (TakesAll old now) (sym (map-append part_row s.done ((i, j) ∷ []))) (TakesAll-more old mid now (map part_row s.done) (part_row (i, j) ∷ []) s.wrote took);
+        wrote = rw (map-append part_row s.done ((i, j) ∷ [])) (TakesAll-more old mid now (map part_row s.done) (part_row (i, j) ∷ []) s.wrote took);
       }

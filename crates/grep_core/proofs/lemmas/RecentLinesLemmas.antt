@@ -13,12 +13,12 @@ map_rest f [] = refl
 map_rest f (x ∷ xs) = refl
 
 -- a line was appended to the queue, and its first, which was free then, was taken out
-pub pushed : {V : Type 0} (f : V → Text) (limit held count : ℕ) (old more now : List V) (x : V) (line : Text) → held ≤ length old → held ≤ limit → count ≡ min (held + 1) limit → more ≡ old ++ x ∷ [] → f x ≡ line → now ≡ drop 1 more → count < length more
+pub pushed : {V : Type 0} (f : V → Text) {count : ℕ} (limit held : ℕ) {more now : List V} (old : List V) (x : V) {line : Text} → held ≤ length old → held ≤ limit → count ≡ min (held + 1) limit → more ≡ old ++ x ∷ [] → f x ≡ line → now ≡ drop 1 more → count < length more
     → last_of count (map f now) ≡ last_of limit (last_of held (map f old) ++ line ∷ [])
-pushed f limit held count old more now x line within few is grown is_line rest free =
-    let texts : map f more ≡ map f old ++ line ∷ [] = ap (map f) grown ∙ map-append f old (x ∷ []) ∙ ap (λ l. map f old ++ l ∷ []) is_line in
+pushed f {count} limit held {more} old x {line} within few is grown is_line rest free =
+    let texts = ap (map f) grown ∙ map-append f old (x ∷ []) ∙ ap (λ l. map f old ++ l ∷ []) is_line in
     ap (λ ls. last_of count (map f ls)) rest ∙ ap (last_of count) (map_rest f more) ∙ last_of-drop count (map f more) (omega (arith, free, length-map more f)) ∙ ap (last_of count) texts ∙ ap (λ n. last_of n (map f old ++ line ∷ [])) is
-    ∙ sym (last_of-more limit held (map f old) line (omega (arith, within, length-map old f)) few)
+    ∙ sym (last_of-more _ _ _ _ (omega (arith, within, length-map old f)) few)
 
 -- no more lines are held than may be
 pub few_held : {V : Type 0} (f : V → Text) (held limit : ℕ) (items : List V) → held ≤ length items → held ≤ limit → length (last_of held (map f items)) ≤ limit

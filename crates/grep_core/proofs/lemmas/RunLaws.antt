@@ -1,6 +1,6 @@
 -- A run over sources, one more source at a time, and how it ends.
-use Rattle.grep_core.proofs.Prelude.{◌≡◌, ℕ, zero, suc, ◌+◌, nat_lt, nat_le, ◌<◌, ◌≤◌, Bool, true, false, ◌||◌, ◌&&◌, IsTrue, Decides, List, [], ◌∷◌, ◌++◌, length, take, drop, get_or, Option, None, Ok, Err, Any, refl, sym, ap, subst, ◌∙◌, inl, inr, arith, append-nil, append_assoc, take-suc, take-append_seam, get_or-append_seam, false≢true, cond-true, length-append, length-take-le, take_all, Text, Expression, Options, Status, RunFault, MessageWrite, FileEnd, one_more, IfHolds, File, missing, HasSelected, Form, nothing, names, counts, parts, lines, around, form, OutAs, Out, are_many, FaultMet, Stops, Reported, Messages, AnySelected, StatusOf, Source, Reading, IsReadingOf, file_of, failures_of, AreLeft, HasRead, Writer, Devices, TakesAll, TakesFront, TakesPast, files_of, AreReadings, FailuresMet, LeftMet, begun, file_at, count_more, Story, Finishes, BreaksOff, StopsAfter, RunGives, source_at, SearchesLines, SearchesFiles, GroupedAs, rows_after, is_fault, status_by, SourceGives, CountsSource, FinishesSource, BreaksSource, BreaksMessage, StopsSource}
-use Rattle.re_syntax.proofs.lemmas.Decisions.{Any-none, Any-first, Any-later, Any-cases}
+use Rattle.grep_core.proofs.Prelude.{◌≡◌, ℕ, zero, suc, ◌+◌, nat_lt, nat_le, ◌<◌, ◌≤◌, Bool, true, false, ◌||◌, ◌&&◌, IsTrue, Decides, List, [], ◌∷◌, ◌++◌, length, take, drop, get_or, Option, None, Ok, Err, Any, refl, sym, ap, subst, ◌∙◌, inl, inr, arith, append-nil, append_assoc, take-suc, take-append_seam, get_or-append_seam, false≢true, cond-true, length-append, length-take-le, take_all, Text, Expression, Options, Status, RunFault, MessageWrite, FileEnd, one_more, IfHolds, File, missing, HasSelected, Form, nothing, names, counts, parts, lines, around, form, Out, are_many, FaultMet, Stops, Reported, Messages, AnySelected, StatusOf, Source, Reading, IsReadingOf, file_of, failures_of, AreLeft, HasRead, Writer, Devices, TakesAll, TakesFront, TakesPast, files_of, AreReadings, FailuresMet, LeftMet, begun, file_at, count_more, Story, Finishes, BreaksOff, StopsAfter, RunGives, source_at, SearchesLines, SearchesFiles, GroupedAs, rows_after, is_fault, status_by, SourceGives, CountsSource, FinishesSource}
+use Rattle.re_syntax.proofs.lemmas.Decisions.{Any-none, Any-first}
 use Rattle.grep_core.specs.declared.status.Status.TheVariants.{Selected as selected}
 use Rattle.grep_core.specs.declared.status.RunFault.TheVariants.{Write, Memory}
 use Rattle.re_syntax.proofs.lemmas.SomeOfJoined.{Any-left, Any-right, Any-append-cases, Any-single, none_more}
@@ -19,14 +19,9 @@ use Rattle.grep_core.proofs.lemmas.WriterLaws.{TakesAll-nothing, TakesAll-more, 
 
 -- ---- verdicts
 
--- what each element that has P has, some element has
-any_mapped : {A : Type 0} (P Q : A → Type 0) → ((x : A) → P x → Q x) → (xs : List A) → Any P xs → Any Q xs
-any_mapped P Q f [] h = absurd (Any-none P h)
-any_mapped P Q f (x ∷ xs) h = elim (Any-cases P x xs h) [ inl p ↦ Any-first Q x xs (f x p) | inr l ↦ Any-later Q x xs (any_mapped P Q f xs l) ]
-
 -- the verdict on some element of a list and one more
-any_decides : {A : Type 0} (P : A → Type 0) (xs : List A) (x : A) (a b : Bool) → Decides a (Any P xs) → Decides b (P x) → Decides (a || b) (Any P (xs ++ x ∷ []))
-any_decides P xs x a b p q =
+any_decides : {A : Type 0} (P : A → Type 0) (xs : List A) (x : A) {a b : Bool} → Decides a (Any P xs) → Decides b (P x) → Decides (a || b) (Any P (xs ++ x ∷ []))
+any_decides P xs x {a} {b} p q =
     or_decides a b p q (Any-left P xs (x ∷ [])) (λ h. Any-right P xs (x ∷ []) (Any-first P x [] h))
     (λ s none not_here. elim (Any-append-cases P xs (x ∷ []) s) [ inl l ↦ none l | inr r ↦ not_here (Any-single P x r) ])
 
@@ -34,13 +29,13 @@ any_decides P xs x a b p q =
 not_both : {P : Type 0} (quiet some : Bool) → (quiet && some) ≡ false → Decides some P → IsTrue quiet × P → ⊥
 not_both true true e d h = false≢true (sym e)
 not_both true false e d h = false≢true (d.1 h.1)
-not_both false some e d h = false≢true h.0
+not_both false _ e d h = false≢true h.0
 
 -- where the two are both true, both hold
 both_hold : {P : Type 0} (quiet some : Bool) → (quiet && some) ≡ true → Decides some P → IsTrue quiet × P
 both_hold true true e d = (refl, d.0 refl)
 both_hold true false e d = absurd (false≢true e)
-both_hold false some e d = absurd (false≢true e)
+both_hold false _ e d = absurd (false≢true e)
 
 -- a list is what is before a place, what is at it and the rest
 cut_at : {A : Type 0} (xs : List A) (k : ℕ) (d : A) → k < length xs → xs ≡ take k xs ++ get_or xs k d ∷ drop (suc k) xs
@@ -62,8 +57,9 @@ module _ (es : List Expression) (options : Options) (many : Bool) where
     pub some_reported : Decides some (AnySelected es options (files_of before story.readings))
     pub faulty_reported : Decides faulty (Any (FaultMet es options) (files_of before story.readings))
 
+module _ {es : List Expression} {options : Options} {many : Bool} where
   -- no source was read yet
-  pub run_none : (given : List (Option Text) → Type 0) → given [] → (d : Devices) → RunSoFar [] given d d false false
+  pub run_none : (given : List (Option Text) → Type 0) → given [] → (d : Devices) → RunSoFar es options many [] given d d false false
   run_none given none d = record {
     story = record {
       readings = [];
@@ -77,11 +73,11 @@ module _ (es : List Expression) (options : Options) (many : Bool) where
       steps = adds_none 0 0 d.steps;
     };
     output = [];
-    is_output = nothing_written (form options);
-    wrote = subst (TakesAll d.out d.out) (sym (after_nothing (form options) false)) (TakesAll-nothing d.out);
+    is_output = nothing_written _;
+    wrote = rw (after_nothing (form options) false) (TakesAll-nothing _);
     messages = [];
     are_reported = Reported-nothing es options;
-    reported = TakesAll-nothing d.messages;
+    reported = TakesAll-nothing _;
     goes_on = Any-none (Stops es options);
     some_reported = decided_no (Any-none (HasSelected es options));
     faulty_reported = decided_no (Any-none (FaultMet es options));
@@ -96,50 +92,28 @@ module _ (es : List Expression) (options : Options) (many : Bool) where
       nothing_written (around context) = refl
 
   -- what was returned before this source, in its search, and up to its end
-  module _ (before : List Source) (source : Source) (given own_given all_given : List (Option Text) → Type 0) (join : (a b : List (Option Text)) → given a → own_given b → all_given (a ++ b))
-      (old mid : Devices) (some faulty : Bool) (s : RunSoFar before given old mid some faulty) where
+  module _ {before : List Source} (source : Source) {given : List (Option Text) → Type 0} (own_given all_given : List (Option Text) → Type 0) (join : (a b : List (Option Text)) → given a → own_given b → all_given (a ++ b))
+      {old mid : Devices} {some faulty : Bool} (s : RunSoFar es options many before given old mid some faulty) where
+    abbrev due : Bool → List Text → List Text
+    due = rows_after (form options)
+
+    abbrev Grouped : List File → List Text → Type 0
+    Grouped = GroupedAs es options many (form options)
+
+    abbrev first : List File
+    first = files_of before s.story.readings
+
     -- what was written for the first sources, and for this one
-    wrote_both : (rows : List Text) → rows_after (form options) false (s.output ++ rows) ≡ rows_after (form options) false s.output ++ rows_after (form options) some rows
-    wrote_both rows = after_two es options many (form options) (files_of before s.story.readings) s.output rows some s.is_output s.some_reported
+    wrote_both : (rows : List Text) → due false (s.output ++ rows) ≡ due false s.output ++ due some rows
+    wrote_both rows = after_two es options many (form options) first s.output rows s.is_output s.some_reported
 
-    takes_both : (new : Writer) (rows : List Text) → TakesAll mid.out new (rows_after (form options) some rows) → TakesAll old.out new (rows_after (form options) false (s.output ++ rows))
-    takes_both new rows took =
-        subst (TakesAll old.out new) (sym (wrote_both rows)) (TakesAll-more old.out mid.out new (rows_after (form options) false s.output) (rows_after (form options) some rows) s.wrote took)
+    takes_both : {new : Writer} (rows : List Text) → TakesAll mid.out new (due some rows) → TakesAll old.out new (due false (s.output ++ rows))
+    takes_both {new} rows took = rw (wrote_both rows) (TakesAll-more old.out mid.out new (due false s.output) (due some rows) s.wrote took)
 
-    -- one more source, at which the run does not stop
-    pub run_next : (new : Devices) (end : FileEnd) (found : ℕ) → FinishesSource es options many some source own_given mid new end found → (options.quiet && nat_lt 0 found) ≡ false → RunSoFar (before ++ source ∷ []) all_given old new (some || nat_lt 0 found) (faulty || is_fault end)
-    run_next new end found f goes =
-        let file = file_of source.name f.reading in
-        let files = files_of before s.story.readings in
-        let all : files_of (before ++ source ∷ []) (s.story.readings ++ f.reading ∷ []) ≡ files ++ file ∷ [] = files_of-append before (source ∷ []) s.story.readings (f.reading ∷ []) s.story.are_readings in
-        let not_here : Stops es options file → ⊥ = not_both options.quiet (nat_lt 0 found) goes f.some in
-        record {
-          story = record {
-            readings = s.story.readings ++ f.reading ∷ [];
-            are_readings = AreReadings-append before (source ∷ []) s.story.readings (f.reading ∷ []) s.story.are_readings (f.is_reading, tt);
-            failures = s.story.failures + f.failures.own;
-            are_failures = FailuresMet-append es options before (source ∷ []) s.story.readings (f.reading ∷ []) s.story.failures f.failures.own s.story.are_readings s.goes_on s.story.are_failures (FailuresMet-one es options source f.reading f.failures.own f.failures.are_own);
-            counted = f.failures.counted ∙ ap (λ n. count_more n f.failures.own) s.story.counted ∙ sym (count_more-add old.source_failures s.story.failures f.failures.own);
-            left = s.story.left ++ f.failures.left;
-            are_left = LeftMet-append es options before (source ∷ []) s.story.readings (f.reading ∷ []) s.story.left f.failures.left s.story.are_readings s.goes_on s.story.are_left (LeftMet-one es options source f.reading f.failures.left f.failures.are_left);
-            gave_back = join s.story.left f.failures.left s.story.gave_back f.failures.gave_back;
-            steps = subst (λ fs. SearchesFiles options (length es) fs old.steps new.steps) (sym all) (searched_up_to options (length es) files file [] old.steps mid.steps new.steps s.story.steps f.steps);
-          };
-          output = s.output ++ f.rows;
-          is_output = subst (λ fs. GroupedAs es options many (form options) fs (s.output ++ f.rows)) (sym all) (GroupedAs-append es options many (form options) files (file ∷ []) s.output f.rows s.is_output f.are_rows);
-          wrote = takes_both new.out f.rows f.wrote;
-          messages = s.messages ++ f.messages;
-          are_reported = subst (λ fs. Reported es options fs (s.messages ++ f.messages)) (sym all) (Reported-append es options files (file ∷ []) s.messages f.messages s.are_reported f.are_messages);
-          reported = TakesAll-more old.messages mid.messages new.messages s.messages f.messages s.reported f.reported;
-          goes_on = subst (λ fs. Any (Stops es options) fs → ⊥) (sym all) (none_more (Stops es options) files file s.goes_on not_here);
-          some_reported = subst (λ fs. Decides (some || nat_lt 0 found) (AnySelected es options fs)) (sym all) (any_decides (HasSelected es options) files file some (nat_lt 0 found) s.some_reported f.some);
-          faulty_reported = subst (λ fs. Decides (faulty || is_fault end) (Any (FaultMet es options) fs)) (sym all) (any_decides (FaultMet es options) files file faulty (is_fault end) s.faulty_reported f.fault);
-        }
-
-    module _ (after : List Source) (is_many : many ≡ nat_le 2 (length (before ++ source ∷ after))) (r : Reading) (is_reading : IsReadingOf source r) where
+    module _ (after : List Source) (r : Reading) (is_reading : IsReadingOf source r) where
       -- what the sources after this one did is any that they may have done
       abbrev rest : (rs : List Reading) × AreReadings after rs
-      rest = AreReadings-exist after
+      rest = AreReadings-exist _
 
       abbrev readings : List Reading
       readings = s.story.readings ++ r ∷ rest.0
@@ -147,27 +121,33 @@ module _ (es : List Expression) (options : Options) (many : Bool) where
       abbrev file : File
       file = file_of source.name r
 
-      abbrev first : List File
-      first = files_of before s.story.readings
-
       abbrev following : List File
       following = files_of after rest.0
 
       abbrev all_sources : List Source
       all_sources = before ++ source ∷ after
 
+      abbrev files : List File
+      files = files_of all_sources readings
+
+      abbrev Counts : Devices → Type 0
+      Counts new = CountsSource es options many some source own_given r mid.source_failures new.source_failures
+
+      abbrev Spends : Devices → Type 0
+      Spends new = SearchesLines options (length es) file.lines mid.steps new.steps
+
       are_all : AreReadings all_sources readings
-      are_all = AreReadings-append before (source ∷ after) s.story.readings (r ∷ rest.0) s.story.are_readings (is_reading, rest.1)
+      are_all = AreReadings-append _ _ _ _ s.story.are_readings (is_reading, rest.1)
 
-      all_files : files_of all_sources readings ≡ first ++ file ∷ following
-      all_files = files_of-append before (source ∷ after) s.story.readings (r ∷ rest.0) s.story.are_readings
+      all_files : files ≡ first ++ file ∷ following
+      all_files = files_of-append _ _ _ _ s.story.are_readings
 
-      all_many : many ≡ are_many (files_of all_sources readings)
-      all_many = is_many ∙ ap (nat_le 2) (sym (length-files_of all_sources readings are_all))
+      regrouped : (first ++ file ∷ []) ++ following ≡ files
+      regrouped = append_assoc first (file ∷ []) following ∙ sym all_files
 
       -- the steps for the first sources and this one are within the cost of all
-      spent : (new : Devices) → SearchesLines options (length es) file.lines mid.steps new.steps → SearchesFiles options (length es) (files_of all_sources readings) old.steps new.steps
-      spent new steps = subst (λ fs. SearchesFiles options (length es) fs old.steps new.steps) (sym all_files) (searched_up_to options (length es) first file following old.steps mid.steps new.steps s.story.steps steps)
+      spent : (new : Devices) → Spends new → SearchesFiles options (length es) files old.steps new.steps
+      spent new steps = rw all_files (searched_up_to options (length es) first file following s.story.steps steps)
 
       -- the first sources and this one
       up_to_here : take (suc (length before)) all_sources ≡ before ++ source ∷ []
@@ -176,289 +156,239 @@ module _ (es : List Expression) (options : Options) (many : Bool) where
           let count : suc (length before) ≡ length these = omega (arith, length-append before (source ∷ [])) in
           ap (λ n. take n all_sources) count ∙ ap (take (length these)) (sym (append_assoc before (source ∷ []) after)) ∙ take-append_seam these after
 
-      within : length before < length all_sources
-      within = omega (arith, length-append before (source ∷ after))
+      are_here : AreReadings (before ++ source ∷ []) (s.story.readings ++ r ∷ [])
+      are_here = AreReadings-append _ _ _ _ s.story.are_readings (is_reading, tt)
 
-      listed_here : source_at all_sources (length before) ≡ source
-      listed_here = get_or-append_seam before source after (record { name = []; opens = None; bytes = None })
-
-      -- the first files are those of the first sources
-      as_many : length first ≡ length before
-      as_many = length-files_of before s.story.readings s.story.are_readings
-
-      front : take (length before) (files_of all_sources readings) ≡ first
-      front = ap (λ k. take k (files_of all_sources readings)) (sym as_many) ∙ ap (take (length first)) all_files ∙ take-append_seam first (file ∷ following)
-
-      -- what was written and reported of them
-      out_before : OutAs es options (are_many (files_of all_sources readings)) (form options) (take (length before) (files_of all_sources readings)) (rows_after (form options) false s.output)
-      out_before =
-          subst (λ m. OutAs es options m (form options) (take (length before) (files_of all_sources readings)) (rows_after (form options) false s.output)) all_many
-          (subst (λ fs. OutAs es options many (form options) fs (rows_after (form options) false s.output)) (sym front) (grouped_out es options many (form options) first s.output s.is_output))
-
-      reported_before : Messages es options (take (length before) (files_of all_sources readings)) s.messages
-      reported_before = subst (λ fs. Messages es options fs s.messages) (sym front) (Messages-reached es options first first s.messages (Reached-all es options first s.goes_on) s.are_reported)
-
-      -- how often the devices failed in the first sources
-      met_before : FailuresMet es options (take (length before) all_sources) readings s.story.failures
-      met_before =
-          subst (λ xs. FailuresMet es options xs readings s.story.failures) (sym (take-append_seam before (source ∷ after)))
-          (FailuresMet-longer es options before s.story.readings (r ∷ rest.0) s.story.failures s.story.are_readings s.story.are_failures)
-
-      -- and in this one
+      -- how often the devices failed in them
       met_here : (own : ℕ) → IfHolds (FaultMet es options file) (own ≡ failures_of r) (own ≡ 0) → FailuresMet es options (take (suc (length before)) all_sources) readings (s.story.failures + own)
       met_here own are_own =
-          let these = before ++ source ∷ [] in
           let here = FailuresMet-append es options before (source ∷ []) s.story.readings (r ∷ []) s.story.failures own s.story.are_readings s.goes_on s.story.are_failures (FailuresMet-one es options source r own are_own) in
-          let are = AreReadings-append before (source ∷ []) s.story.readings (r ∷ []) s.story.are_readings (is_reading, tt) in
-          let first_sources : take (suc (length before)) all_sources ≡ these = up_to_here in
-          subst (λ xs. FailuresMet es options xs readings (s.story.failures + own)) (sym first_sources)
-          (subst (λ rs. FailuresMet es options these rs (s.story.failures + own)) (append_assoc s.story.readings (r ∷ []) rest.0) (FailuresMet-longer es options these (s.story.readings ++ r ∷ []) rest.0 (s.story.failures + own) are here))
+          rw up_to_here
+          (rw (append_assoc s.story.readings (r ∷ []) rest.0) at (FailuresMet-longer es options (before ++ source ∷ []) (s.story.readings ++ r ∷ []) rest.0 (s.story.failures + own) are_here here))
 
-      -- what the readers of the first sources had left
-      left_before : LeftMet es options (take (length before) all_sources) readings s.story.left
-      left_before =
-          subst (λ xs. LeftMet es options xs readings s.story.left) (sym (take-append_seam before (source ∷ after)))
-          (LeftMet-longer es options before s.story.readings (r ∷ rest.0) s.story.left s.story.are_readings s.story.are_left)
-
-      -- and that of this one
+      -- and what their readers had left
       left_here : (own : List (Option Text)) → AreLeft source r own → LeftMet es options (take (suc (length before)) all_sources) readings (s.story.left ++ own)
       left_here own is_left =
-          let these = before ++ source ∷ [] in
           let here = LeftMet-append es options before (source ∷ []) s.story.readings (r ∷ []) s.story.left own s.story.are_readings s.goes_on s.story.are_left (LeftMet-one es options source r own is_left) in
-          let are = AreReadings-append before (source ∷ []) s.story.readings (r ∷ []) s.story.are_readings (is_reading, tt) in
-          let first_sources : take (suc (length before)) all_sources ≡ these = up_to_here in
-          subst (λ xs. LeftMet es options xs readings (s.story.left ++ own)) (sym first_sources)
-          (subst (λ rs. LeftMet es options these rs (s.story.left ++ own)) (append_assoc s.story.readings (r ∷ []) rest.0) (LeftMet-longer es options these (s.story.readings ++ r ∷ []) rest.0 (s.story.left ++ own) are here))
+          rw up_to_here
+          (rw (append_assoc s.story.readings (r ∷ []) rest.0) at (LeftMet-longer es options (before ++ source ∷ []) (s.story.readings ++ r ∷ []) rest.0 (s.story.left ++ own) are_here here))
 
-      counted_here : (new : Devices) (own : ℕ) → new.source_failures ≡ count_more mid.source_failures own → new.source_failures ≡ count_more old.source_failures (s.story.failures + own)
-      counted_here new own counted = counted ∙ ap (λ n. count_more n own) s.story.counted ∙ sym (count_more-add old.source_failures s.story.failures own)
+      counted_here : {new : ℕ} (own : ℕ) → new ≡ count_more mid.source_failures own → new ≡ count_more old.source_failures (s.story.failures + own)
+      counted_here own counted = counted ∙ ap (λ n. count_more n own) s.story.counted ∙ sym (count_more-add old.source_failures s.story.failures own)
 
-      -- what was done to the first sources and this one
-      abbrev story_here : (new : Devices) → CountsSource es options many some source own_given r mid.source_failures new.source_failures → SearchesLines options (length es) file.lines mid.steps new.steps → Story es options all_sources (take (suc (length before)) all_sources) all_given old new
+      -- what was done to them
+      abbrev story_here : (new : Devices) → Counts new → Spends new → Story es options all_sources (take (suc (length before)) all_sources) all_given old new
       story_here new failed steps = record {
         readings = readings;
         are_readings = are_all;
         failures = s.story.failures + failed.own;
-        are_failures = met_here failed.own failed.are_own;
-        counted = counted_here new failed.own failed.counted;
+        are_failures = met_here _ failed.are_own;
+        counted = counted_here _ failed.counted;
         left = s.story.left ++ failed.left;
-        are_left = left_here failed.left failed.are_left;
+        are_left = left_here _ failed.are_left;
         gave_back = join s.story.left failed.left s.story.gave_back failed.gave_back;
         steps = spent new steps;
       }
 
-      -- the output for the first sources and this one is a beginning of the output
-      out_front : (rows : List Text) → GroupedAs es options many (form options) (file ∷ []) rows → (more : List Text) × Out es options (files_of all_sources readings) (rows_after (form options) false s.output ++ (rows_after (form options) some rows ++ more))
-      out_front rows is =
-          let both = GroupedAs-append es options many (form options) first (file ∷ []) s.output rows s.is_output is in
-          let more = GroupedAs-front es options many (form options) (first ++ file ∷ []) following (s.output ++ rows) both in
-          let all = grouped_out es options many (form options) ((first ++ file ∷ []) ++ following) ((s.output ++ rows) ++ more.0) more.1 in
-          let longer = after_longer (form options) false (s.output ++ rows) more.0 in
-          let regroup : (first ++ file ∷ []) ++ following ≡ first ++ file ∷ following = append_assoc first (file ∷ []) following in
-          let with_parts : rows_after (form options) false (s.output ++ rows) ++ longer.0 ≡ rows_after (form options) false s.output ++ (rows_after (form options) some rows ++ longer.0) =
-          ap (λ l. l ++ longer.0) (wrote_both rows) ∙ append_assoc (rows_after (form options) false s.output) (rows_after (form options) some rows) longer.0 in (
-            longer.0,
-            subst (λ m. OutAs es options m (form options) (files_of all_sources readings) (rows_after (form options) false s.output ++ (rows_after (form options) some rows ++ longer.0))) all_many
-                (subst (λ fs. OutAs es options many (form options) fs (rows_after (form options) false s.output ++ (rows_after (form options) some rows ++ longer.0))) (regroup ∙ sym all_files)
-                (subst (OutAs es options many (form options) ((first ++ file ∷ []) ++ following)) (longer.1 ∙ with_parts) all)),
-          )
+      module _ (is_many : many ≡ nat_le 2 (length all_sources)) where
+        all_many : many ≡ are_many files
+        all_many = is_many ∙ ap (nat_le 2) (sym (length-files_of _ _ are_all))
 
-      -- a write failed within the output for this source
-      breaks_out : (new : Devices) (rows : List Text) → GroupedAs es options many (form options) (file ∷ []) rows → TakesFront mid.out new.out (rows_after (form options) some rows) → new.messages ≡ mid.messages
-          → CountsSource es options many some source own_given r mid.source_failures new.source_failures → SearchesLines options (length es) file.lines mid.steps new.steps
-          → BreaksOff es options all_sources all_given old new
-      breaks_out new rows is front_here same failed steps =
-          let out = out_front rows is in
-          let reported = Messages-front es options first (file ∷ following) s.messages s.goes_on s.are_reported in
-          record {
-            at = length before;
-            in_sources = within;
-            story = story_here new failed steps;
-            wrote = record {
-              first = rows_after (form options) false s.output;
-              due_first = out_before;
-              text = rows_after (form options) false s.output ++ (rows_after (form options) some rows ++ out.0);
-              due = out.1;
-              past = TakesPast-more old.out mid.out new.out (rows_after (form options) false s.output) (rows_after (form options) some rows ++ out.0) s.wrote (TakesFront-longer mid.out new.out (rows_after (form options) some rows) out.0 front_here);
-            };
-            reported = record {
-              first = s.messages;
-              due_first = reported_before;
-              text = s.messages ++ reported.0;
-              due = subst (λ fs. Messages es options fs (s.messages ++ reported.0)) (sym all_files) reported.1;
-              past = subst (λ w. TakesPast old.messages w s.messages (s.messages ++ reported.0)) (sym same) (TakesPast-all old.messages mid.messages s.messages reported.0 s.reported);
-            };
-          }
+        within : length before < length all_sources
+        within = omega (arith, length-append before (source ∷ after))
 
-      -- the messages about the first sources and this one are a beginning of all messages
-      says_front : (messages : List Text) → Reported es options (file ∷ []) messages → (more : List Text) × Messages es options (files_of all_sources readings) ((s.messages ++ messages) ++ more)
-      says_front messages reported_too =
-          elim (dec_stops es options file) [
-            | yes here ↦ (
-              [],
-              subst (λ fs. Messages es options fs ((s.messages ++ messages) ++ [])) (sym all_files) (subst (Messages es options (first ++ file ∷ following)) (sym (append-nil (s.messages ++ messages)))
-                  (Messages-reached es options (first ++ file ∷ following) (first ++ file ∷ []) (s.messages ++ messages) (Reached-stopped es options first following file s.goes_on here) both)),
-            )
-            | no goes ↦ (let more = Messages-front es options (first ++ file ∷ []) following (s.messages ++ messages) (none_more (Stops es options) first file s.goes_on goes) both in
-                (more.0, subst (λ fs. Messages es options fs ((s.messages ++ messages) ++ more.0)) (append_assoc first (file ∷ []) following ∙ sym all_files) more.1))
-          ]
-        where
-          both : Reported es options (first ++ file ∷ []) (s.messages ++ messages)
-          both = Reported-append es options first (file ∷ []) s.messages messages s.are_reported reported_too
+        -- the first files are those of the first sources
+        as_many : length first ≡ length before
+        as_many = length-files_of _ _ s.story.are_readings
 
-      -- a write failed within its message
-      breaks_reported : (new : Devices) (rows messages : List Text) → GroupedAs es options many (form options) (file ∷ []) rows → TakesAll mid.out new.out (rows_after (form options) some rows)
-          → Reported es options (file ∷ []) messages → TakesFront mid.messages new.messages messages
-          → CountsSource es options many some source own_given r mid.source_failures new.source_failures → SearchesLines options (length es) file.lines mid.steps new.steps → BreaksOff es options all_sources all_given old new
-      breaks_reported new rows messages is took reported_too front_here failed steps =
-          let out = out_front rows is in
-          let reported = says_front messages reported_too in
-          record {
-            at = length before;
-            in_sources = within;
-            story = story_here new failed steps;
-            wrote = record {
-              first = rows_after (form options) false s.output;
-              due_first = out_before;
-              text = rows_after (form options) false s.output ++ (rows_after (form options) some rows ++ out.0);
-              due = out.1;
-              past = TakesPast-more old.out mid.out new.out (rows_after (form options) false s.output) (rows_after (form options) some rows ++ out.0) s.wrote (TakesFront-all mid.out new.out (rows_after (form options) some rows) out.0 took);
-            };
-            reported = record {
-              first = s.messages;
-              due_first = reported_before;
-              text = s.messages ++ (messages ++ reported.0);
-              due = subst (Messages es options (files_of all_sources readings)) (append_assoc s.messages messages reported.0) reported.1;
-              past = TakesPast-more old.messages mid.messages new.messages s.messages (messages ++ reported.0) s.reported (TakesFront-longer mid.messages new.messages messages reported.0 front_here);
-            };
-          }
+        front : take (length before) files ≡ first
+        front = ap (λ k. take k files) (sym as_many) ∙ ap (take (length first)) all_files ∙ take-append_seam first (file ∷ following)
 
-      -- out of memory after n of its lines
-      stops : (new : Devices) (n : ℕ) (rows : List Text) (last : Option Text) → n ≤ length file.lines → HasRead source last (take n file.lines) → GroupedAs es options many (form options) (begun (form options) n file) rows → TakesAll mid.out new.out (rows_after (form options) some rows) → new.messages ≡ mid.messages
-          → new.source_failures ≡ mid.source_failures → own_given (last ∷ []) → SearchesLines options (length es) file.lines mid.steps new.steps → StopsAfter es options all_sources all_given old new (length before) n
-      stops new n rows last inside read are took same none_failed gives steps =
-          let first_rows = GroupedAs-append es options many (form options) first (begun (form options) n file) s.output rows s.is_output are in
-          let here : file_at (files_of all_sources readings) (length before) ≡ file =
-          ap (file_at (files_of all_sources readings)) (sym as_many) ∙ ap (λ fs. file_at fs (length first)) all_files ∙ get_or-append_seam first file following (record { name = []; lines = []; ending = missing }) in
-          record {
-            in_sources = within;
-            rest = last;
-            story = record {
-              readings = readings;
-              are_readings = are_all;
-              failures = s.story.failures;
-              are_failures = met_before;
-              counted = none_failed ∙ s.story.counted;
-              left = s.story.left;
-              are_left = left_before;
-              gave_back = join s.story.left (last ∷ []) s.story.gave_back gives;
-              steps = spent new steps;
-            };
-            in_file = subst (λ f. n ≤ length f.lines) (sym here) inside;
-            read = subst (λ src. HasRead src last (take n (file_at (files_of all_sources readings) (length before)).lines)) (sym listed_here) (subst (λ f. HasRead source last (take n f.lines)) (sym here) read);
-            wrote = record {
-              text = rows_after (form options) false (s.output ++ rows);
-              due = subst (λ m. OutAs es options m (form options) (take (length before) (files_of all_sources readings) ++ begun (form options) n (file_at (files_of all_sources readings) (length before))) (rows_after (form options) false (s.output ++ rows))) all_many
-                  (subst (λ fs. OutAs es options many (form options) (fs ++ begun (form options) n (file_at (files_of all_sources readings) (length before))) (rows_after (form options) false (s.output ++ rows))) (sym front)
-                  (subst (λ f. OutAs es options many (form options) (first ++ begun (form options) n f) (rows_after (form options) false (s.output ++ rows))) (sym here)
-                  (grouped_out es options many (form options) (first ++ begun (form options) n file) (s.output ++ rows) first_rows)));
-              all = takes_both new.out rows took;
-            };
-            reported = record { text = s.messages; due = reported_before; all = subst (λ w. TakesAll old.messages w s.messages) (sym same) s.reported };
-          }
+        -- what was reported of them
+        reported_before : Messages es options (take (length before) files) s.messages
+        reported_before = rw front (Messages-reached es options _ _ _ (Reached-all es options first s.goes_on) s.are_reported)
 
-      -- under `-q` a line of this source is selected
-      finishes_here : (new : Devices) (end : FileEnd) (found : ℕ) (rows messages : List Text) (own : ℕ) → Stops es options file → GroupedAs es options many (form options) (file ∷ []) rows → TakesAll mid.out new.out (rows_after (form options) some rows)
-          → Reported es options (file ∷ []) messages → TakesAll mid.messages new.messages messages → IfHolds (FaultMet es options file) (own ≡ failures_of r) (own ≡ 0)
-          → new.source_failures ≡ count_more mid.source_failures own → (own_left : List (Option Text)) → AreLeft source r own_left → own_given own_left → SearchesLines options (length es) file.lines mid.steps new.steps → Finishes es options all_sources all_given old new selected
-      finishes_here new end found rows messages own here is took reported_too reported are_own counted own_left is_left gives steps =
-          let quiet_form : form options ≡ nothing = cond-true _ _ _ here.0 in
-          let none_out : (xs : List File) → GroupedAs es options many (form options) xs [] = λ xs. subst (λ shape. GroupedAs es options many shape xs []) (sym quiet_form) refl in
-          let grouped = GroupedAs-append es options many (form options) (first ++ file ∷ []) following (s.output ++ rows) [] (GroupedAs-append es options many (form options) first (file ∷ []) s.output rows s.is_output is) (none_out following) in
-          let output = grouped_out es options many (form options) ((first ++ file ∷ []) ++ following) (s.output ++ rows) (subst (GroupedAs es options many (form options) ((first ++ file ∷ []) ++ following)) (append-nil (s.output ++ rows)) grouped) in
-          let regroup : (first ++ file ∷ []) ++ following ≡ first ++ file ∷ following = append_assoc first (file ∷ []) following in
-          let reached = Reached-stopped es options first following file s.goes_on here in
-          let all_reported = Messages-reached es options (first ++ file ∷ following) (first ++ file ∷ []) (s.messages ++ messages) reached (Reported-append es options first (file ∷ []) s.messages messages s.are_reported reported_too) in
-          record {
-            story = record {
-              readings = readings;
-              are_readings = are_all;
-              failures = s.story.failures + own;
-              are_failures = FailuresMet-append es options before (source ∷ after) s.story.readings (r ∷ rest.0) s.story.failures own s.story.are_readings s.goes_on s.story.are_failures (FailuresMet-stopped es options source after r rest.0 own here are_own);
-              counted = counted_here new own counted;
-              left = s.story.left ++ own_left;
-              are_left = LeftMet-append es options before (source ∷ after) s.story.readings (r ∷ rest.0) s.story.left own_left s.story.are_readings s.goes_on s.story.are_left (LeftMet-stopped es options source after r rest.0 own_left here is_left);
-              gave_back = join s.story.left own_left s.story.gave_back gives;
-              steps = spent new steps;
-            };
-            wrote = record {
-              text = rows_after (form options) false (s.output ++ rows);
-              due = subst (λ m. OutAs es options m (form options) (files_of all_sources readings) (rows_after (form options) false (s.output ++ rows))) all_many
-                  (subst (λ fs. OutAs es options many (form options) fs (rows_after (form options) false (s.output ++ rows))) (regroup ∙ sym all_files) output);
-              all = takes_both new.out rows took;
-            };
-            reported = record {
-              text = s.messages ++ messages;
-              due = subst (λ fs. Messages es options fs (s.messages ++ messages)) (sym all_files) all_reported;
-              all = TakesAll-more old.messages mid.messages new.messages s.messages messages s.reported reported;
-            };
-            is_status = subst (λ fs. StatusOf es options fs selected) (sym all_files) (StatusOf-stopped es options first following file here.0 here.1);
-          }
+        -- the output for the first sources and this one is a beginning of the output
+        out_front : (rows : List Text) → Grouped (file ∷ []) rows → (more : List Text) × Out es options files (due false s.output ++ (due some rows ++ more))
+        out_front rows is =
+            let both = GroupedAs-append es options many (form options) first (file ∷ []) s.output rows s.is_output is in
+            let more = GroupedAs-front es options many (form options) (first ++ file ∷ []) following (s.output ++ rows) both in
+            let all = grouped_out es options many (form options) ((first ++ file ∷ []) ++ following) ((s.output ++ rows) ++ more.0) more.1 in
+            let longer = after_longer (form options) false (s.output ++ rows) more.0 in
+            let with_parts = ap (λ l. l ++ longer.0) (wrote_both rows) ∙ append_assoc (due false s.output) (due some rows) longer.0 in
+            (longer.0, rw (← all_many) (rw regrouped at (rw (longer.1 ∙ with_parts) at all)))
+
+        -- a write failed within the output for this source, or within its message
+        breaks_off : (new : Devices) (rows : List Text) {text : List Text} → Grouped (file ∷ []) rows → ((more : List Text) → TakesFront mid.out new.out (due some rows ++ more)) → Messages es options files text → TakesPast old.messages new.messages s.messages text
+            → Counts new → Spends new → BreaksOff es options all_sources all_given old new
+        breaks_off new rows {text} is front_here due_messages past failed steps =
+            let out = out_front rows is in
+            record {
+              at = length before;
+              in_sources = within;
+              story = story_here new failed steps;
+              wrote = record {
+                first = due false s.output;
+                due_first = rw (← all_many) (rw front (grouped_out es options many (form options) first s.output s.is_output));
+                text = due false s.output ++ (due some rows ++ out.0);
+                due = out.1;
+                past = TakesPast-more _ _ s.wrote (front_here out.0);
+              };
+              reported = record { first = s.messages; due_first = reported_before; text = text; due = due_messages; past = past };
+            }
+
+        -- the messages about the first sources are a beginning of all messages
+        says_more : (more : List Text) × Messages es options files (s.messages ++ more)
+        says_more = let more = Messages-front es options first (file ∷ following) s.messages s.goes_on s.are_reported in (more.0, rw all_files more.1)
+
+        -- and so are those about them and this one
+        says_front : (messages : List Text) → Reported es options (file ∷ []) messages → (more : List Text) × Messages es options files (s.messages ++ (messages ++ more))
+        says_front messages reported_too =
+            elim (dec_stops es options file) [
+              | yes here ↦ ([], rw all_files (rw (append-nil messages) (Messages-reached es options _ _ _ (Reached-stopped es options first following file s.goes_on here) both)))
+              | no goes ↦ (let more = Messages-front es options (first ++ file ∷ []) following (s.messages ++ messages) (none_more (Stops es options) first file s.goes_on goes) both in
+                  (more.0, rw (append_assoc s.messages messages more.0) at (rw regrouped at more.1)))
+            ]
+          where
+            both : Reported es options (first ++ file ∷ []) (s.messages ++ messages)
+            both = Reported-append es options _ _ _ _ s.are_reported reported_too
+
+        -- out of memory after n of its lines
+        stops : (new : Devices) (n : ℕ) (rows : List Text) {last : Option Text} → n ≤ length file.lines → HasRead source last (take n file.lines) → Grouped (begun (form options) n file) rows → TakesAll mid.out new.out (due some rows) → new.messages ≡ mid.messages
+            → new.source_failures ≡ mid.source_failures → own_given (last ∷ []) → Spends new → StopsAfter es options all_sources all_given old new (length before) n
+        stops new n rows {last} inside read are took same none_failed gives steps =
+            let here =
+            ap (file_at files) (sym as_many) ∙ ap (λ fs. file_at fs (length first)) all_files ∙ get_or-append_seam first file following (record { name = []; lines = []; ending = missing }) in
+            record {
+              in_sources = within;
+              rest = last;
+              story = record {
+                readings = readings;
+                are_readings = are_all;
+                failures = s.story.failures;
+                are_failures = rw (take-append_seam before (source ∷ after)) (FailuresMet-longer es options _ _ _ _ s.story.are_readings s.story.are_failures);
+                counted = none_failed ∙ s.story.counted;
+                left = s.story.left;
+                are_left = rw (take-append_seam before (source ∷ after)) (LeftMet-longer es options _ _ _ _ s.story.are_readings s.story.are_left);
+                gave_back = join s.story.left (last ∷ []) s.story.gave_back gives;
+                steps = spent new steps;
+              };
+              in_file = rw here inside;
+              read = rw (get_or-append_seam before source after (record { name = []; opens = None; bytes = None })) (rw here read);
+              wrote = record {
+                text = due false (s.output ++ rows);
+                due = rw (← all_many) (rw front (rw here (grouped_out es options many (form options) (first ++ begun (form options) n file) (s.output ++ rows)
+                    (GroupedAs-append es options many (form options) first (begun (form options) n file) s.output rows s.is_output are))));
+                all = takes_both rows took;
+              };
+              reported = record { text = s.messages; due = reported_before; all = rw same s.reported };
+            }
+
+        -- under `-q` a line of this source is selected
+        finishes_here : (new : Devices) (rows : List Text) {messages : List Text} → Stops es options file → Grouped (file ∷ []) rows → TakesAll mid.out new.out (due some rows) → Reported es options (file ∷ []) messages → TakesAll mid.messages new.messages messages
+            → Counts new → Spends new → Finishes es options all_sources all_given old new selected
+        finishes_here new rows {messages} here is took reported_too reported failed steps =
+            let quiet_form : form options ≡ nothing = cond-true _ _ _ here.0 in
+            let none_out : Grouped following [] = rw quiet_form refl in
+            let grouped = GroupedAs-append es options many (form options) (first ++ file ∷ []) following (s.output ++ rows) [] (GroupedAs-append es options many (form options) first (file ∷ []) s.output rows s.is_output is) none_out in
+            let output = grouped_out es options many (form options) ((first ++ file ∷ []) ++ following) (s.output ++ rows) (rw (append-nil (s.output ++ rows)) at grouped) in
+            record {
+              story = record {
+                readings = readings;
+                are_readings = are_all;
+                failures = s.story.failures + failed.own;
+                are_failures = FailuresMet-append es options _ _ _ _ _ _ s.story.are_readings s.goes_on s.story.are_failures (FailuresMet-stopped es options source after r rest.0 failed.own here failed.are_own);
+                counted = counted_here _ failed.counted;
+                left = s.story.left ++ failed.left;
+                are_left = LeftMet-append es options _ _ _ _ _ _ s.story.are_readings s.goes_on s.story.are_left (LeftMet-stopped es options source after r rest.0 failed.left here failed.are_left);
+                gave_back = join s.story.left failed.left s.story.gave_back failed.gave_back;
+                steps = spent new steps;
+              };
+              wrote = record { text = due false (s.output ++ rows); due = rw (← all_many) (rw regrouped at output); all = takes_both rows took };
+              reported = record {
+                text = s.messages ++ messages;
+                due = rw all_files (Messages-reached es options _ _ _ (Reached-stopped es options first following file s.goes_on here)
+                    (Reported-append es options first (file ∷ []) s.messages messages s.are_reported reported_too));
+                all = TakesAll-more old.messages mid.messages new.messages s.messages messages s.reported reported;
+              };
+              is_status = rw all_files (StatusOf-stopped es options _ _ _ here.0 here.1);
+            }
+
+    -- one more source, at which the run does not stop
+    pub run_next : {new : Devices} {end : FileEnd} {found : ℕ} → FinishesSource es options many some source own_given mid new end found → (options.quiet && nat_lt 0 found) ≡ false → RunSoFar es options many (before ++ source ∷ []) all_given old new (some || nat_lt 0 found) (faulty || is_fault end)
+    run_next {new} {found = found} f goes =
+        let file = file_of source.name f.reading in
+        let here = story_here [] f.reading f.is_reading new f.failures f.steps in
+        let reached = up_to_here [] f.reading f.is_reading in
+        let all = all_files [] f.reading f.is_reading in
+        record {
+          story = record {
+            readings = here.readings;
+            are_readings = here.are_readings;
+            failures = here.failures;
+            are_failures = rw reached at here.are_failures;
+            counted = here.counted;
+            left = here.left;
+            are_left = rw reached at here.are_left;
+            gave_back = here.gave_back;
+            steps = here.steps;
+          };
+          output = s.output ++ f.rows;
+          is_output = rw all (GroupedAs-append es options many (form options) first (file ∷ []) s.output f.rows s.is_output f.are_rows);
+          wrote = takes_both _ f.wrote;
+          messages = s.messages ++ f.messages;
+          are_reported = rw all (Reported-append es options _ _ _ _ s.are_reported f.are_messages);
+          reported = TakesAll-more old.messages mid.messages new.messages s.messages f.messages s.reported f.reported;
+          goes_on = rw all (none_more (Stops es options) first file s.goes_on (not_both options.quiet (nat_lt 0 found) goes f.some));
+          some_reported = rw all (any_decides (HasSelected es options) _ _ s.some_reported f.some);
+          faulty_reported = rw all (any_decides (FaultMet es options) _ _ s.faulty_reported f.fault);
+        }
 
     -- ---- the answers, for the sources as they are listed
 
-    module _ (sources after : List Source) (cut : sources ≡ before ++ source ∷ after) (is_many : many ≡ nat_le 2 (length sources)) (new : Devices) where
+    module _ {sources : List Source} (after : List Source) (cut : sources ≡ before ++ source ∷ after) (is_many : many ≡ nat_le 2 (length sources)) (new : Devices) where
       many_here : many ≡ nat_le 2 (length (before ++ source ∷ after))
       many_here = is_many ∙ ap (λ l. nat_le 2 (length l)) cut
 
-      pub run_unwritten : BreaksSource es options many some source own_given mid.source_failures new.source_failures mid.out new.out mid.steps new.steps → new.messages ≡ mid.messages → BreaksOff es options sources all_given old new × (new.out.failures ≡ one_more old.out.failures) × (new.messages.failures ≡ old.messages.failures)
-      run_unwritten b same = (
-        subst (λ l. BreaksOff es options l all_given old new) (sym cut) (breaks_out after many_here b.reading b.is_reading new b.rows b.are_rows b.wrote same b.failures b.steps),
+      pub run_stopped : {end : FileEnd} {found : ℕ} → FinishesSource es options many some source own_given mid new end found → (options.quiet && nat_lt 0 found) ≡ true → Finishes es options sources all_given old new selected
+      run_stopped {found = found} f both =
+          rw cut (finishes_here after f.reading f.is_reading many_here _ _ (both_hold _ _ both f.some) f.are_rows f.wrote f.are_messages f.reported f.failures f.steps)
+
+      -- the search of the source was given up
+      pub run_fault : {k : ℕ} (fault : RunFault) → k ≡ length before → SourceGives es options many some source own_given k mid new (Err fault) → RunGives es options sources all_given old new (Err fault)
+      run_fault Write place (b, same) = (
+        rw cut (let more = says_more after b.reading b.is_reading many_here in
+            breaks_off after b.reading b.is_reading many_here _ _ {text = s.messages ++ more.0} b.are_rows (λ l. TakesFront-longer l b.wrote) more.1 (subst (λ m. TakesPast old.messages m s.messages (s.messages ++ more.0)) (sym same) (TakesPast-all _ s.reported)) b.failures b.steps),
         b.counted ∙ ap one_more s.wrote.none_failed,
         ap (λ (w : Writer). w.failures) same ∙ s.reported.none_failed,
       )
-
-      pub run_unreported : BreaksMessage es options many some source own_given mid new → BreaksOff es options sources all_given old new × (new.out.failures ≡ old.out.failures) × (new.messages.failures ≡ one_more old.messages.failures)
-      run_unreported b = (
-        subst (λ l. BreaksOff es options l all_given old new) (sym cut) (breaks_reported after many_here b.reading b.is_reading new b.rows b.messages b.are_rows b.wrote b.are_messages b.reported b.failures b.steps),
+      run_fault MessageWrite place b = (
+        rw cut (let more = says_front after b.reading b.is_reading many_here b.messages b.are_messages in
+            breaks_off after b.reading b.is_reading many_here new b.rows b.are_rows (λ l. TakesFront-all l b.wrote) more.1 (TakesPast-more _ _ s.reported (TakesFront-longer _ b.reported)) b.failures b.steps),
         b.wrote.none_failed ∙ s.wrote.none_failed,
         b.counted ∙ ap one_more s.reported.none_failed,
       )
-
-      pub run_out_of_memory : (k n : ℕ) → k ≡ length before → StopsSource es options many some source own_given n mid.source_failures new.source_failures mid.out new.out mid.steps new.steps → new.messages ≡ mid.messages → StopsAfter es options sources all_given old new k n
-      run_out_of_memory k n place b same =
-          subst (λ j. StopsAfter es options sources all_given old new j n) (sym place)
-          (subst (λ l. StopsAfter es options l all_given old new (length before) n) (sym cut) (stops after many_here b.reading b.is_reading new n b.rows b.rest b.in_file b.read b.are_rows b.wrote same b.none_failed b.gave_back b.steps))
-
-      pub run_stopped : (end : FileEnd) (found : ℕ) → FinishesSource es options many some source own_given mid new end found → (options.quiet && nat_lt 0 found) ≡ true → Finishes es options sources all_given old new selected
-      run_stopped end found f both =
-          subst (λ l. Finishes es options l all_given old new selected) (sym cut)
-          (finishes_here after many_here f.reading f.is_reading new end found f.rows f.messages f.failures.own (both_hold options.quiet (nat_lt 0 found) both f.some) f.are_rows f.wrote f.are_messages f.reported f.failures.are_own f.failures.counted f.failures.left f.failures.are_left f.failures.gave_back f.steps)
-
-      -- the search of the source was given up
-      pub run_fault : (k : ℕ) (fault : RunFault) → k ≡ length before → SourceGives es options many some source own_given k mid new (Err fault) → RunGives es options sources all_given old new (Err fault)
-      run_fault k Write place h = run_unwritten h.0 h.1
-      run_fault k MessageWrite place h = run_unreported h
-      run_fault k (Memory at n) place h = run_out_of_memory at n (h.0 ∙ place) h.1 h.2
+      run_fault (Memory at n) place (here, b, same) =
+          rw (here ∙ place) (rw cut (stops after b.reading b.is_reading many_here new n b.rows b.in_file b.read b.are_rows b.wrote same b.none_failed b.gave_back b.steps))
 
   -- all sources were read
-  pub run_all : (sources : List Source) (given : List (Option Text) → Type 0) (old new : Devices) (some faulty : Bool) → many ≡ nat_le 2 (length sources) → RunSoFar sources given old new some faulty → Finishes es options sources given old new (status_by some faulty)
-  run_all sources given old new some faulty is_many s =
+  pub run_all : {sources : List Source} (given : List (Option Text) → Type 0) {old new : Devices} {some faulty : Bool} → many ≡ nat_le 2 (length sources) → RunSoFar es options many sources given old new some faulty → Finishes es options sources given old new (status_by some faulty)
+  run_all {sources} given {some = some} {faulty = faulty} is_many s =
       let files = files_of sources s.story.readings in
       record {
         story = s.story;
         wrote = record {
           text = rows_after (form options) false s.output;
-          due = subst (λ m. OutAs es options m (form options) files (rows_after (form options) false s.output)) (is_many ∙ ap (nat_le 2) (sym (length-files_of sources s.story.readings s.story.are_readings))) (grouped_out es options many (form options) files s.output s.is_output);
+          due = rw (is_many ∙ ap (nat_le 2) (sym (length-files_of _ _ s.story.are_readings))) at (grouped_out es options many (form options) files s.output s.is_output);
           all = s.wrote;
         };
-        reported = record { text = s.messages; due = Messages-reached es options files files s.messages (Reached-all es options files s.goes_on) s.are_reported; all = s.reported };
+        reported = record { text = s.messages; due = Messages-reached es options _ _ _ (Reached-all es options _ s.goes_on) s.are_reported; all = s.reported };
         is_status = status some faulty s.some_reported s.faulty_reported;
       }
     where
       -- under `-q` the run would have stopped at a selected line
       none_quiet : IsTrue options.quiet → AnySelected es options (files_of sources s.story.readings) → ⊥
-      none_quiet quiet any = s.goes_on (any_mapped (HasSelected es options) (Stops es options) (λ file has. (quiet, has)) (files_of sources s.story.readings) any)
+      none_quiet quiet any = s.goes_on (any.0, any.1, any.2, any.3, (quiet, any.4))
 
       status : (a b : Bool) → Decides a (AnySelected es options (files_of sources s.story.readings)) → Decides b (Any (FaultMet es options) (files_of sources s.story.readings)) → StatusOf es options (files_of sources s.story.readings) (status_by a b)
       status a true p q = StatusOf-error es options _ none_quiet (q.0 refl)
@@ -467,36 +397,33 @@ module _ (es : List Expression) (options : Options) (many : Bool) where
 
   -- ---- sources by their places
 
-  module _ (sources : List Source) (k : ℕ) (inside : k < length sources) (given own_given all_given : List (Option Text) → Type 0) (join : (a b : List (Option Text)) → given a → own_given b → all_given (a ++ b))
-      (old mid new : Devices) (some faulty : Bool) (s : RunSoFar (take k sources) given old mid some faulty) where
+  module _ (sources : List Source) (k : ℕ) (inside : k < length sources) {given : List (Option Text) → Type 0} (own_given all_given : List (Option Text) → Type 0) (join : (a b : List (Option Text)) → given a → own_given b → all_given (a ++ b))
+      {old mid : Devices} (new : Devices) {some faulty : Bool} (s : RunSoFar es options many (take k sources) given old mid some faulty) where
     place : k ≡ length (take k sources)
     place = sym (length-take-le k sources (omega (arith, inside)))
 
     -- source k was searched, and the run continues
-    pub run_further : (end : FileEnd) (found : ℕ) (here reported fault : Bool) → FinishesSource es options many some (source_at sources k) own_given mid new end found → here ≡ nat_lt 0 found → (options.quiet && here) ≡ false → reported ≡ nat_lt 0 found → fault ≡ is_fault end
-        → RunSoFar (take (k + 1) sources) all_given old new (some || reported) (faulty || fault)
-    run_further end found here reported fault f here_is goes reported_is fault_is =
-        let next = run_next (take k sources) (source_at sources k) given own_given all_given join old mid some faulty s new end found f (ap (λ b. options.quiet && b) (sym here_is) ∙ goes) in
+    pub run_further : {end : FileEnd} {found : ℕ} {here reported fault : Bool} → FinishesSource es options many some (source_at sources k) own_given mid new end found → here ≡ nat_lt 0 found → (options.quiet && here) ≡ false → reported ≡ nat_lt 0 found → fault ≡ is_fault end
+        → RunSoFar es options many (take (k + 1) sources) all_given old new (some || reported) (faulty || fault)
+    run_further f here_is goes reported_is fault_is =
         let one : k + 1 ≡ suc k = omega arith in
-        let longer : take (k + 1) sources ≡ take k sources ++ source_at sources k ∷ [] = ap (λ n. take n sources) one ∙ take-suc sources k (record { name = []; opens = None; bytes = None }) inside in
-        let verdicts = subst (λ b. RunSoFar (take k sources ++ source_at sources k ∷ []) all_given old new (some || b) (faulty || is_fault end)) (sym reported_is) next in
-        let both = subst (λ b. RunSoFar (take k sources ++ source_at sources k ∷ []) all_given old new (some || reported) (faulty || b)) (sym fault_is) verdicts in
-        subst (λ l. RunSoFar l all_given old new (some || reported) (faulty || fault)) (sym longer) both
+        let longer = ap (λ n. take n sources) one ∙ take-suc sources k (record { name = []; opens = None; bytes = None }) inside in
+        rw (longer, reported_is, fault_is) (run_next _ own_given all_given join s f (rw here_is at goes))
 
     module _ (is_many : many ≡ nat_le 2 (length sources)) where
       -- under `-q` a line of it is selected
-      pub run_ends_at : (end : FileEnd) (found : ℕ) (here : Bool) → FinishesSource es options many some (source_at sources k) own_given mid new end found → here ≡ nat_lt 0 found → (options.quiet && here) ≡ true → RunGives es options sources all_given old new (Ok selected)
-      run_ends_at end found here f here_is both =
-          run_stopped (take k sources) (source_at sources k) given own_given all_given join old mid some faulty s sources (drop (suc k) sources) (cut_at sources k _ inside) is_many new end found f (ap (λ b. options.quiet && b) (sym here_is) ∙ both)
+      pub run_ends_at : {end : FileEnd} {found : ℕ} {here : Bool} → FinishesSource es options many some (source_at sources k) own_given mid new end found → here ≡ nat_lt 0 found → (options.quiet && here) ≡ true → RunGives es options sources all_given old new (Ok selected)
+      run_ends_at f here_is both =
+          run_stopped _ own_given all_given join s (drop (suc k) sources) (cut_at _ k _ inside) is_many _ f (rw here_is at both)
 
       -- its search was given up
-      pub run_given_up : (fault : RunFault) (ds : List Expression) (listed : List Source) → ds ≡ es → listed ≡ sources → SourceGives ds options many some (source_at listed k) own_given k mid new (Err fault) → RunGives es options sources all_given old new (Err fault)
-      run_given_up fault ds listed same_expressions same_sources h =
+      pub run_given_up : (fault : RunFault) {ds : List Expression} {listed : List Source} → ds ≡ es → listed ≡ sources → SourceGives ds options many some (source_at listed k) own_given k mid new (Err fault) → RunGives es options sources all_given old new (Err fault)
+      run_given_up fault {listed = listed} same_expressions same_sources h =
           let searched = subst (λ l. SourceGives es options many some (source_at l k) own_given k mid new (Err fault)) same_sources (subst (λ xs. SourceGives xs options many some (source_at listed k) own_given k mid new (Err fault)) same_expressions h) in
-          run_fault (take k sources) (source_at sources k) given own_given all_given join old mid some faulty s sources (drop (suc k) sources) (cut_at sources k _ inside) is_many new k fault place searched
+          run_fault _ own_given all_given join s (drop (suc k) sources) (cut_at _ k _ inside) is_many _ _ place searched
 
   -- all sources were searched
-  pub run_ends : (sources : List Source) (given : List (Option Text) → Type 0) (k : ℕ) (old new : Devices) (some faulty : Bool) (status : Status) → many ≡ nat_le 2 (length sources) → length sources ≤ k → RunSoFar (take k sources) given old new some faulty → status ≡ status_by some faulty
+  pub run_ends : (sources : List Source) (given : List (Option Text) → Type 0) (k : ℕ) (old new : Devices) {some faulty : Bool} {status : Status} → many ≡ nat_le 2 (length sources) → length sources ≤ k → RunSoFar es options many (take k sources) given old new some faulty → status ≡ status_by some faulty
       → RunGives es options sources given old new (Ok status)
-  run_ends sources given k old new some faulty status is_many over s is =
-      subst (Finishes es options sources given old new) (sym is) (run_all sources given old new some faulty is_many (subst (λ l. RunSoFar l given old new some faulty) (take_all k sources over) s))
+  run_ends sources given k old new is_many over s is =
+      rw is (run_all given is_many (rw (take_all k sources over) at s))

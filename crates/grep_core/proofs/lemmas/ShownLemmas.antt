@@ -1,12 +1,12 @@
 -- Which lines are shown around selected ones as a file has more lines, and what is shown of them.
-use Rattle.grep_core.proofs.Prelude.{◌≡◌, ℕ, zero, suc, ◌+◌, ◌-◌, ◌<◌, ◌≤◌, ◌⊎◌, List, [], ◌∷◌, ◌++◌, All, Option, length, inl, inr, refl, sym, subst, arith, enumerate_from, Text, Expression, Context, Options, IfHolds, EachGives, Selected, IsShown, BeginsGroup, Shows, cases_lt, length-append, get_or_append_left, get_or-append_right, get_or_push, All-get_or}
+use Rattle.grep_core.proofs.Prelude.{AreUnselected, ◌≡◌, ℕ, zero, suc, ◌+◌, ◌-◌, ◌<◌, ◌≤◌, ◌⊎◌, List, [], ◌∷◌, ◌++◌, Option, length, inl, inr, refl, arith, enumerate_from, Text, Expression, Context, Options, IfHolds, EachGives, Selected, IsShown, BeginsGroup, Shows, cases_lt, length-append, get_or_append_left, get_or-append_right, get_or_push, All-get_or}
 
 -- ---- lists made from numbered elements
 
 -- what numbered elements give by one relation they give by another, where each of them does
 pub EachGives-placed : {A B : Type 0} (R S : ℕ × A → List B → Type 0) (n : ℕ) (xs : List A) (ys : List B)
     → ((k : ℕ) (x : A) (zs : List B) → n ≤ k → k < n + length xs → R (k, x) zs → S (k, x) zs) → EachGives R (enumerate_from n xs) ys → EachGives S (enumerate_from n xs) ys
-EachGives-placed R S n [] ys same h = h
+EachGives-placed R S n [] _ _ h = h
 EachGives-placed R S n (x ∷ xs) ys same h =
     (h.0, h.1, same n x h.0 (omega arith) (omega arith) h.2, EachGives-placed R S (n + 1) xs h.1 (λ k y zs low high r. same k y zs (omega (arith, low)) (omega (arith, high)) r) h.3, h.4)
 
@@ -35,32 +35,32 @@ module _ (es : List Expression) (options : Options) (context : Context) where
   shown_more lines more k h = record {
     place = h.place;
     on = omega (arith, h.on, length-append lines more);
-    selected = subst (Selected es options) (sym (get_or_append_left lines more [] h.place h.on)) h.selected;
+    selected = rw (get_or_append_left lines more [] h.place h.on) h.selected;
     before = h.before;
     after = h.after;
   }
 
   -- lines that are not selected show no other
-  pub shown_passed : (lines more : List Text) (k : ℕ) → All (λ line. ¬ Selected es options line) more → IsShown es options context (lines ++ more) k → IsShown es options context lines k
+  pub shown_passed : (lines more : List Text) (k : ℕ) → AreUnselected es options more → IsShown es options context (lines ++ more) k → IsShown es options context lines k
   shown_passed lines more k none h = elim (cases_lt h.place (length lines)) [
     | inl on ↦ record {
       place = h.place;
       on = on;
-      selected = subst (Selected es options) (get_or_append_left lines more [] h.place on) h.selected;
+      selected = rw (get_or_append_left lines more [] h.place on) at h.selected;
       before = h.before;
       after = h.after;
     }
     | inr out ↦ absurd (All-get_or (λ line. ¬ Selected es options line) more (h.place - length lines) [] (omega (arith, out, h.on, length-append lines more)) none
-        (subst (Selected es options) (get_or-append_right lines more (length lines) h.place [] refl out) h.selected))
+        (rw (get_or-append_right lines more (length lines) h.place [] refl out) at h.selected))
   ]
 
   -- what one more line shows is near it
-  pub shown_cases : (lines : List Text) (line : Text) (k : ℕ) → IsShown es options context (lines ++ line ∷ []) k → IsShown es options context lines k ⊎ ((length lines ≤ k + context.before) × (k ≤ length lines + context.after))
-  shown_cases lines line k h = elim (cases_lt h.place (length lines)) [
+  pub shown_cases : (lines : List Text) (line : Text) {k : ℕ} → IsShown es options context (lines ++ line ∷ []) k → IsShown es options context lines k ⊎ ((length lines ≤ k + context.before) × (k ≤ length lines + context.after))
+  shown_cases lines line h = elim (cases_lt h.place (length lines)) [
     | inl on ↦ inl (record {
       place = h.place;
       on = on;
-      selected = subst (Selected es options) (get_or_append_left lines (line ∷ []) [] h.place on) h.selected;
+      selected = rw (get_or_append_left lines (line ∷ []) [] h.place on) at h.selected;
       before = h.before;
       after = h.after;
     })
@@ -74,7 +74,7 @@ module _ (es : List Expression) (options : Options) (context : Context) where
   shown_near lines line k selected before after = record {
     place = length lines;
     on = omega (arith, length-append lines (line ∷ []));
-    selected = subst (Selected es options) (sym (get_or_push lines line [] (length lines) refl)) selected;
+    selected = rw (get_or_push lines line [] (length lines) refl) selected;
     before = before;
     after = after;
   }
@@ -87,7 +87,7 @@ module _ (es : List Expression) (options : Options) (context : Context) where
   -- where a group begins the line just before is not shown
   pub begins_at : (lines : List Text) (k j : ℕ) → BeginsGroup es options context lines k → k ≡ j + 1 → ¬ IsShown es options context lines j
   begins_at lines zero j h e = absurd (omega (arith, e))
-  begins_at lines (suc k) j h e = let same : k ≡ j = omega (arith, e) in subst (λ n. ¬ IsShown es options context lines n) same h
+  begins_at lines (suc k) j h e = let same : k ≡ j = omega (arith, e) in rw same at h
 
   -- groups begin alike where the lines before are shown alike
   pub begins_same : (lines others : List Text) (k : ℕ) → ((j : ℕ) → j < k → IsShown es options context others j → IsShown es options context lines j)

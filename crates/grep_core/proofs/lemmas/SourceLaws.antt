@@ -1,20 +1,20 @@
 -- The files of more sources, and how often the devices failed in them.
-use Rattle.grep_core.proofs.Prelude.{◌≡◌, ℕ, zero, suc, ◌+◌, List, [], ◌∷◌, ◌++◌, inl, inr, Option, refl, sym, ap, subst, ◌∙◌, length, Any, arith, append-nil, append_assoc, Expression, Options, one_more, IfHolds, FaultMet, Stops, Source, Reading, file_of, failures_of, AreLeft, files_of, AreReadings, FailuresMet, LeftMet, count_more, Returns, Text}
+use Rattle.grep_core.proofs.Prelude.{◌≡◌, ℕ, zero, suc, ◌+◌, List, [], ◌∷◌, ◌++◌, inl, inr, Option, refl, sym, ap, ◌∙◌, length, Any, arith, append-nil, append_assoc, Expression, Options, one_more, IfHolds, FaultMet, Stops, Source, Reading, file_of, failures_of, AreLeft, files_of, AreReadings, FailuresMet, LeftMet, count_more, Returns, Text}
 use Rattle.re_syntax.proofs.lemmas.Decisions.{Any-first, Any-later}
 use Rattle.grep_core.proofs.lemmas.Decided.{dec_stops}
 
 -- readings of some sources, and of others after them
 pub AreReadings-append : (xs ys : List Source) (rs ss : List Reading) → AreReadings xs rs → AreReadings ys ss → AreReadings (xs ++ ys) (rs ++ ss)
-AreReadings-append [] ys [] ss h k = k
-AreReadings-append [] ys (r ∷ rs) ss h k = absurd h
-AreReadings-append (x ∷ xs) ys [] ss h k = absurd h
+AreReadings-append [] _ [] _ h k = k
+AreReadings-append [] _ (r ∷ rs) _ h k = absurd h
+AreReadings-append (x ∷ xs) _ [] _ h k = absurd h
 AreReadings-append (x ∷ xs) ys (r ∷ rs) ss h k = (h.0, AreReadings-append xs ys rs ss h.1 k)
 
 -- the files of some sources, and of others after them
 pub files_of-append : (xs ys : List Source) (rs ss : List Reading) → AreReadings xs rs → files_of (xs ++ ys) (rs ++ ss) ≡ files_of xs rs ++ files_of ys ss
-files_of-append [] ys [] ss h = refl
-files_of-append [] ys (r ∷ rs) ss h = absurd h
-files_of-append (x ∷ xs) ys [] ss h = absurd h
+files_of-append [] _ [] _ h = refl
+files_of-append [] _ (r ∷ rs) _ h = absurd h
+files_of-append (x ∷ xs) _ [] _ h = absurd h
 files_of-append (x ∷ xs) ys (r ∷ rs) ss h = ap (λ fs. file_of x.name r ∷ fs) (files_of-append xs ys rs ss h.1)
 
 -- there is one file for each source
@@ -33,9 +33,9 @@ module _ (es : List Expression) (options : Options) where
   -- how often the devices failed in sources at which a run does not stop, and in others after them
   pub FailuresMet-append : (xs ys : List Source) (rs ss : List Reading) (n m : ℕ) → AreReadings xs rs → (Any (Stops es options) (files_of xs rs) → ⊥) →
       FailuresMet es options xs rs n → FailuresMet es options ys ss m → FailuresMet es options (xs ++ ys) (rs ++ ss) (n + m)
-  FailuresMet-append [] ys [] ss n m h none f g = let none_failed : n ≡ 0 = f in let e : m ≡ n + m = omega arith in subst (FailuresMet es options ys ss) e g
-  FailuresMet-append [] ys (r ∷ rs) ss n m h none f g = absurd h
-  FailuresMet-append (x ∷ xs) ys [] ss n m h none f g = absurd h
+  FailuresMet-append [] ys [] ss n m h none f g = let none_failed : n ≡ 0 = f in let e : m ≡ n + m = omega arith in rw e at g
+  FailuresMet-append [] _ (r ∷ rs) _ n m h none f g = absurd h
+  FailuresMet-append (x ∷ xs) _ [] _ n m h none f g = absurd h
   FailuresMet-append (x ∷ xs) ys (r ∷ rs) ss n m h none f g =
       let file = file_of x.name r in
       elim f.3 [
@@ -60,18 +60,18 @@ module _ (es : List Expression) (options : Options) where
 
   -- what the later sources did makes no difference
   pub FailuresMet-longer : (xs : List Source) (rs ss : List Reading) (n : ℕ) → AreReadings xs rs → FailuresMet es options xs rs n → FailuresMet es options xs (rs ++ ss) n
-  FailuresMet-longer [] [] ss n h f = f
-  FailuresMet-longer [] (r ∷ rs) ss n h f = absurd h
-  FailuresMet-longer (x ∷ xs) [] ss n h f = absurd h
+  FailuresMet-longer [] [] _ n h f = f
+  FailuresMet-longer [] (r ∷ rs) _ n h f = absurd h
+  FailuresMet-longer (x ∷ xs) [] _ n h f = absurd h
   FailuresMet-longer (x ∷ xs) (r ∷ rs) ss n h f =
       (f.0, f.1, f.2, elim f.3 [ inl stops ↦ inl stops | inr goes_on ↦ inr (goes_on.0, FailuresMet-longer xs rs ss f.1 h.1 goes_on.1) ], f.4)
 
   -- what the readers of sources at which a run does not stop had left, and of others after them
   pub LeftMet-append : (xs ys : List Source) (rs ss : List Reading) (a b : List (Option Text)) → AreReadings xs rs → (Any (Stops es options) (files_of xs rs) → ⊥) →
       LeftMet es options xs rs a → LeftMet es options ys ss b → LeftMet es options (xs ++ ys) (rs ++ ss) (a ++ b)
-  LeftMet-append [] ys [] ss a b h none f g = subst (LeftMet es options ys ss) (ap (λ l. l ++ b) (sym f)) g
-  LeftMet-append [] ys (r ∷ rs) ss a b h none f g = absurd h
-  LeftMet-append (x ∷ xs) ys [] ss a b h none f g = absurd h
+  LeftMet-append [] ys [] ss a b h none f g = rw (ap (λ l. l ++ b) (sym f)) at g
+  LeftMet-append [] _ (r ∷ rs) _ a b h none f g = absurd h
+  LeftMet-append (x ∷ xs) _ [] _ a b h none f g = absurd h
   LeftMet-append (x ∷ xs) ys (r ∷ rs) ss a b h none f g =
       let file = file_of x.name r in
       elim f.3 [
@@ -87,7 +87,7 @@ module _ (es : List Expression) (options : Options) where
 
   -- of a first source at which a run stops, with any sources after it
   pub LeftMet-stopped : (x : Source) (xs : List Source) (r : Reading) (rs : List Reading) (own : List (Option Text)) → Stops es options (file_of x.name r) → AreLeft x r own → LeftMet es options (x ∷ xs) (r ∷ rs) own
-  LeftMet-stopped x xs r rs own stops h = (own, [], h, inl (stops, refl), sym (append-nil own))
+  LeftMet-stopped x _ r _ own stops h = (own, [], h, inl (stops, refl), sym (append-nil own))
 
   -- of one source
   pub LeftMet-one : (x : Source) (r : Reading) (own : List (Option Text)) → AreLeft x r own → LeftMet es options (x ∷ []) (r ∷ []) own
@@ -95,10 +95,10 @@ module _ (es : List Expression) (options : Options) where
 
   -- what the later sources did makes no difference
   pub LeftMet-longer : (xs : List Source) (rs ss : List Reading) (left : List (Option Text)) → AreReadings xs rs → LeftMet es options xs rs left → LeftMet es options xs (rs ++ ss) left
-  LeftMet-longer [] [] ss left h f = f
-  LeftMet-longer [] (r ∷ rs) ss left h f = absurd h
-  LeftMet-longer (x ∷ xs) [] ss left h f = absurd h
-  LeftMet-longer (x ∷ xs) (r ∷ rs) ss left h f =
+  LeftMet-longer [] [] _ _ h f = f
+  LeftMet-longer [] (r ∷ rs) _ _ h f = absurd h
+  LeftMet-longer (x ∷ xs) [] _ _ h f = absurd h
+  LeftMet-longer (x ∷ xs) (r ∷ rs) ss _ h f =
       (f.0, f.1, f.2, elim f.3 [ inl stops ↦ inl stops | inr goes_on ↦ inr (goes_on.0, LeftMet-longer xs rs ss f.1 h.1 goes_on.1) ], f.4)
 
 -- ---- readers that were returned
@@ -106,8 +106,8 @@ module _ (es : List Expression) (options : Options) where
 module _ {S : Type 0} (returned_readers : S → List (Option Text) → Type 0) where
   -- none was
   pub gives_none : (state : S) → Returns returned_readers state state []
-  gives_none state before h = subst (returned_readers state) (sym (append-nil before)) h
+  gives_none state before h = rw (append-nil before) h
 
   -- some were, and then others
   pub gives_both : (old mid new : S) (a b : List (Option Text)) → Returns returned_readers old mid a → Returns returned_readers mid new b → Returns returned_readers old new (a ++ b)
-  gives_both old mid new a b f g before h = subst (returned_readers new) (append_assoc before a b) (g (before ++ a) (f before h))
+  gives_both old mid new a b f g before h = rw (append_assoc before a b) at (g (before ++ a) (f before h))

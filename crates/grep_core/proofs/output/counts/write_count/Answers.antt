@@ -3,7 +3,7 @@ use Rattle.grep_core.proofs.lemmas.WrittenLemmas.{stops_in_margin}
 use Rattle.grep_core.proofs.output.counts.write_count.Goals as goal
 
 pub returns : goal.returns
-returns g c = writes_row g.W.CountedWrite.contents g.W.CountedWrite.failures c.args.out.now c.push_all.new.out c.write_prefixed_decimal.new.out c.args.margin.now _ _ c.write_prefixed_decimal.result c.in_ok-push_all.ensures c.write_prefixed_decimal.ensures
+returns g c = writes_row _ _ _ _ _ _ _ _ _ c.in_ok-push_all.ensures c.write_prefixed_decimal.ensures
 
 pub returns-in_err-push_all : goal.returns-in_err-push_all
-returns-in_err-push_all g c = writes_no_more g.W.CountedWrite.contents g.W.CountedWrite.failures c.args.out.now c.push_all.new.out _ c.from_residual.result c.from_residual.ensures.0 (stops_in_margin g.W.CountedWrite.contents g.W.CountedWrite.failures c.args.out.now c.push_all.new.out c.args.margin.now _ c.in_err-push_all.ensures)
+returns-in_err-push_all g c = writes_no_more _ _ _ _ _ _ c.from_residual.ensures.0 (stops_in_margin _ _ _ _ _ _ c.in_err-push_all.ensures)

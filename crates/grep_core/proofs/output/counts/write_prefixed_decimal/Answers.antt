@@ -2,7 +2,7 @@ use Rattle.grep_core.proofs.lemmas.RowLemmas.{stops_early, writes_last, writes_n
 use Rattle.grep_core.proofs.output.counts.write_prefixed_decimal.Goals as goal
 
 pub returns : goal.returns
-returns g c = writes_last g.W.CountedWrite.contents g.W.CountedWrite.failures c.args.out.now c.write_prefix.new.out c.write_decimal_line.new.out _ _ c.write_decimal_line.result c.in_ok-write_prefix.ensures c.write_decimal_line.ensures
+returns g c = writes_last _ _ _ _ _ _ _ _ c.in_ok-write_prefix.ensures c.write_decimal_line.ensures
 
 pub returns-in_err-write_prefix : goal.returns-in_err-write_prefix
-returns-in_err-write_prefix g c = writes_no_more g.W.CountedWrite.contents g.W.CountedWrite.failures c.args.out.now c.write_prefix.new.out _ c.from_residual.result c.from_residual.ensures.0 (stops_early g.W.CountedWrite.contents g.W.CountedWrite.failures c.args.out.now c.write_prefix.new.out _ _ c.in_err-write_prefix.ensures)
+returns-in_err-write_prefix g c = writes_no_more _ _ _ _ _ _ c.from_residual.ensures.0 (stops_early _ _ _ _ _ _ c.in_err-write_prefix.ensures)

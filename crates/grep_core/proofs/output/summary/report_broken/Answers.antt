@@ -3,7 +3,7 @@ use Rattle.grep_core.proofs.lemmas.WrittenLemmas.{stops_in_margin, writes_after_
 use Rattle.grep_core.proofs.output.summary.report_broken.Goals as goal
 
 pub returns : goal.returns
-returns g c = writes_after_margin g.N.CountedWrite.contents g.N.CountedWrite.failures c.args.messages.now c.push_all.new.out c.write_read_error.new.messages c.args.margin.now _ c.write_read_error.result c.in_ok-push_all.ensures c.write_read_error.ensures
+returns g c = writes_after_margin _ _ _ _ _ _ _ _ c.in_ok-push_all.ensures c.write_read_error.ensures
 
 pub returns-in_err-push_all : goal.returns-in_err-push_all
-returns-in_err-push_all g c = writes_no_more g.N.CountedWrite.contents g.N.CountedWrite.failures c.args.messages.now c.push_all.new.out _ c.from_residual.result c.from_residual.ensures.0 (stops_in_margin g.N.CountedWrite.contents g.N.CountedWrite.failures c.args.messages.now c.push_all.new.out c.args.margin.now _ c.in_err-push_all.ensures)
+returns-in_err-push_all g c = writes_no_more _ _ _ _ _ _ c.from_residual.ensures.0 (stops_in_margin _ _ _ _ _ _ c.in_err-push_all.ensures)

@@ -6,5 +6,5 @@ pub returns-in_err-write_shown : goal.returns-in_err-write_shown
 returns-in_err-write_shown g c =
     let w = c.args.request.now in
     let stopped = rw c.step-at.ensures.shown at c.in_err-write_shown.ensures in
-    breaks_shown w.options w.many w.name.now c.args.line.now.selected c.args.line.now.number c.args.line.now.text.now c.args.surroundings.now.progress c.step-at.new.self c.args.surroundings.now.recent c.args.surroundings.now.recent _ _ c.from_residual.result c.from_residual.ensures.1
-    (record { wrote = TakesFront-written g.W.CountedWrite.contents g.W.CountedWrite.failures c.args.out.now c.write_shown.new.out _ stopped; counted = stopped.counted })
+    breaks_shown _ _ _ _ _ _ _ _ _ _ _ _ _ c.from_residual.ensures.1
+    (record { wrote = TakesFront-written _ stopped; counted = stopped.counted })

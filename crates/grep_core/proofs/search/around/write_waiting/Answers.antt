@@ -1,11 +1,11 @@
-use Rattle.grep_core.proofs.Prelude.{◌≡◌, ◌+◌, ◌-◌, ◌<◌, ◌≤◌, [], length, get_or, arith, ◌∙◌, ap, sym, hyphen, rows_around, row_with}
-use Rattle.grep_core.proofs.lemmas.WaitingRows.{length_rows, row_at, rows_none_out, row_out, row_stops, rows_all_out, stops_err}
+use Rattle.grep_core.proofs.Prelude.{take_all, ◌≡◌, ◌+◌, ◌-◌, ◌<◌, ◌≤◌, [], length, get_or, arith, ◌∙◌, ap, sym, hyphen, rows_around, row_with}
+use Rattle.grep_core.proofs.lemmas.RowLemmas.{goes_nowhere}
+use Rattle.grep_core.proofs.lemmas.OneLineLemmas.{is_err}
+use Rattle.grep_core.proofs.lemmas.WaitingRows.{length_rows, row_at, row_out, row_stops}
 use Rattle.grep_core.proofs.search.around.write_waiting.Goals as goal
 
 pub loop-k-init : goal.loop-k-init
-loop-k-init g c =
-    let w = c.args.request.now in
-    rows_none_out g.W.CountedWrite.contents g.W.CountedWrite.failures c.args.out.now (rows_around w.options w.many w.name.now (c.args.number - length c.args.recent.now.lines) c.args.recent.now.lines)
+loop-k-init g c = goes_nowhere _ _ _
 
 pub returns-in_err-write_shown : goal.returns-in_err-write_shown
 returns-in_err-write_shown g c =
@@ -17,8 +17,8 @@ returns-in_err-write_shown g c =
     let place : first + c.loop-k.k ≡ c.args.number - (c.len-count.result - c.loop-k.k) = omega (arith, inside, c.len-count.ensures, c.requires) in
     let row = row_at w.options w.many w.name.now first recent c.loop-k.k inside ∙ ap (λ n. row_with w.options w.many w.name.now hyphen n (get_or recent c.loop-k.k [])) place
     ∙ ap (λ l. row_with w.options w.many w.name.now hyphen (c.args.number - (c.len-count.result - c.loop-k.k)) l) (sym c.line.ensures) in
-    stops_err g.W.CountedWrite.contents g.W.CountedWrite.failures c.args.out.now c.write_shown.new.out _ c.from_residual.result c.from_residual.ensures.0
-    (row_stops g.W.CountedWrite.contents g.W.CountedWrite.failures c.args.out.now c.loop-k.out c.write_shown.new.out (rows_around w.options w.many w.name.now first recent) c.loop-k.k within _ row c.loop-k.invariant c.in_err-write_shown.ensures)
+    rw (is_err c.from_residual.result c.from_residual.ensures.1)
+    (row_stops _ _ _ _ within row c.loop-k.invariant c.in_err-write_shown.ensures)
 
 pub loop-k-preserved : goal.loop-k-preserved
 loop-k-preserved g c =
@@ -30,7 +30,7 @@ loop-k-preserved g c =
     let place : first + c.loop-k.k ≡ c.args.number - (c.len-count.result - c.loop-k.k) = omega (arith, inside, c.len-count.ensures, c.requires) in
     let row = row_at w.options w.many w.name.now first recent c.loop-k.k inside ∙ ap (λ n. row_with w.options w.many w.name.now hyphen n (get_or recent c.loop-k.k [])) place
     ∙ ap (λ l. row_with w.options w.many w.name.now hyphen (c.args.number - (c.len-count.result - c.loop-k.k)) l) (sym c.line.ensures) in
-    row_out g.W.CountedWrite.contents g.W.CountedWrite.failures c.args.out.now c.loop-k.out c.write_shown.new.out (rows_around w.options w.many w.name.now first recent) c.loop-k.k within _ row c.loop-k.invariant c.in_ok-write_shown.ensures
+    row_out _ _ _ _ within row c.loop-k.invariant c.in_ok-write_shown.ensures
 
 pub returns : goal.returns
 returns g c =
@@ -38,4 +38,4 @@ returns g c =
     let recent = c.args.recent.now.lines in
     let first = c.args.number - length recent in
     let all : length (rows_around w.options w.many w.name.now first recent) ≤ c.loop-k.k = omega (arith, c.loop-k-test.false, c.len-count.ensures, length_rows w.options w.many w.name.now first recent) in
-    rows_all_out g.W.CountedWrite.contents g.W.CountedWrite.failures c.args.out.now c.loop-k.out (rows_around w.options w.many w.name.now first recent) c.loop-k.k all c.loop-k.invariant
+    rw (take_all c.loop-k.k (rows_around w.options w.many w.name.now first recent) all) at c.loop-k.invariant

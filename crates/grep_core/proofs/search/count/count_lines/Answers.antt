@@ -1,12 +1,11 @@
-use Rattle.grep_core.proofs.Prelude.{[], false, length, refl, arith, lines_of, sought_of, IsSought, writer, expressions_of}
+use Rattle.grep_core.proofs.Prelude.{None, Ok, NextTaken, [], length, refl, arith, lines_of, sought_of, IsSought, writer, expressions_of}
 use Rattle.re_search.proofs.lemmas.KeptMatchers.{none_asked, same_over, still_alike}
 use Rattle.grep_core.proofs.lemmas.WrittenLemmas.{TakesAll-written}
 use Rattle.grep_core.proofs.lemmas.FileOutput.{rows_none}
 use Rattle.grep_core.proofs.lemmas.CostLaws.{searched_once}
 use Rattle.grep_core.proofs.lemmas.OneLineLemmas.{line_only_counted}
 use Rattle.grep_core.proofs.lemmas.CountedLines.{many_within}
-use Rattle.grep_core.proofs.lemmas.LinesLemmas.{SearchedOn, counts_plain, counts_late, written_plain, searched_none, searched_counted, counted_further, searched_sent, may_count, fewer_left, searched_line}
-use Rattle.grep_core.proofs.lemmas.EndLemmas.{ends_as, stops_as}
+use Rattle.grep_core.proofs.lemmas.LinesLemmas.{SearchedOn, counts_plain, counts_late, written_plain, searched_none, searched_counted, counted_further, searched_sent, may_count, fewer_left, searched_line, ends_as, stops_as}
 use Rattle.grep_core.proofs.search.count.count_lines.Given as given
 use Rattle.grep_core.proofs.search.count.count_lines.Goals as goal
 use Rattle.grep_core.proofs.search.count.count_lines.Goals.{After-saturating_add-selected, In-Ok-None}
@@ -19,12 +18,13 @@ counted g c =
     let spent_on = rw i.same.same_expressions at c.count_matched-matched.ensures.steps in
     searched_counted c.ready_lines-block.ensures c.pass.ensures.passed i.so_far c.requires.is_asked _ found_in spent_on c.count_selected.ensures c.saturating_add-selected.ensures
 
--- and buffered output was sent
-sent : (g : given.Over) (c : In-Ok-None g) → SearchedOn c.lines.invariant.so_far c.pass.new.self (writer g.W.CountedWrite.contents g.W.CountedWrite.failures c.lines.out) c.count_matched-matched.new.meter c.saturating_add-selected.result
-    → SearchedOn c.lines.invariant.so_far c.pass.new.self (writer g.W.CountedWrite.contents g.W.CountedWrite.failures c.take_next.new.out) c.count_matched-matched.new.meter c.saturating_add-selected.result
-sent g c p =
-    let taken = rw c.in-Ok-None.field-0-is at c.in-Ok-None.ensures in
-    searched_sent p (TakesAll-written g.W.CountedWrite.contents g.W.CountedWrite.failures c.lines.out c.take_next.new.out [] (taken c.args.lines.now.lines.reader p.lines p.handed).2)
+-- buffered output was sent, and one more line was handed out
+next_line : (g : given.Over) (c : In-Ok-None g) → (s : SearchedOn c.lines.invariant.so_far c.pass.new.self (writer g.W.CountedWrite.contents g.W.CountedWrite.failures c.take_next.new.out) c.count_matched-matched.new.meter c.saturating_add-selected.result)
+    × NextTaken g.R.CountedRead.remaining g.R.CountedRead.failures g.W.CountedWrite.contents g.W.CountedWrite.failures c.args.lines.now.lines.reader s.lines c.take_next.new.lines c.lines.out c.take_next.new.out (Ok None)
+next_line g c =
+    let p = counted g (goal.at.In-Ok-None g c).After-saturating_add-selected in
+    let taken = (rw c.in-Ok-None.field-0-is at c.in-Ok-None.ensures) c.args.lines.now.lines.reader p.lines p.handed in
+    (searched_sent p (TakesAll-written [] taken.2), taken)
 
 pub lines-init : goal.lines-init
 lines-init g c = record {
@@ -37,47 +37,37 @@ lines-preserved g c =
     let w = c.args.request.now in
     let es = expressions_of c.args.matchers.now in
     let i = c.lines.invariant in
-    let taken = rw c.in-Ok-None.field-0-is at c.in-Ok-None.ensures in
-    let s = sent g (goal.at.lines-preserved g c).In-Ok-None (counted g (goal.at.lines-preserved g c).After-saturating_add-selected) in
+    let (s, taken) = next_line g (goal.at.lines-preserved g c).In-Ok-None in
     let kept = same_over c.count_matched-matched.ensures.same_matchers i.same in
     let reported = rw kept.same_expressions at c.is_selected-found.ensures.reported in
-    let spent = searched_once w.options (length es) c.line.result.now _ _ (rw kept.same_expressions at c.is_selected-found.ensures.steps) in
+    let spent = searched_once w.options (length es) c.line.result.now (rw kept.same_expressions at c.is_selected-found.ensures.steps) in
     record {
       so_far =
-          searched_line s (taken c.args.lines.now.lines.reader s.lines s.handed).0 c.line.ensures refl (counts_plain w.options c.requires.is_asked) (line_only_counted es w.options w.many w.name.now _ c.line.result.now _ c.requires.is_asked c.is_selected-found.result reported) spent c.count_found-selected.ensures
+          searched_line s _ taken.0 c.line.ensures refl (counts_plain w.options c.requires.is_asked) (line_only_counted _ _ _ _ _ _ _ c.requires.is_asked c.is_selected-found.result reported) spent c.count_found-selected.ensures
           (λ early. absurd (counts_late w.options c.requires.is_asked early));
       same = same_over c.is_selected-found.ensures.same kept;
     }
 
 pub count_found-selected-requires : goal.count_found-selected-requires
 count_found-selected-requires g c =
-    let taken = rw c.in-Ok-None.field-0-is at c.in-Ok-None.ensures in
-    let s = sent g (goal.at.count_found-selected-requires g c).In-Ok-None (counted g (goal.at.count_found-selected-requires g c).After-saturating_add-selected) in
-    may_count s (taken c.args.lines.now.lines.reader s.lines s.handed).0
+    let (s, taken) = next_line g (goal.at.count_found-selected-requires g c).In-Ok-None in
+    may_count s _ taken.0
 
 pub lines-smaller : goal.lines-smaller
 lines-smaller g c =
     let i = c.lines.invariant in
-    let taken = rw c.in-Ok-None.field-0-is at c.in-Ok-None.ensures in
-    let s = sent g (goal.at.lines-smaller g c).In-Ok-None (counted g (goal.at.lines-smaller g c).After-saturating_add-selected) in
-    let further = counted_further c.ready_lines-block.ensures c.pass.ensures.passed i.so_far in
-    omega (arith, further, fewer_left s (taken c.args.lines.now.lines.reader s.lines s.handed).0)
+    let (s, taken) = next_line g (goal.at.lines-smaller g c).In-Ok-None in
+    omega (arith, counted_further c.ready_lines-block.ensures c.pass.ensures.passed i.so_far, fewer_left s _ taken.0)
 
 pub returns-in-Ok-Some-clause-given : goal.returns-in-Ok-Some-clause-given
 returns-in-Ok-Some-clause-given g c =
-    let w = c.args.request.now in
-    let es = expressions_of c.args.matchers.now in
     let p = counted g (goal.at.returns-in-Ok-Some-clause-given g c).After-saturating_add-selected in
-    ends_as g.R.CountedRead.remaining g.R.CountedRead.failures g.W.CountedWrite.contents g.W.CountedWrite.failures es w.options w.many false w.name.now c.args.lines.now.lines.reader c.take_next.new.lines _ c.take_next.new.out _ _ c.lines.out p.lines c.saturating_add-selected.result p.wrote p.none_early p.steps c.in-Ok-Some.end
-    ((rw c.in-Ok-Some.field-0-is at c.in-Ok-Some.ensures) c.args.lines.now.lines.reader p.lines p.handed)
+    ends_as g.W.CountedWrite.contents g.W.CountedWrite.failures c.lines.out p c.take_next.new.lines _ _ ((rw c.in-Ok-Some.field-0-is at c.in-Ok-Some.ensures) c.args.lines.now.lines.reader p.lines p.handed)
 
 pub returns-in-Err-clause-given : goal.returns-in-Err-clause-given
 returns-in-Err-clause-given g c =
-    let w = c.args.request.now in
-    let es = expressions_of c.args.matchers.now in
     let p = counted g (goal.at.returns-in-Err-clause-given g c).After-saturating_add-selected in
-    stops_as g.R.CountedRead.remaining g.R.CountedRead.failures g.W.CountedWrite.contents g.W.CountedWrite.failures es w.options w.many false w.name.now c.args.lines.now.lines.reader c.take_next.new.lines _ c.take_next.new.out _ _ c.lines.out p.lines c.saturating_add-selected.result p.wrote p.none_early p.steps c.in-Err.fault
-    (c.in-Err.ensures c.args.lines.now.lines.reader p.lines p.handed)
+    stops_as g.W.CountedWrite.contents g.W.CountedWrite.failures c.lines.out p _ _ _ (c.in-Err.ensures c.args.lines.now.lines.reader p.lines p.handed)
 
 pub count_matched-matched-requires-clause-block : goal.count_matched-matched-requires-clause-block
 count_matched-matched-requires-clause-block g c = c.ready_lines-block.ensures.whole

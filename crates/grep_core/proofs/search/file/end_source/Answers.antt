@@ -1,34 +1,26 @@
-use Rattle.grep_core.proofs.Prelude.{◌≡◌, ◌∙◌, Result, Err, refl, sym, ap, subst, FileFound, SearchFault, writer, EndsSource}
-use Rattle.grep_core.specs.declared.status.RunFault.TheVariants.{Write, Memory}
-use Rattle.grep_core.specs.declared.status.SearchFault.TheVariants as search_fault
+use Rattle.grep_core.proofs.Prelude.{◌∙◌, Err, refl, ap}
 use Rattle.grep_core.proofs.lemmas.WrittenLemmas.{TakesAll-written, TakesFront-written}
 use Rattle.grep_core.proofs.search.file.end_source.Goals as goal
 
 pub returns-in-Err-Write : goal.returns-in-Err-Write
 returns-in-Err-Write g c =
-    let w = c.args.request.now in
-    let out = writer g.W.CountedWrite.contents g.W.CountedWrite.failures c.args.out.now in
-    let messages = writer g.N.CountedWrite.contents g.N.CountedWrite.failures c.args.messages.now in
-    let known : c.in-Err-Write.field-0 ≡ search_fault.Write = rw c.in-Err-Write.is at c.in-Err-Write.field-0-is in
-    subst (λ (found : Result FileFound SearchFault). EndsSource w.options w.many w.name.now c.args.place out out messages messages found (Err Write)) (sym (c.in-Err-Write.is ∙ ap Err known)) (refl, refl, refl)
+    let known = rw c.in-Err-Write.is at c.in-Err-Write.field-0-is in
+    rw (c.in-Err-Write.is ∙ ap Err known) (refl, refl, refl)
 
 pub returns-in-Err-Memory : goal.returns-in-Err-Memory
 returns-in-Err-Memory g c =
-    let w = c.args.request.now in
-    let out = writer g.W.CountedWrite.contents g.W.CountedWrite.failures c.args.out.now in
-    let messages = writer g.N.CountedWrite.contents g.N.CountedWrite.failures c.args.messages.now in
-    let known : c.in-Err-Memory.field-0 ≡ search_fault.Memory c.in-Err-Memory.lines = rw c.in-Err-Memory.is at c.in-Err-Memory.field-0-is in
-    subst (λ (found : Result FileFound SearchFault). EndsSource w.options w.many w.name.now c.args.place out out messages messages found (Err (Memory c.args.place c.in-Err-Memory.lines))) (sym (c.in-Err-Memory.is ∙ ap Err known)) (refl, refl, refl)
+    let known = rw c.in-Err-Memory.is at c.in-Err-Memory.field-0-is in
+    rw (c.in-Err-Memory.is ∙ ap Err known) (refl, refl, refl)
 
 pub returns-in-Err : goal.returns-in-Err
-returns-in-Err g c = rw c.in-Ok.is (TakesFront-written g.W.CountedWrite.contents g.W.CountedWrite.failures _ c.end_output.new.out _ c.in-Err.ensures, c.in-Err.ensures.counted, refl)
+returns-in-Err g c = rw c.in-Ok.is (TakesFront-written _ c.in-Err.ensures, c.in-Err.ensures.counted, refl)
 
 pub returns-in-Ok-report_fault : goal.returns-in-Ok-report_fault
 returns-in-Ok-report_fault g c =
     rw c.in-Ok.is
-    (refl, TakesAll-written g.W.CountedWrite.contents g.W.CountedWrite.failures _ c.end_output.new.out _ c.in-Ok-end_output.ensures, TakesAll-written g.N.CountedWrite.contents g.N.CountedWrite.failures _ c.report_fault.new.messages _ c.in-Ok-report_fault.ensures)
+    (refl, TakesAll-written _ c.in-Ok-end_output.ensures, TakesAll-written _ c.in-Ok-report_fault.ensures)
 
 pub returns-in-Err-report_fault : goal.returns-in-Err-report_fault
 returns-in-Err-report_fault g c =
     rw c.in-Ok.is
-    (TakesAll-written g.W.CountedWrite.contents g.W.CountedWrite.failures _ c.end_output.new.out _ c.in-Ok-end_output.ensures, TakesFront-written g.N.CountedWrite.contents g.N.CountedWrite.failures _ c.report_fault.new.messages _ c.in-Err-report_fault.ensures, c.in-Err-report_fault.ensures.counted)
+    (TakesAll-written _ c.in-Ok-end_output.ensures, TakesFront-written _ c.in-Err-report_fault.ensures, c.in-Err-report_fault.ensures.counted)

@@ -1,11 +1,11 @@
-use Rattle.grep_core.proofs.Prelude.{◌∙◌, [], false, take, refl, sym, subst, arith, writer, IsOneLineAndFew, leaves_early, expressions_of}
+use Rattle.grep_core.proofs.Prelude.{None, Ok, NextTaken, ◌∙◌, [], take, refl, sym, arith, writer}
 use Rattle.grep_io.proofs.lemmas.WindowLemmas.{none_in_nothing, few_after}
 use Rattle.re_search.proofs.lemmas.KeptMatchers.{none_asked, same_over, still_alike}
 use Rattle.grep_core.proofs.lemmas.WrittenLemmas.{TakesAll-written}
 use Rattle.grep_core.proofs.lemmas.FileOutput.{rows_none}
 use Rattle.grep_core.proofs.lemmas.PassedLines.{are_ahead, handed_with, handed_passed}
-use Rattle.grep_core.proofs.lemmas.LinesLemmas.{SearchedOn, written_plain, searched_none, searched_among, leaves_among, stops_in_lines, stops_at, is_next, numbers_further, numbers_on, searched_sent, may_count, fewer_left, searched_line, goes_on, goes_on_with, leaves_with, leaves_at}
-use Rattle.grep_core.proofs.lemmas.EndLemmas.{given_up, ends_as, stops_as}
+use Rattle.grep_core.proofs.lemmas.LinesLemmas.{SearchedOn, written_plain, searched_none, searched_among, leaves_among, stops_in_lines, stops_at, is_next, numbers_further, numbers_on, searched_sent, may_count, fewer_left, searched_line, goes_on, goes_on_with, leaves_with, leaves_at, ends_as, stops_as}
+use Rattle.grep_core.proofs.lemmas.OneLineLemmas.{is_err}
 use Rattle.grep_core.proofs.search.file.search_lines.Given as given
 use Rattle.grep_core.proofs.search.file.search_lines.Goals as goal
 use Rattle.grep_core.proofs.search.file.search_lines.Goals.{Else-held-early, In-Ok-None}
@@ -15,22 +15,22 @@ among : (g : given.Over) (c : Else-held-early g) → SearchedOn c.lines.invarian
 among g c =
     let i = c.lines.invariant in
     let h = rw i.same.same_expressions at c.in_ok-held.ensures.ok in
-    let none = goes_on_with c.in_ok-held.held.found c.leaves_early-early.result (leaves_early c.args.request.now.options) i.is_early c.if-held-early.false in
+    let none = goes_on_with c.in_ok-held.held.found i.is_early c.if-held-early.false in
     searched_among i.so_far h.all (handed_passed h.next h.free i.so_far.handed h.width c.pass.ensures.passed) c.requires.plain h.spent h.took c.saturating_add-selected.ensures none
 
--- and buffered output was sent
-sent : (g : given.Over) (c : In-Ok-None g) → SearchedOn c.lines.invariant.so_far c.pass.new.self (writer g.W.CountedWrite.contents g.W.CountedWrite.failures c.write_held.new.out) c.write_held.new.meter c.saturating_add-selected.result
-    → SearchedOn c.lines.invariant.so_far c.pass.new.self (writer g.W.CountedWrite.contents g.W.CountedWrite.failures c.take_next.new.out) c.write_held.new.meter c.saturating_add-selected.result
-sent g c p =
-    let reader = c.args.lines.now.lines.reader in
-    let taken = rw c.in-Ok-None.field-0-is at c.in-Ok-None.ensures in
-    searched_sent p (TakesAll-written g.W.CountedWrite.contents g.W.CountedWrite.failures _ c.take_next.new.out [] (taken reader p.lines p.handed).2)
+-- buffered output was sent, and one more line was handed out
+next_line : (g : given.Over) (c : In-Ok-None g) → (s : SearchedOn c.lines.invariant.so_far c.pass.new.self (writer g.W.CountedWrite.contents g.W.CountedWrite.failures c.take_next.new.out) c.write_held.new.meter c.saturating_add-selected.result)
+    × NextTaken g.R.CountedRead.remaining g.R.CountedRead.failures g.W.CountedWrite.contents g.W.CountedWrite.failures c.args.lines.now.lines.reader s.lines c.take_next.new.lines c.write_held.new.out c.take_next.new.out (Ok None)
+next_line g c =
+    let p = among g (goal.at.In-Ok-None g c).Else-held-early in
+    let taken = (rw c.in-Ok-None.field-0-is at c.in-Ok-None.ensures) c.args.lines.now.lines.reader p.lines p.handed in
+    (searched_sent p (TakesAll-written [] taken.2), taken)
 
 pub lines-init : goal.lines-init
 lines-init g c = record {
   so_far = searched_none (written_plain _ _ _ _ _ _ c.requires.plain [] [] (rows_none _ _ _ _ _)) refl c.requires.none_ahead c.requires.still_open c.requires.none_numbered;
   same = none_asked;
-  few_held = subst IsOneLineAndFew (sym c.requires.none_ahead) none_in_nothing;
+  few_held = rw c.requires.none_ahead none_in_nothing;
   is_early = c.leaves_early-early.ensures;
 }
 
@@ -44,11 +44,9 @@ pass-requires g c =
 
 pub returns-in_err-held-clause-given : goal.returns-in_err-held-clause-given
 returns-in_err-held-clause-given g c =
-    let w = c.args.request.now in
-    let es = expressions_of c.args.matchers.now in
     let i = c.lines.invariant in
     let h = rw i.same.same_expressions at c.in_err-held.ensures.err in
-    given_up g.R.CountedRead.remaining g.R.CountedRead.failures g.W.CountedWrite.contents g.W.CountedWrite.failures es w.options w.many false w.name.now c.args.lines.now.lines.reader c.lines.lines _ c.write_held.new.out _ _ _ c.from_residual.result c.from_residual.ensures.1
+    rw (is_err c.from_residual.result c.from_residual.ensures.1)
     (stops_in_lines i.so_far h.all (handed_with h.next h.free i.so_far.handed) c.requires.plain h.spent refl i.few_held _ _ h.stops)
 
 pub returns-then-held-early-clause-given : goal.returns-then-held-early-clause-given
@@ -64,7 +62,7 @@ lines-preserved-then-held g c =
     record {
       so_far = among g (goal.at.lines-preserved-then-held g c).Else-held-early;
       same = same_over c.write_held.ensures.same i.same;
-      few_held = few_after (take c.in_ok-held.held.bytes c.lines.lines.lines.ahead) c.pass.new.self.lines.ahead (subst IsOneLineAndFew c.pass.ensures.ahead i.few_held);
+      few_held = few_after (take c.in_ok-held.held.bytes c.lines.lines.lines.ahead) c.pass.new.self.lines.ahead (rw c.pass.ensures.ahead at i.few_held);
       is_early = i.is_early;
     }
 
@@ -73,94 +71,73 @@ lines-smaller-then-held g c =
     let i = c.lines.invariant in
     let h = c.in_ok-held.ensures.ok in
     let next = handed_passed h.next h.free i.so_far.handed h.width c.pass.ensures.passed in
-    omega (arith, h.some c.if-held.true, numbers_on i.so_far h.all next, next.few, next.counted)
+    omega (arith, h.some c.if-held.true, numbers_on i.so_far _ next, next.few, next.counted)
 
 pub search_line-requires : goal.search_line-requires
 search_line-requires g c =
-    let reader = c.args.lines.now.lines.reader in
-    let taken = rw c.in-Ok-None.field-0-is at c.in-Ok-None.ensures in
-    let s = sent g (goal.at.search_line-requires g c).In-Ok-None (among g (goal.at.search_line-requires g c).Else-held-early) in
+    let (s, taken) = next_line g (goal.at.search_line-requires g c).In-Ok-None in
     record {
       alike = still_alike (same_over c.write_held.ensures.same c.lines.invariant.same) c.requires.alike;
-      first = omega (arith, c.number-number.ensures, is_next s (taken reader s.lines s.handed).0);
+      first = omega (arith, c.number-number.ensures, is_next s _ taken.0);
     }
 
 pub count_found-selected-requires : goal.count_found-selected-requires
 count_found-selected-requires g c =
-    let reader = c.args.lines.now.lines.reader in
-    let taken = rw c.in-Ok-None.field-0-is at c.in-Ok-None.ensures in
-    let s = sent g (goal.at.count_found-selected-requires g c).In-Ok-None (among g (goal.at.count_found-selected-requires g c).Else-held-early) in
-    may_count s (taken reader s.lines s.handed).0
+    let (s, taken) = next_line g (goal.at.count_found-selected-requires g c).In-Ok-None in
+    may_count s _ taken.0
 
 pub lines-smaller : goal.lines-smaller
 lines-smaller g c =
-    let reader = c.args.lines.now.lines.reader in
     let i = c.lines.invariant in
     let h = c.in_ok-held.ensures.ok in
-    let next = handed_passed h.next h.free i.so_far.handed h.width c.pass.ensures.passed in
-    let taken = rw c.in-Ok-None.field-0-is at c.in-Ok-None.ensures in
-    let s = sent g (goal.at.lines-smaller g c).In-Ok-None (among g (goal.at.lines-smaller g c).Else-held-early) in
-    let further = numbers_further i.so_far h.all next in
-    omega (arith, further, fewer_left s (taken reader s.lines s.handed).0)
+    let passed = handed_passed h.next h.free i.so_far.handed h.width c.pass.ensures.passed in
+    let (s, taken) = next_line g (goal.at.lines-smaller g c).In-Ok-None in
+    omega (arith, numbers_further i.so_far h.all passed, fewer_left s _ taken.0)
 
 pub lines-preserved : goal.lines-preserved
 lines-preserved g c =
-    let reader = c.args.lines.now.lines.reader in
     let i = c.lines.invariant in
-    let taken = rw c.in-Ok-None.field-0-is at c.in-Ok-None.ensures in
-    let s = sent g (goal.at.lines-preserved g c).In-Ok-None (among g (goal.at.lines-preserved g c).Else-held-early) in
+    let (s, taken) = next_line g (goal.at.lines-preserved g c).In-Ok-None in
     let asked = same_over c.write_held.ensures.same i.same in
     let took_line = rw asked.same_expressions at c.in_ok-found.ensures.ok in
     let spent_line = rw asked.same_expressions at c.in_ok-found.ensures.steps in
     let found = c.in_ok-found.found in
     record {
       so_far =
-          searched_line s (taken reader s.lines s.handed).0 c.line-line.ensures c.number-number.ensures c.requires.plain took_line spent_line c.count_found-selected.ensures (goes_on found _ _ i.is_early c.if-found-early.false);
+          searched_line s _ taken.0 c.line-line.ensures c.number-number.ensures c.requires.plain took_line spent_line c.count_found-selected.ensures (goes_on found _ _ i.is_early c.if-found-early.false);
       same = same_over c.in_ok-found.ensures.same asked;
-      few_held = (taken reader s.lines s.handed).1;
+      few_held = taken.1;
       is_early = i.is_early;
     }
 
 pub returns-then-found-early-clause-given : goal.returns-then-found-early-clause-given
 returns-then-found-early-clause-given g c =
-    let reader = c.args.lines.now.lines.reader in
     let i = c.lines.invariant in
-    let taken = rw c.in-Ok-None.field-0-is at c.in-Ok-None.ensures in
-    let s = sent g (goal.at.returns-then-found-early-clause-given g c).In-Ok-None (among g (goal.at.returns-then-found-early-clause-given g c).Else-held-early) in
+    let (s, taken) = next_line g (goal.at.returns-then-found-early-clause-given g c).In-Ok-None in
     let asked = same_over c.write_held.ensures.same i.same in
     let took_line = rw asked.same_expressions at c.in_ok-found.ensures.ok in
     let spent_line = rw asked.same_expressions at c.in_ok-found.ensures.steps in
-    leaves_at s (taken reader s.lines s.handed).0 c.line-line.ensures c.number-number.ensures c.requires.plain took_line spent_line c.count_found-selected.ensures i.is_early c.if-found-early.true
+    leaves_at s _ taken.0 c.line-line.ensures c.number-number.ensures c.requires.plain took_line spent_line c.count_found-selected.ensures i.is_early c.if-found-early.true
 
 pub returns-in_err-found-clause-given : goal.returns-in_err-found-clause-given
 returns-in_err-found-clause-given g c =
     let w = c.args.request.now in
-    let es = expressions_of c.args.matchers.now in
-    let reader = c.args.lines.now.lines.reader in
     let i = c.lines.invariant in
-    let taken = rw c.in-Ok-None.field-0-is at c.in-Ok-None.ensures in
-    let s = sent g (goal.at.returns-in_err-found-clause-given g c).In-Ok-None (among g (goal.at.returns-in_err-found-clause-given g c).Else-held-early) in
+    let (s, taken) = next_line g (goal.at.returns-in_err-found-clause-given g c).In-Ok-None in
     let asked = same_over c.write_held.ensures.same i.same in
     let broke_line = rw asked.same_expressions at c.in_err-found.ensures.err in
     let spent_line = rw asked.same_expressions at c.in_err-found.ensures.steps in
-    let (next, few, went, before) = taken reader s.lines s.handed in
-    given_up g.R.CountedRead.remaining g.R.CountedRead.failures g.W.CountedWrite.contents g.W.CountedWrite.failures es w.options w.many false w.name.now reader c.take_next.new.lines _ c.search_line.new.out _ _ _ c.from_residual-in_err-found.result c.from_residual-in_err-found.ensures.1
-    (stops_at s next c.line-line.ensures c.number-number.ensures c.requires.plain (before w.name.now) _ _ broke_line spent_line)
+    rw (is_err c.from_residual-in_err-found.result c.from_residual-in_err-found.ensures.1)
+    (stops_at s _ taken.0 c.line-line.ensures c.number-number.ensures c.requires.plain (taken.3 w.name.now) _ _ broke_line spent_line)
 
 pub returns-in-Ok-Some-clause-given : goal.returns-in-Ok-Some-clause-given
 returns-in-Ok-Some-clause-given g c =
-    let w = c.args.request.now in
-    let es = expressions_of c.args.matchers.now in
     let reader = c.args.lines.now.lines.reader in
     let p = among g (goal.at.returns-in-Ok-Some-clause-given g c).Else-held-early in
-    ends_as g.R.CountedRead.remaining g.R.CountedRead.failures g.W.CountedWrite.contents g.W.CountedWrite.failures es w.options w.many false w.name.now reader c.take_next.new.lines _ c.take_next.new.out _ _ c.write_held.new.out p.lines c.saturating_add-selected.result p.wrote p.none_early p.steps c.in-Ok-Some.end
-    ((rw c.in-Ok-Some.field-0-is at c.in-Ok-Some.ensures) reader p.lines p.handed)
+    ends_as g.W.CountedWrite.contents g.W.CountedWrite.failures c.write_held.new.out p c.take_next.new.lines _ _ ((rw c.in-Ok-Some.field-0-is at c.in-Ok-Some.ensures) reader p.lines p.handed)
 
 pub returns-in-Err-clause-given : goal.returns-in-Err-clause-given
 returns-in-Err-clause-given g c =
-    let w = c.args.request.now in
-    let es = expressions_of c.args.matchers.now in
     let reader = c.args.lines.now.lines.reader in
     let p = among g (goal.at.returns-in-Err-clause-given g c).Else-held-early in
-    stops_as g.R.CountedRead.remaining g.R.CountedRead.failures g.W.CountedWrite.contents g.W.CountedWrite.failures es w.options w.many false w.name.now reader c.take_next.new.lines _ c.take_next.new.out _ _ c.write_held.new.out p.lines c.saturating_add-selected.result p.wrote p.none_early p.steps c.in-Err.fault
-    (c.in-Err.ensures reader p.lines p.handed)
+    stops_as g.W.CountedWrite.contents g.W.CountedWrite.failures c.write_held.new.out p _ _ _ (c.in-Err.ensures reader p.lines p.handed)

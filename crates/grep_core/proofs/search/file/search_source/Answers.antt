@@ -1,4 +1,4 @@
-use Rattle.grep_core.proofs.Prelude.{◌+◌, [], ◌∷◌, Ok, refl, sym, ap, subst, ◌∙◌, Bor, Text, Numbered, Options, Missing, writer, devices, count_more, source_at, Returns, expressions_of, AreAlike}
+use Rattle.grep_core.proofs.Prelude.{◌+◌, [], Ok, refl, ap, ◌∙◌, Bor, Text, Numbered, Missing, writer, count_more, source_at}
 use Rattle.grep_core.proofs.lemmas.SourceLaws.{gives_both}
 use Rattle.grep_core.proofs.lemmas.OpenedLemmas.{source_missing, source_unread, given_in}
 use Rattle.grep_core.proofs.lemmas.SummaryLemmas.{source_ended_as}
@@ -6,46 +6,30 @@ use Rattle.grep_core.proofs.search.file.search_source.Goals as goal
 
 pub returns-in_default-clause-given : goal.returns-in_default-clause-given
 returns-in_default-clause-given g c =
-    let es = expressions_of c.args.matchers.now in
     let w = c.args.source.now in
-    let source = source_at (g.S.Sources.listed c.args.sources.now) w.place in
-    let request = c.of_file-missing.result in
-    let start = writer g.W.CountedWrite.contents g.W.CountedWrite.failures c.args.out.now in
-    let old = devices start (writer g.N.CountedWrite.contents g.N.CountedWrite.failures c.args.messages.now) (g.S.Sources.failures c.args.sources.now) c.args.meter.now in
-    let new = devices (writer g.W.CountedWrite.contents g.W.CountedWrite.failures c.end_source.new.out) (writer g.N.CountedWrite.contents g.N.CountedWrite.failures c.end_source.new.messages) (g.S.Sources.failures c.open.new.self) c.args.meter.now in
     let named = ap (λ (b : Bor Text). b.now) c.of_file-missing.ensures.name ∙ c.name.ensures ∙ ap (λ l. (source_at l w.place).name) c.open.ensures.listed in
-    let missing = source_missing es request.options request.many w.shown source (Returns g.S.Sources.returned_readers c.args.sources.now c.open.new.self) start c.args.meter.now (g.S.Sources.failures c.args.sources.now) (g.S.Sources.failures c.open.new.self) c.in_default.ensures.given.0 c.in_default.ensures.given.1 c.open.ensures.none_back in
-    source_ended_as es request.options request.many w.shown source (Returns g.S.Sources.returned_readers c.args.sources.now c.open.new.self) request.name.now named w.place old new start w.search.now.options w.many c.of_file-missing.ensures.options c.of_file-missing.ensures.many (Ok (record { end = Missing; selected = 0 })) c.end_source.result missing c.end_source.ensures
+    source_ended_as _ _ _ _ _ _ named _ _ _ (writer g.W.CountedWrite.contents g.W.CountedWrite.failures c.args.out.now) c.of_file-missing.ensures.options c.of_file-missing.ensures.many (Ok (record { end = Missing; selected = 0 })) _
+    (source_missing _ _ _ _ _ _ _ _ _ c.in_default.ensures.given.0 c.in_default.ensures.given.1 c.open.ensures.none_back) c.end_source.ensures
 
 pub returns-in-Err-clause-given : goal.returns-in-Err-clause-given
 returns-in-Err-clause-given g c =
-    let es = expressions_of c.args.matchers.now in
-    let source = source_at (g.S.Sources.listed c.args.sources.now) c.args.source.now.place in
     let opened = c.in-Some.ensures.given in
     let counted = c.close.ensures.counted ∙ (λ i. count_more (opened.3 i) (g.S.Reader.CountedRead.failures (c.in-Err.ensures.err i))) ∙ ap (count_more (g.S.Sources.failures c.args.sources.now)) opened.2 in (
       refl {a = c.args.source.now.place},
-      source_unread es c.args.source.now.search.now.options c.args.source.now.many c.args.source.now.shown source _ (writer g.W.CountedWrite.contents g.W.CountedWrite.failures c.args.out.now) c.args.meter.now (g.S.Sources.failures c.args.sources.now) _ counted _ (ap g.S.Reader.CountedRead.remaining c.in-Err.ensures.err ∙ opened.1) (gives_both g.S.Sources.returned_readers c.args.sources.now c.open.new.self c.close.new.self [] _ c.open.ensures.none_back c.close.ensures.back),
+      source_unread _ _ _ _ _ _ _ _ counted _ (ap g.S.Reader.CountedRead.remaining c.in-Err.ensures.err ∙ opened.1) (gives_both g.S.Sources.returned_readers c.args.sources.now c.open.new.self c.close.new.self [] _ c.open.ensures.none_back c.close.ensures.back),
       refl {a = writer g.N.CountedWrite.contents g.N.CountedWrite.failures c.args.messages.now},
     )
 
 pub returns-clause-given : goal.returns-clause-given
 returns-clause-given g c =
-    let es = expressions_of c.args.matchers.now in
     let w = c.args.source.now in
-    let source = source_at (g.S.Sources.listed c.args.sources.now) w.place in
     let opened = c.in-Some.ensures.given in
-    let request = c.of_file-request.result in
-    let start = writer g.W.CountedWrite.contents g.W.CountedWrite.failures c.args.out.now in
-    let mid = writer g.W.CountedWrite.contents g.W.CountedWrite.failures c.search_opened-found.new.out in
-    let old = devices start (writer g.N.CountedWrite.contents g.N.CountedWrite.failures c.args.messages.now) (g.S.Sources.failures c.args.sources.now) c.args.meter.now in
-    let new = devices (writer g.W.CountedWrite.contents g.W.CountedWrite.failures c.end_source-ended.new.out) (writer g.N.CountedWrite.contents g.N.CountedWrite.failures c.end_source-ended.new.messages) (g.S.Sources.failures c.close-2.new.self) c.search_opened-found.new.meter in
     let named = ap (λ (b : Bor Text). b.now) c.of_file-request.ensures.name ∙ c.name-2.ensures ∙ ap (λ l. (source_at l w.place).name) c.open.ensures.listed in
     let counted = c.close-2.ensures.counted ∙ (λ i. count_more (opened.3 i) (g.S.Reader.CountedRead.failures (c.into_reader.ensures i))) in
-    let gives = subst (λ rest. Returns g.S.Sources.returned_readers c.args.sources.now c.close-2.new.self (rest ∷ [])) (ap g.S.Reader.CountedRead.remaining c.into_reader.ensures)
+    let gives = rw (ap g.S.Reader.CountedRead.remaining c.into_reader.ensures) at
     (gives_both g.S.Sources.returned_readers c.args.sources.now c.open.new.self c.close-2.new.self [] _ c.open.ensures.none_back c.close-2.ensures.back) in
-    let searched = given_in g.S.Reader.CountedRead.remaining g.S.Reader.CountedRead.failures es request.options request.many w.shown source (Returns g.S.Sources.returned_readers c.args.sources.now c.close-2.new.self) _ gives opened.0 c.in-Some.reader opened.1 opened.2 c.in-Ok.lines.lines (ap (λ (n : Numbered _). n.lines.reader) c.in-Ok.ensures.ok)
-    request.name.now named start mid c.args.meter.now c.search_opened-found.new.meter (g.S.Sources.failures c.args.sources.now) (g.S.Sources.failures c.close-2.new.self) _ counted c.search_opened-found.result c.search_opened-found.ensures.given in
-    source_ended_as es request.options request.many w.shown source (Returns g.S.Sources.returned_readers c.args.sources.now c.close-2.new.self) request.name.now named w.place old new mid w.search.now.options w.many c.of_file-request.ensures.options c.of_file-request.ensures.many c.search_opened-found.result c.end_source-ended.result searched c.end_source-ended.ensures
+    source_ended_as _ _ _ _ _ _ named _ _ _ (writer g.W.CountedWrite.contents g.W.CountedWrite.failures c.search_opened-found.new.out) c.of_file-request.ensures.options c.of_file-request.ensures.many c.search_opened-found.result _
+    (given_in g.S.Reader.CountedRead.remaining g.S.Reader.CountedRead.failures _ _ _ _ _ _ _ gives opened.0 opened.1 opened.2 c.in-Ok.lines.lines (ap (λ (n : Numbered _). n.lines.reader) c.in-Ok.ensures.ok) named _ _ _ _ (g.S.Sources.failures c.args.sources.now) _ counted _ c.search_opened-found.ensures.given) c.end_source-ended.ensures
 
 pub returns-clause-same : goal.returns-clause-same
 returns-clause-same g c = c.search_opened-found.ensures.same
@@ -57,7 +41,7 @@ pub returns-clause-next : goal.returns-clause-next
 returns-clause-next g c = c.close-2.ensures.same_place (c.args.source.now.place + 1) c.open.ensures.next
 
 pub search_opened-found-requires-clause-alike : goal.search_opened-found-requires-clause-alike
-search_opened-found-requires-clause-alike g c = subst (λ (o : Options). AreAlike o.line_regexp c.args.matchers.now) (sym c.of_file-request.ensures.options) c.requires.alike
+search_opened-found-requires-clause-alike g c = rw c.of_file-request.ensures.options c.requires.alike
 
 pub search_opened-found-requires-clause-still_open : goal.search_opened-found-requires-clause-still_open
 search_opened-found-requires-clause-still_open g c = ap (λ (n : Numbered _). n.lines.stage) c.in-Ok.ensures.ok

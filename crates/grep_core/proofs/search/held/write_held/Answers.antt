@@ -1,7 +1,7 @@
-use Rattle.grep_core.proofs.Prelude.{◌∙◌, refl, sym, arith, writer, StopsHeld, expressions_of}
+use Rattle.grep_core.proofs.Prelude.{◌∙◌, refl, sym, arith}
 use Rattle.grep_io.proofs.lemmas.PassedLemmas.{count_block}
 use Rattle.re_search.proofs.lemmas.KeptMatchers.{same_sought, still_alike}
-use Rattle.grep_core.proofs.lemmas.OneLineLemmas.{unwritten}
+use Rattle.grep_core.proofs.lemmas.OneLineLemmas.{is_err}
 use Rattle.grep_core.proofs.lemmas.SearchedBlockLemmas.{bare_if, divided_kept, stretch_spent, line_within}
 use Rattle.grep_core.proofs.lemmas.MatchedLemmas.{block_next, takes_matched, stops_matched}
 use Rattle.grep_core.proofs.search.held.write_held.Goals as goal
@@ -13,19 +13,17 @@ returns-then-may_number-clause-ok g c =
     let (rest, ahead) = c.ready-block.ensures.ahead in
     let next = block_next block rest whole ahead (c.if-may_number.ensures.room refl) c.ready-block.ensures.none_at_end in
     let (matched, chosen, went, found) = c.in_ok-found.ensures.written in
-    takes_matched (c.requires.bare c.if-bare.true) c.if-not-invert.true whole next c.write_matched.ensures.steps matched chosen went found (c.count_newlines.ensures ∙ count_block block whole)
+    takes_matched (c.requires.bare c.if-bare.true) c.if-not-invert.true whole next c.write_matched.ensures.steps _ chosen went found (c.count_newlines.ensures ∙ count_block block whole)
 
 pub returns-in_err-found-clause-err : goal.returns-in_err-found-clause-err
 returns-in_err-found-clause-err g c =
-    let w = c.args.request.now in
-    let es = expressions_of c.args.matchers.now in
     let block = c.ready-block.result.now in
     let whole = c.ready-block.ensures.block in
     let (rest, ahead) = c.ready-block.ensures.ahead in
     let next = block_next block rest whole ahead (c.if-may_number.ensures.room refl) c.ready-block.ensures.none_at_end in
     let (matched, chosen, stopped, none) = c.in_err-found.ensures.written in
-    unwritten (StopsHeld es w.options w.many w.name.now c.args.lines.now (writer g.W.CountedWrite.contents g.W.CountedWrite.failures c.args.out.now) (writer g.W.CountedWrite.contents g.W.CountedWrite.failures c.write_matched.new.out) c.args.meter.now c.write_matched.new.meter) c.from_residual.result c.from_residual.ensures.1
-    (stops_matched (c.requires.bare c.if-bare.true) c.if-not-invert.true whole next c.write_matched.ensures.steps matched chosen stopped)
+    rw (is_err _ c.from_residual.ensures.1)
+    (stops_matched (c.requires.bare c.if-bare.true) c.if-not-invert.true whole next c.write_matched.ensures.steps _ chosen stopped)
 
 pub write_searched-requires : goal.write_searched-requires
 write_searched-requires g c =
@@ -43,7 +41,7 @@ returns-clause-ok g c =
     let (before, all, d, n) = held.divided in
     let same = held.same.same_expressions in
     let later = divided_kept (same_sought held.same) d in
-    let few = stretch_spent (expressions_of c.next_held-stretch.new.matchers) _ c.args.meter.now c.next_held-stretch.new.meter (sym same) d held.steps in
+    let few = stretch_spent (sym same) d held.steps in
     record {
       all = all;
       free = d.free;
@@ -57,12 +55,10 @@ returns-clause-ok g c =
 
 pub returns-in_err-found-2-clause-err : goal.returns-in_err-found-2-clause-err
 returns-in_err-found-2-clause-err g c =
-    let w = c.args.request.now in
-    let es = expressions_of c.args.matchers.now in
     let held = c.next_held-stretch.ensures in
     let (before, all, d, n) = held.divided in
     let same = held.same.same_expressions in
     let later = divided_kept (same_sought held.same) d in
-    let few = stretch_spent (expressions_of c.next_held-stretch.new.matchers) _ c.args.meter.now c.next_held-stretch.new.meter (sym same) d held.steps in
-    unwritten (StopsHeld es w.options w.many w.name.now c.args.lines.now (writer g.W.CountedWrite.contents g.W.CountedWrite.failures c.args.out.now) (writer g.W.CountedWrite.contents g.W.CountedWrite.failures c.write_searched.new.out) c.args.meter.now c.write_searched.new.meter) c.from_residual-in_err-found-2.result c.from_residual-in_err-found-2.ensures.1
+    let few = stretch_spent (sym same) d held.steps in
+    rw (is_err _ c.from_residual-in_err-found-2.ensures.1)
     (record { all = all; free = d.free; next = n; stops = rw (same, c.number-number.ensures) at (c.in_err-found-2.ensures.err before all later); spent = rw same at (c.write_searched.ensures.steps before all later c.args.meter.now few) })

@@ -1,33 +1,34 @@
-use Rattle.grep_core.proofs.Prelude.{◌≡◌, ◌+◌, ◌++◌, None, Some, length, drop, ap, subst, arith, length-drop, lines_of, Sought, IsSought, sought_of, expressions_of, GoesOut}
+use Rattle.grep_core.proofs.Prelude.{◌++◌, None, length, drop, ap, subst, arith, length-drop, lines_of, IsSought, sought_of, expressions_of}
 use Rattle.std.proofs.lemmas.List.{take_rest}
 use Rattle.re_search.specs.Working.Sought.{FindsSought}
 use Rattle.re_search.proofs.lemmas.KeptMatchers.{same_over, same_sought}
 use Rattle.grep_core.proofs.lemmas.RowLemmas.{goes_on}
-use Rattle.grep_core.proofs.lemmas.MatchedLemmas.{runs_next, runs_out, run_stops, stopped_result, steps_for_more, steps_within}
+use Rattle.grep_core.proofs.lemmas.OneLineLemmas.{is_err}
+use Rattle.grep_core.proofs.lemmas.MatchedLemmas.{runs_next, runs_out, run_stops, steps_for_more, steps_within}
 use Rattle.grep_core.proofs.search.held.write_matched.Goals as goal
 
 pub returns-in_err-push_all-clause-written : goal.returns-in_err-push_all-clause-written
 returns-in_err-push_all-clause-written g c =
-    let s : Sought = sought_of c.args.whole c.args.matchers.now in
+    let s = sought_of c.args.whole c.args.matchers.now in
     let (sent, runs, went) = c.lines.invariant.writes in
-    stopped_result g.W.CountedWrite.contents g.W.CountedWrite.failures s c.args.block.now c.args.out.now c.push_all.new.out c.from_residual.result c.from_residual.ensures.0
-    (run_stops g.W.CountedWrite.contents g.W.CountedWrite.failures s c.args.out.now c.lines.out c.push_all.new.out runs went c.in_err-push_all.ensures)
+    let (all, are, stopped) = run_stops s runs went c.in_err-push_all.ensures in
+    rw (is_err _ c.from_residual.ensures.1) (all, are, stopped, tt)
 
 pub returns-in_default-clause-written : goal.returns-in_default-clause-written
 returns-in_default-clause-written g c =
-    let s : Sought = sought_of c.args.whole c.args.matchers.now in
+    let s = sought_of c.args.whole c.args.matchers.now in
     let i = c.lines.invariant in
     let (sent, runs, went) = i.writes in
     let none = subst (λ q. FindsSought q (lines_of (drop c.lines.start c.args.block.now)) None) (same_sought i.same) (rw take_rest at c.in_default.ensures.reported) in
     let (all, are, bytes, many) = runs_out (IsSought s) runs none in
-    (all, are, subst (GoesOut g.W.CountedWrite.contents g.W.CountedWrite.failures c.args.out.now c.push_all.new.out) bytes (goes_on g.W.CountedWrite.contents g.W.CountedWrite.failures c.args.out.now c.lines.out c.push_all.new.out sent _ went c.in_ok-push_all.ensures), many)
+    (all, are, rw bytes at (goes_on _ _ _ _ _ _ _ went c.in_ok-push_all.ensures), many)
 
 pub returns-in_err-run-clause-written : goal.returns-in_err-run-clause-written
 returns-in_err-run-clause-written g c =
-    let s : Sought = sought_of c.args.whole c.args.matchers.now in
+    let s = sought_of c.args.whole c.args.matchers.now in
     let (sent, runs, went) = c.lines.invariant.writes in
-    stopped_result g.W.CountedWrite.contents g.W.CountedWrite.failures s c.args.block.now c.args.out.now c.write_run.new.out c.from_residual-in_err-run.result c.from_residual-in_err-run.ensures.0
-    (run_stops g.W.CountedWrite.contents g.W.CountedWrite.failures s c.args.out.now c.lines.out c.write_run.new.out runs went c.in_err-run.ensures.err)
+    let (all, are, stopped) = run_stops s runs went c.in_err-run.ensures.err in
+    rw (is_err _ c.from_residual-in_err-run.ensures.1) (all, are, stopped, tt)
 
 pub returns-in_err-run-clause-steps : goal.returns-in_err-run-clause-steps
 returns-in_err-run-clause-steps g c =
@@ -35,23 +36,23 @@ returns-in_err-run-clause-steps g c =
     let (sent, runs, went) = i.writes in
     let n = length (expressions_of c.args.matchers.now) in
     let at = c.in-Some.at in
-    let many : length (expressions_of c.lines.matchers) ≡ n = ap length i.same.same_expressions in
+    let many = ap length i.same.same_expressions in
     let within = (rw take_rest at c.in-Some.ensures.within).1 in
-    steps_within n (c.lines.start + (at.end + 1)) (length c.args.block.now) _ _ (omega (arith, within, length-drop c.lines.start c.args.block.now, runs.within)) (steps_for_more n c.lines.start (at.end + 1) _ _ _ i.steps (rw many at c.in-Some.ensures.steps))
+    steps_within n _ _ _ _ (omega (arith, within, length-drop c.lines.start c.args.block.now, runs.within)) (steps_for_more n _ _ i.steps (rw many at c.in-Some.ensures.steps))
 
 pub lines-preserved : goal.lines-preserved
 lines-preserved g c =
-    let s : Sought = sought_of c.args.whole c.args.matchers.now in
+    let s = sought_of c.args.whole c.args.matchers.now in
     let i = c.lines.invariant in
     let (sent, runs, went) = i.writes in
     let n = length (expressions_of c.args.matchers.now) in
     let at = c.in-Some.at in
-    let many : length (expressions_of c.lines.matchers) ≡ n = ap length i.same.same_expressions in
+    let many = ap length i.same.same_expressions in
     let within = (rw take_rest at c.in-Some.ensures.within).1 in
-    let next = subst (λ q. FindsSought q (lines_of (drop c.lines.start c.args.block.now)) (Some at)) (same_sought i.same) (rw take_rest at c.in-Some.ensures.reported) in
+    let next = rw (same_sought i.same) at (rw take_rest at c.in-Some.ensures.reported) in
     let (low, x, cut, more) = c.in_ok-run.ensures.ok in
     record {
-      writes = (sent ++ x, runs_next (IsSought s) runs at within next c.in_ok-run.run' x low cut, goes_on g.W.CountedWrite.contents g.W.CountedWrite.failures c.args.out.now c.lines.out c.write_run.new.out sent x went more);
+      writes = (sent ++ x, runs_next (IsSought s) runs at within next c.in_ok-run.run' x low cut, goes_on _ _ _ _ _ _ _ went more);
       same = same_over c.next_matched.ensures.same_matchers i.same;
-      steps = steps_for_more n c.lines.start (at.end + 1) _ _ _ i.steps (rw many at c.in-Some.ensures.steps);
+      steps = steps_for_more n _ _ i.steps (rw many at c.in-Some.ensures.steps);
     }

@@ -1,4 +1,4 @@
-use Rattle.grep_core.proofs.Prelude.{arith, expressions_of}
+use Rattle.grep_core.proofs.Prelude.{arith}
 use Rattle.re_meter.proofs.lemmas.Adding.{adds_none}
 use Rattle.re_search.proofs.lemmas.LinePartsLaws.{all_parts}
 use Rattle.re_search.proofs.lemmas.KeptMatchers.{none_asked, same_over, as_many, still_alike}
@@ -37,28 +37,22 @@ loop-part-smaller g c =
 
 pub returns-in_err-write_part-clause-err : goal.returns-in_err-write_part-clause-err
 returns-in_err-write_part-clause-err g c =
-    let w = c.args.request.now in
-    let es = expressions_of c.args.matchers.now in
     let same = c.loop-part.invariant.same in
-    let part = c.in-Some.part in
     let reported = rw same.same_expressions at c.in-Some.ensures.reported in
     let out = c.in_err-write_part.ensures in
-    err_with c.from_residual.result (parts_broken es w.options w.many w.name.now c.args.number c.args.line.now c.requires.asked c.loop-part.from part.start part.end _ _ _ c.loop-part.invariant.parts reported
-    (TakesFront-line g.W.CountedWrite.contents g.W.CountedWrite.failures c.loop-part.out c.write_part.new.out _ out)
+    err_with c.from_residual.result (parts_broken _ _ _ _ _ _ c.requires.asked _ _ _ c.loop-part.invariant.parts reported
+    (TakesFront-line _ _ _ _ _ out)
     out.counted)
 
 pub loop-part-preserved : goal.loop-part-preserved
 loop-part-preserved g c =
-    let w = c.args.request.now in
-    let es = expressions_of c.args.matchers.now in
     let same = c.loop-part.invariant.same in
-    let part = c.in-Some.part in
     let reported = rw same.same_expressions at c.in-Some.ensures.reported in
     let steps = rw (as_many same) at c.in-Some.ensures.steps in
     record {
       parts =
-          parts_next es w.options w.many w.name.now c.args.number c.args.line.now c.loop-part.from part.start part.end _ _ _ c.loop-part.invariant.parts reported
-          (TakesAll-line g.W.CountedWrite.contents g.W.CountedWrite.failures c.loop-part.out c.write_part.new.out _ c.in_ok-write_part.ensures);
+          parts_next _ _ _ _ _ _ _ _ _ c.loop-part.invariant.parts reported
+          (TakesAll-line _ _ _ _ _ c.in_ok-write_part.ensures);
       room = rw c.in-Some.ensures.room c.loop-part.invariant.room;
       right = rw same.same_expressions at c.in-Some.ensures.right;
       steps = steps c.args.meter.now c.loop-part.invariant.steps;
@@ -67,11 +61,9 @@ loop-part-preserved g c =
 
 pub returns-clause-ok : goal.returns-clause-ok
 returns-clause-ok g c =
-    let w = c.args.request.now in
-    let es = expressions_of c.args.matchers.now in
     let same = c.loop-part.invariant.same in
     let reported = rw same.same_expressions at c.in_default.ensures.reported in
-    parts_done es w.options w.many w.name.now c.args.number c.args.line.now c.requires.asked c.loop-part.from _ _ c.loop-part.invariant.parts reported
+    parts_done _ _ _ _ _ _ c.requires.asked c.loop-part.invariant.parts reported
 
 pub returns-in_err-write_part-clause-same : goal.returns-in_err-write_part-clause-same
 returns-in_err-write_part-clause-same g c = same_over c.in-Some.ensures.same_matchers c.loop-part.invariant.same

@@ -3,12 +3,12 @@ use Rattle.grep_core.proofs.lemmas.BlockLines.{begins_none, begins_all, begins_l
 use Rattle.grep_core.proofs.search.recent.last_lines.Goals as goal
 
 pub loop-init : goal.loop-init
-loop-init c = record { within = omega arith; recent = begins_none c.args.block.now c.requires }
+loop-init c = record { within = omega arith; recent = begins_none _ c.requires }
 
 pub returns-then-start-eq0-clause-begin : goal.returns-then-start-eq0-clause-begin
 returns-then-start-eq0-clause-begin c =
     let zero_start : c.loop.start ≡ 0 = omega arith in
-    begins_all c.args.block.now c.requires c.loop.counter c.args.most (sym zero_start ∙ c.loop.invariant.recent) (omega (arith, c.loop-test.true))
+    begins_all _ c.requires _ _ (sym zero_start ∙ c.loop.invariant.recent) (omega (arith, c.loop-test.true))
 
 pub loop-preserved : goal.loop-preserved
 loop-preserved c =
@@ -16,11 +16,11 @@ loop-preserved c =
     let some : c.loop.start ≢ 0 = λ none. omega (arith, none) in
     record {
       within = omega (arith, next.within, length-take (c.loop.start - 1) c.args.block.now);
-      recent = begins_before c.args.block.now c.requires c.loop.start c.loop.counter c.loop.invariant.recent some c.lines_end-start.result next.within next.ended next.cut_off;
+      recent = begins_before _ c.requires _ _ c.loop.invariant.recent some _ next.within next.ended next.cut_off;
     }
 
 pub returns-clause-begin : goal.returns-clause-begin
 returns-clause-begin c =
     let lines = lines_of c.args.block.now in
     let all : c.loop.counter ≡ c.args.most = omega (arith, c.loop-test.false, c.loop.auto.counter-end) in
-    begins_last c.args.block.now c.requires c.loop.start c.args.most (c.loop.invariant.recent ∙ ap (λ k. length (terminated (take (length lines - k) lines))) all)
+    begins_last _ c.requires _ (c.loop.invariant.recent ∙ ap (λ k. length (terminated (take (length lines - k) lines))) all)

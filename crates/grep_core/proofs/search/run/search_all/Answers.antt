@@ -1,15 +1,14 @@
-use Rattle.grep_core.proofs.Prelude.{◌<◌, ◌≤◌, nat_le, length, refl, ap, ◌∙◌, arith, expressions_of}
+use Rattle.grep_core.proofs.Prelude.{◌<◌, ◌≤◌, nat_le, length, refl, ap, ◌∙◌, arith}
 use Rattle.re_search.proofs.lemmas.KeptMatchers.{none_asked, same_over}
 use Rattle.grep_core.proofs.lemmas.SourceLaws.{gives_none, gives_both}
 use Rattle.grep_core.proofs.lemmas.RunLaws.{run_none, run_further, run_ends_at, run_given_up, run_ends}
 use Rattle.grep_core.proofs.search.run.search_all.Goals as goal
 
 pub loop-k-init : goal.loop-k-init
-loop-k-init g c = record { so_far = run_none _ _ _ _ (gives_none g.S.Sources.returned_readers c.args.sources.now) _; listed = refl; within = omega arith; in_order = c.requires.in_order; same_loan = refl; same = none_asked }
+loop-k-init g c = record { so_far = run_none _ (gives_none g.S.Sources.returned_readers c.args.sources.now) _; listed = refl; within = omega arith; in_order = c.requires.in_order; same_loan = refl; same = none_asked }
 
 pub loop-k-preserved : goal.loop-k-preserved
 loop-k-preserved g c =
-    let es = expressions_of c.args.matchers.now in
     let sources = g.S.Sources.listed c.args.sources.now in
     let s = c.loop-k.invariant in
     let known = s.same.same_expressions in
@@ -18,7 +17,7 @@ loop-k-preserved g c =
     let inside : c.loop-k.k < length sources = omega (arith, c.loop-k-test.true, c.count-count.ensures) in
     record {
       so_far =
-          run_further es c.args.request.now.options _ sources c.loop-k.k inside _ _ _ join _ _ _ c.loop-k.some c.loop-k.faulty s.so_far c.in-Ok.found.end c.in-Ok.found.selected c.has_selected.result c.has_selected-some.result c.is_fault-faulty.result
+          run_further sources c.loop-k.k inside _ _ join _ s.so_far
           given c.has_selected.ensures c.if-request-has_selected.false c.has_selected-some.ensures c.is_fault-faulty.ensures;
       listed = c.in-Ok.ensures.listed ∙ s.listed;
       within = omega (arith, inside);
@@ -29,30 +28,27 @@ loop-k-preserved g c =
 
 pub returns-then-request-has_selected-clause-run : goal.returns-then-request-has_selected-clause-run
 returns-then-request-has_selected-clause-run g c =
-    let es = expressions_of c.args.matchers.now in
     let sources = g.S.Sources.listed c.args.sources.now in
     let s = c.loop-k.invariant in
     let known = s.same.same_expressions in
     let given = rw (known, s.listed) at c.in-Ok.ensures.given in
     let join = gives_both g.S.Sources.returned_readers c.args.sources.now c.loop-k.sources c.search_source.new.sources in
     let inside : c.loop-k.k < length sources = omega (arith, c.loop-k-test.true, c.count-count.ensures) in
-    run_ends_at es c.args.request.now.options _ sources c.loop-k.k inside _ _ _ join _ _ _ c.loop-k.some c.loop-k.faulty s.so_far (ap (nat_le 2) c.count-count.ensures) c.in-Ok.found.end c.in-Ok.found.selected c.has_selected.result
+    run_ends_at sources c.loop-k.k inside _ _ join _ s.so_far (ap (nat_le 2) c.count-count.ensures)
     given c.has_selected.ensures c.if-request-has_selected.true
 
 pub returns-in-Err-clause-run : goal.returns-in-Err-clause-run
 returns-in-Err-clause-run g c =
-    let es = expressions_of c.args.matchers.now in
     let sources = g.S.Sources.listed c.args.sources.now in
     let s = c.loop-k.invariant in
     let known = s.same.same_expressions in
     let join = gives_both g.S.Sources.returned_readers c.args.sources.now c.loop-k.sources c.search_source.new.sources in
     let inside : c.loop-k.k < length sources = omega (arith, c.loop-k-test.true, c.count-count.ensures) in
-    run_given_up es c.args.request.now.options _ sources c.loop-k.k inside _ _ _ join _ _ _ c.loop-k.some c.loop-k.faulty s.so_far (ap (nat_le 2) c.count-count.ensures) c.in-Err.fault _ _ known s.listed c.in-Err.ensures.given
+    run_given_up sources c.loop-k.k inside _ _ join _ s.so_far (ap (nat_le 2) c.count-count.ensures) c.in-Err.fault known s.listed c.in-Err.ensures.given
 
 pub returns-clause-run : goal.returns-clause-run
 returns-clause-run g c =
-    let es = expressions_of c.args.matchers.now in
     let sources = g.S.Sources.listed c.args.sources.now in
     let s = c.loop-k.invariant in
     let over : length sources ≤ c.loop-k.k = omega (arith, c.loop-k-test.false, c.count-count.ensures) in
-    run_ends es c.args.request.now.options _ sources _ c.loop-k.k _ _ c.loop-k.some c.loop-k.faulty c.status_of.result (ap (nat_le 2) c.count-count.ensures) over s.so_far c.status_of.ensures
+    run_ends _ _ _ _ _ (ap (nat_le 2) c.count-count.ensures) over s.so_far c.status_of.ensures

@@ -1,8 +1,7 @@
-use Rattle.grep_core.proofs.Prelude.{expressions_of}
 use Rattle.grep_core.proofs.lemmas.OneLineLemmas.{selected_by}
 use Rattle.grep_core.proofs.search.selection.is_selected.Goals as goal
 
 pub returns-clause-reported : goal.returns-clause-reported
 returns-clause-reported c =
     let options = c.args.options in
-    selected_by (expressions_of c.args.matchers.now) options c.args.line.now c.is_matched-matched.result c.selects.result c.selects.ensures c.is_matched-matched.ensures.reported
+    selected_by _ options _ c.selects.ensures c.is_matched-matched.ensures.reported
