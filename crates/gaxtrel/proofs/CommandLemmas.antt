@@ -106,28 +106,27 @@ module _ {W : Type 0} (contents : W → Option Text) (failures : W → ℕ) (has
         answers = record {
           steps = e.answers.steps;
           are_steps = subst (λ (f : File). Steps f.ending f.lines e.answers.steps []) same e.answers.are_steps;
-          after = e.answers.after;
+          most = e.answers.most;
           are_replies = e.answers.are_replies;
+          few = e.answers.few;
         };
-        leaves = e.leaves;
         are_written = appended (written [] e.replies) e.goes.written;
-        work = e.work;
         ended = number ∙ ap end_number e.ended;
       })
   text_answered (Err Read) answer e number two = absurd (never_broken text few e.reads.reading e.file e.reads.is_reading e.reads.is_file e.reads.counted e.is_broken)
   text_answered (Err Memory) answer e number two =
-      let s = text_steps text few e.reads.reading e.file e.reads.is_reading e.reads.is_file e.answers.steps e.rest e.answers.are_steps in
+      let s = text_steps text few e.reads.reading e.file e.reads.is_reading e.reads.is_file e.answers.steps (e.first ++ e.others) e.answers.are_steps in
       inr (
         two,
         record {
           replies = e.replies;
           rest = s.0;
-          answers = record { steps = e.answers.steps; are_steps = s.1; after = e.answers.after; are_replies = e.answers.are_replies };
-          leaves = inl e.leaves;
+          done = after.state;
+          answers = record { steps = e.answers.steps; are_steps = s.1; most = e.answers.most; are_replies = e.answers.are_replies; few = e.answers.few };
+          leaves = inl refl;
           unwritten = [];
           are_begun = sym (append-nil after.replies ∙ appended (written [] e.replies) e.goes.written);
-          broken = subst (HasAllButLast e.answers.steps before) (append-nil (written [] e.replies) ∙ sym (appended (written [] e.replies) e.goes.written)) (all_but_last e.answers.steps before e.answers.after e.replies [] e.answers.are_replies);
-          work = e.work;
+          broken = subst (HasAllButLast e.answers.steps before) (append-nil (written [] e.replies) ∙ sym (appended (written [] e.replies) e.goes.written)) (all_but_last e.answers.steps before after.state e.replies e.answers.most [] e.answers.are_replies);
         },
       )
   text_answered (Err Write) answer e number two =
@@ -137,12 +136,12 @@ module _ {W : Type 0} (contents : W → Option Text) (failures : W → ℕ) (has
         record {
           replies = e.replies;
           rest = s.0;
-          answers = record { steps = e.answers.steps; are_steps = s.1; after = e.answers.after; are_replies = e.answers.are_replies };
+          done = e.done;
+          answers = record { steps = e.answers.steps; are_steps = s.1; most = e.answers.most; are_replies = e.answers.are_replies; few = e.answers.few };
           leaves = e.leaves;
           unwritten = e.stops.rest;
           are_begun = e.stops.cut ∙ ap (λ b. b ++ e.stops.rest) (sym (appended e.stops.front e.stops.written));
           broken = subst (HasAllButLast e.answers.steps before) (sym (appended e.stops.front e.stops.written)) e.broken;
-          work = e.work;
         },
       )
     where

@@ -26,7 +26,7 @@ use Rattle.std.proofs.alloc.Global.TheLaws as global_laws
 use Rattle.gaxtrel.specs.declared.held.Held.{Held}
 use Rattle.gaxtrel.specs.contracts.held.Held as kind
 use Rattle.gaxtrel.specs.contracts.handle.Handle as handle
-use Rattle.gaxtrel.specs.Held.{held_owns}
+use Rattle.gaxtrel.specs.Working.Owned.{held_owns}
 use Rattle.gaxtrel.proofs.Values as loose
 
 abbrev pub R : RattleType

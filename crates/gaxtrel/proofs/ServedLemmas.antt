@@ -13,9 +13,9 @@ use Rattle.grep_core.proofs.lemmas.CostLaws.{adds_for_more}
 use Rattle.grep_core.proofs.lemmas.SameChoice.{Any-Matches, ArePartsFrom-same, IsFound-same, IsPart-same, other_way}
 use Rattle.gaxtrel.specs.declared.held.Held.{Held}
 use Rattle.gaxtrel.specs.declared.held.Held.TheVariants.{Patterns}
-use Rattle.gaxtrel.specs.Held.{IsFor, patterns_in}
-use Rattle.gaxtrel.specs.Kept.{Allows, Kept, Serves, Stays, Terms, sought_in, terms_of}
-use Rattle.gaxtrel.specs.Calls.{AreLines, FindsLine, IsStopped, PutsLines, PutsNumbers, PutsParts, line_cost, steps_of}
+use Rattle.gaxtrel.specs.Working.Owned.{Stays}
+use Rattle.gaxtrel.specs.Kept.{Allows, Kept, Serves, Terms, sought_in, terms_of}
+use Rattle.gaxtrel.specs.Calls.{IsFor, patterns_in, AreLines, FindsLine, IsStopped, PutsLines, PutsNumbers, PutsParts, line_cost, steps_of}
 use Rattle.gaxtrel.specs.declared.part.GaxtrelPart.{GaxtrelPart}
 use Rattle.gaxtrel.specs.declared.text_lines.GaxtrelLine.{GaxtrelLine}
 use Rattle.gaxtrel.specs.declared.work.GaxtrelWork.{GaxtrelWork}

@@ -12,9 +12,10 @@ use Rattle.re_syntax.specs.Lines.{ended_lines_of, lines_of, terminated}
 use Rattle.re_syntax.specs.Parts.{ArePartsFrom}
 use Rattle.re_meter.specs.Meters.{Steps, AddsAtMost, fresh}
 use Rattle.re_search.specs.Working.Sought.{FindsSought, IsSought, Sought}
-use Rattle.gaxtrel.specs.Held.{IsFor}
-use Rattle.gaxtrel.specs.Kept.{Allows, Terms}
+use Rattle.gaxtrel.specs.Kept.{Allows, Kept, Serves, Terms, sought_in, terms_of}
+use Rattle.gaxtrel.specs.Live.{LiveKept}
 use Rattle.gaxtrel.specs.declared.held.Held.{Held}
+use Rattle.gaxtrel.specs.declared.held.Held.TheVariants.{Patterns, Session}
 use Rattle.gaxtrel.specs.declared.part.GaxtrelPart.{GaxtrelPart}
 use Rattle.gaxtrel.specs.declared.text_lines.GaxtrelLine.{GaxtrelLine}
 use Rattle.gaxtrel.specs.declared.work.GaxtrelWork.{GaxtrelWork}
@@ -46,6 +47,27 @@ kind_number f.BackReference = 12
 kind_number f.TooDeep = 13
 kind_number f.TooLarge = 14
 kind_number f.Memory = 0
+
+-- ---- what is held
+
+-- the patterns that are held
+abbrev pub patterns_in : Option Held → Option Kept
+patterns_in None = None
+patterns_in (Some (Patterns kept)) = Some kept
+patterns_in (Some (Session live)) = None
+
+-- the session that is held
+abbrev pub session_in : Option Held → Option LiveKept
+session_in None = None
+session_in (Some (Patterns kept)) = None
+session_in (Some (Session live)) = Some live
+
+-- patterns are held on these terms, and they search for this
+pub record IsFor (terms : Terms) (held : Option Held) (sought : Sought) : Type 0 where
+  pub kept : Kept
+  pub is_there : patterns_in held ≡ Some kept
+  pub is_on : terms_of kept ≡ terms
+  pub serves : Serves terms.apart (sought_in kept) sought
 
 -- ---- items in an array
 

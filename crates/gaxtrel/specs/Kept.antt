@@ -36,11 +36,6 @@ terms_of kept =
 abbrev pub Allows : Terms → ℕ → Type 0
 Allows t bytes = (t.limit ≡ 0) ⊎ ((bytes ≡ 0) ⊎ (t.matchers * (bytes + 1) ≤ t.limit))
 
--- they are apart and limited as before, and search for the same
-abbrev pub Stays : Kept → Kept → Type 0
-Stays old new =
-    (sought_in new ≡ sought_in old) × (new.apart ≡ old.apart) × (new.limit ≡ old.limit)
-
 -- a search for the one is a search for the other: the expressions are the same choice, and no more;
 -- where they are apart they are the same
 pub record Serves (apart : Bool) (asked sought : Sought) : Type 0 where

@@ -1,8 +1,9 @@
--- what C keeps, and what a handle owns
+-- what C keeps
 pub mod Kept
-pub mod Held
 pub mod Live
 -- what the calls of the library take and answer
 pub mod Calls
 -- how a matcher is made
 pub mod Made
+-- what private functions keep
+pub mod Working

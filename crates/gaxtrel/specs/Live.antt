@@ -7,8 +7,7 @@ use Rattle.grep_core.specs.Files.{File, whole}
 use Rattle.grep_core.specs.Output.{written}
 use Rattle.grep_cmd.specs.declared.script.ScriptEnd.{ScriptEnd}
 use Rattle.grep_cmd.specs.declared.script.ScriptEnd.TheVariants.{Clean, Refused}
-use Rattle.grep_cmd.specs.Replies.{AnswersScript, HasAllButLast, IsUpToReport, ScriptState}
-use Rattle.grep_cmd.specs.Replies.{SearchesTouched, end_for}
+use Rattle.grep_cmd.specs.Replies.{AnswersScript, HasAllButLast, IsUpToReport, ScriptState, end_for}
 
 -- the state of a session, and the bytes of the replies to the commands of the last call
 pub record LiveKept : Type 0 where
@@ -33,10 +32,8 @@ module _ (before : ScriptState) (text : Text) (begun : Steps) (after : LiveKept)
     -- all commands were answered
     pub record AnswersAll (answer : ℕ) : Type 0 where
       pub replies : List Text
-      pub answers : AnswersScript before (commands_of text) replies []
-      pub leaves : after.state ≡ answers.after
+      pub answers : AnswersScript before (commands_of text) begun spent replies [] after.state
       pub are_written : after.replies ≡ written [] replies
-      pub work : SearchesTouched before answers.steps replies answers.after begun spent
       pub ended : answer ≡ end_number (end_for replies)
 
     -- memory was refused: the first commands were done, but where the last of them is `changes`, it
@@ -44,12 +41,12 @@ module _ (before : ScriptState) (text : Text) (begun : Steps) (after : LiveKept)
     pub record AnswersFirst : Type 0 where
       pub replies : List Text
       pub rest : List Text
-      pub answers : AnswersScript before (commands_of text) replies rest
-      pub leaves : IsUpToReport after.state answers.after
+      pub done : ScriptState
+      pub answers : AnswersScript before (commands_of text) begun spent replies rest done
+      pub leaves : IsUpToReport after.state done
       pub unwritten : Text
       pub are_begun : written [] replies ≡ after.replies ++ unwritten
       pub broken : HasAllButLast answers.steps before after.replies
-      pub work : SearchesTouched before answers.steps replies answers.after begun spent
 
     -- the commands of a text were answered so
     abbrev pub AnswersText : ℕ → Type 0

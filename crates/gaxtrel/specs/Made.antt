@@ -16,8 +16,7 @@ use Rattle.gaxtrel.specs.declared.numbers.GaxtrelFault.{GaxtrelFault}
 use Rattle.gaxtrel.specs.declared.options.GaxtrelOptions.{GaxtrelOptions}
 use Rattle.gaxtrel.specs.declared.work.GaxtrelWork.{GaxtrelWork}
 use Rattle.gaxtrel.specs.Kept.{Kept, Serves, sought_in}
-use Rattle.gaxtrel.specs.Held.{patterns_in}
-use Rattle.gaxtrel.specs.Calls.{kind_number, steps_of, syntax_number}
+use Rattle.gaxtrel.specs.Calls.{kind_number, patterns_in, steps_of, syntax_number}
 
 -- the options of the calls that take none
 abbrev pub options_for : ℕ → Bool → Bool → Bool → Bool → GaxtrelOptions

@@ -3,8 +3,7 @@ ghost use Rattle.std.specs.Prelude.{◌≡◌, ◌⊎◌, Some, None, true, fals
 ghost use Rattle.re_meter.specs.Meters.{fresh};
 ghost use Rattle.re_search.specs.Working.Sought.{Sought};
 ghost use Rattle.gaxtrel.specs.Kept.{Terms};
-ghost use Rattle.gaxtrel.specs.Held.{IsFor, patterns_in};
-ghost use Rattle.gaxtrel.specs.Calls.{IsEmpty, IsMisused, steps_of};
+ghost use Rattle.gaxtrel.specs.Calls.{IsEmpty, IsFor, IsMisused, patterns_in, steps_of};
 ghost use Rattle.gaxtrel.specs.Made.{Makes, options_for};
 
 use crate::held::Held;

@@ -19,7 +19,7 @@ pub struct Handle {
 }
 
 impl Model for Handle {
-    ghost use Rattle.gaxtrel.specs.Held.{held_owns};
+    ghost use Rattle.gaxtrel.specs.Working.Owned.{held_owns};
     ghost use Rattle.gaxtrel.specs.contracts.held.Held as kind;
 
     ghost also_owns = { λ h. held_owns kind.the_row h.alloc h.at h.held };

@@ -6,11 +6,10 @@ ghost use Rattle.re_trees.specs.declared.span.Span.{Span};
 ghost use Rattle.re_meter.specs.Meters.{fresh};
 ghost use Rattle.re_auto.specs.Searches.{FindsPart};
 ghost use Rattle.re_search.specs.Working.Sought.{CountsSought, IsSought, Sought};
-ghost use Rattle.gaxtrel.specs.Held.{IsFor, patterns_in};
 ghost use Rattle.gaxtrel.specs.Kept.{Allows, Terms};
-ghost use Rattle.gaxtrel.specs.Calls.{FindsLine, HasSearched, IsMisused, IsStopped, PutsLines};
-ghost use Rattle.gaxtrel.specs.Calls.{PutsNumbers, PutsParts, Reaches, Says, SaysOf, Tells};
-ghost use Rattle.gaxtrel.specs.Calls.{TellsOf, steps_of};
+ghost use Rattle.gaxtrel.specs.Calls.{FindsLine, HasSearched, IsFor, IsMisused, IsStopped};
+ghost use Rattle.gaxtrel.specs.Calls.{PutsLines, PutsNumbers, PutsParts, Reaches, Says, SaysOf};
+ghost use Rattle.gaxtrel.specs.Calls.{Tells, TellsOf, patterns_in, steps_of};
 
 use crate::held::Held;
 use crate::holder::GaxtrelHolder;

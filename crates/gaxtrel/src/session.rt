@@ -4,8 +4,7 @@ ghost use Rattle.re_syntax.specs.Profile.{most_states};
 ghost use Rattle.re_meter.specs.Meters.{fresh};
 ghost use Rattle.grep_cmd.specs.Replies.{new_state};
 ghost use Rattle.gaxtrel.specs.Live.{LiveKept, AnswersText, text_over};
-ghost use Rattle.gaxtrel.specs.Held.{session_in};
-ghost use Rattle.gaxtrel.specs.Calls.{IsEmpty, IsMisused, steps_of};
+ghost use Rattle.gaxtrel.specs.Calls.{IsEmpty, IsMisused, session_in, steps_of};
 
 use crate::held::Held;
 use crate::holder::GaxtrelHolder;

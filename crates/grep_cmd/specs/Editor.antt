@@ -6,16 +6,16 @@ use Rattle.re_syntax.specs.Bytes.{Text}
 use Rattle.re_syntax.specs.Expression.{Expression}
 use Rattle.grep_core.specs.declared.status.Status.{Status}
 use Rattle.grep_core.specs.Choose.{IfHolds}
-use Rattle.grep_core.specs.Files.{File, AreMeant}
+use Rattle.grep_core.specs.Meters.{Steps as StepCounts}
+use Rattle.grep_core.specs.Files.{File, Mean}
 use Rattle.grep_live.specs.Hits.{Hit, View, AreHits}
 use Rattle.grep_session.specs.Marks.{Watched}
 use Rattle.grep_live.specs.Changes.{Change, all_after}
 use Rattle.grep_live.specs.Follows.{Follows, view_after}
 use Rattle.grep_live.specs.Rows.{changes_rows}
-use Rattle.grep_cmd.specs.Script.{Step, does, reports, reports_changes, reports_page, is_bad}
-use Rattle.grep_cmd.specs.Script.{is_truncated, tells_version, sets_text, text_after}
-use Rattle.grep_cmd.specs.Show.{status_line}
-use Rattle.grep_cmd.specs.Replies.{Replies, AnswersScript, ScriptState, new_state}
+use Rattle.grep_cmd.specs.Script.{Step, does, reports, reports_changes, reports_page, sets_text}
+use Rattle.grep_cmd.specs.Script.{text_after}
+use Rattle.grep_cmd.specs.Replies.{Replies, AnswersScript, ScriptState, new_state, status_line}
 
 -- ---- where a reply ends
 
@@ -34,11 +34,7 @@ abbrev pub IsOneReply : Step → List Text → Type 0
 IsOneReply reports reply = EndsWithStatus reply
 IsOneReply reports_changes reply = EndsWithStatus reply
 IsOneReply (reports_page first count) reply = EndsWithStatus reply
-IsOneReply (does edit) reply = length reply ≡ 1
-IsOneReply tells_version reply = length reply ≡ 1
-IsOneReply (sets_text on) reply = length reply ≡ 1
-IsOneReply is_bad reply = length reply ≡ 1
-IsOneReply is_truncated reply = length reply ≡ 1
+IsOneReply _ reply = length reply ≡ 1
 
 -- ---- how rows are read
 
@@ -108,7 +104,7 @@ bytes_of lines = sum_by (λ line. length line + 1) lines
 -- the lists are the present hits of each file
 pub record ArePresent (state : Watched) (view : View) : Type 0 where
   pub es : List Expression
-  pub are_meant : AreMeant state.inputs.syntax state.inputs.options state.inputs.patterns es
+  pub are_meant : Mean state.inputs es
   pub are_hits : AreHits es state.inputs.options state.inputs.files view
 
 -- no step is `text off`
@@ -123,42 +119,38 @@ MayLackText hit other = (hit ≡ other) ⊎ (hit ≡ record other { text = [] })
 abbrev pub AreButTexts : View → View → Type 0
 AreButTexts view others = AllZip (λ hits own. AllZip MayLackText hits own) view others
 
--- an editor began with a new session and no list, took these replies to some steps, and has these
--- lists now
-pub record Took (states : ℕ) (steps : List Step) (replies : List Text) (state : ScriptState)
-    (view : View) : Type 0 where
-  pub are_replies : Replies steps (new_state states) replies state
+-- an editor began with a new session and no list, and took the replies to some steps; what these
+-- left, and the lists that it has now
+pub record Took (states : ℕ) (steps : List Step) : Type 0 where
+  pub replies : List Text
+  pub state : ScriptState
+  pub most : ℕ
+  pub are_replies : Replies steps (new_state states) replies state most
+  pub view : View
   pub lists : ListsAfterAll true steps replies [] view
 
 pub record EditorsFollow : Type 0 where
   -- an editor can take all replies to a script of fewer than 2^64 bytes
-  pub can : (states : ℕ) (script : File) (replies rest : List Text) → bytes_of script.lines < 2 ^ 64 →
-      (answers : AnswersScript (new_state states) script replies rest) →
-      (view : View) × Took states answers.steps replies answers.after view
+  pub can : (states : ℕ) (script : File) (begun spent : StepCounts) (replies rest : List Text)
+      (after : ScriptState) → bytes_of script.lines < 2 ^ 64 →
+      (answers : AnswersScript (new_state states) script begun spent replies rest after) →
+      (view : View) × ListsAfterAll true answers.steps replies [] view
   -- the replies alone decide its lists, however it reads them
   pub one : (texts : Bool) (steps : List Step) (replies : List Text) (view a b : View) →
       ListsAfterAll texts steps replies view a → ListsAfterAll texts steps replies view b → a ≡ b
   -- it takes the replies to the first steps first, so that what follows is said of each time in a
   -- script
-  pub begin : (states : ℕ) (first later : List Step) (replies : List Text)
-      (state : ScriptState) (view : View) →
-      Took states (first ++ later) replies state view →
-      (front : List Text) × (rest : List Text) × (between : ScriptState) × (lists : View) ×
-      (replies ≡ front ++ rest) × Took states first front between lists
+  pub begin : (states : ℕ) (first later : List Step) (t : Took states (first ++ later)) →
+      (begun : Took states first) × (rest : List Text) × (t.replies ≡ begun.replies ++ rest)
   -- where no step was `text off`, its lists follow
-  pub follow : (states : ℕ) (steps : List Step) (replies : List Text) (state : ScriptState)
-      (view : View) →
-      Took states steps replies state view → HaveTexts steps → Follows state.session view
+  pub follow : (states : ℕ) (steps : List Step) (t : Took states steps) → HaveTexts steps →
+      Follows t.state.session t.view
   -- and after the reply to `changes` they are the present hits
-  pub present : (states : ℕ) (steps : List Step) (replies : List Text) (state : ScriptState)
-      (view : View) →
-      Took states (steps ++ reports_changes ∷ []) replies state view → HaveTexts steps →
-      ArePresent state.session view
+  pub present : (states : ℕ) (steps : List Step) (t : Took states (steps ++ reports_changes ∷ [])) →
+      HaveTexts steps → ArePresent t.state.session t.view
   -- in all scripts they are such lists, but hits may lack their text
-  pub follow_but_texts : (states : ℕ) (steps : List Step) (replies : List Text)
-      (state : ScriptState) (view : View) → Took states steps replies state view →
-      (others : View) × AreButTexts view others × Follows state.session others
-  pub present_but_texts : (states : ℕ) (steps : List Step) (replies : List Text)
-      (state : ScriptState) (view : View) →
-      Took states (steps ++ reports_changes ∷ []) replies state view →
-      (others : View) × AreButTexts view others × ArePresent state.session others
+  pub follow_but_texts : (states : ℕ) (steps : List Step) (t : Took states steps) →
+      (others : View) × AreButTexts t.view others × Follows t.state.session others
+  pub present_but_texts : (states : ℕ) (steps : List Step)
+      (t : Took states (steps ++ reports_changes ∷ [])) →
+      (others : View) × AreButTexts t.view others × ArePresent t.state.session others

@@ -15,8 +15,6 @@ pub use Rattle.grep_utility.specs.Folder
 pub use Rattle.grep_utility.specs.Patterns
 pub use Rattle.grep_utility.specs.Command
 -- what the contract of the script, or of the session, rests on
-pub mod Show
-pub mod Lists
 pub mod Script
 pub mod Replies
 -- the law over a whole script: what an editor makes of its replies

@@ -1,21 +1,24 @@
 -- The replies to a script (occur(1), REPLIES), and what a run of it writes and returns.
-use Rattle.std.specs.Prelude.{◌≡◌, ◌≢◌, ℕ, ◌+◌, ◌-◌, length, if◌then◌else◌, List, [], ◌∷◌, ◌++◌, drop, take}
-use Rattle.std.specs.Prelude.{Bool, true, codes, bytes_eq, Option, Result, Ok, Err, ◌⊎◌}
+use Rattle.std.specs.Prelude.{◌≡◌, ◌≢◌, ℕ, ◌+◌, length, if◌then◌else◌, List, [], ◌∷◌, ◌++◌, drop}
+use Rattle.std.specs.Prelude.{map, take, Bool, true, codes, bytes_eq, Option, Result, Ok, Err, ◌⊎◌}
 use Rattle.std.specs.List.{list_any}
 use Rattle.std.specs.Fmt.{decimal}
 use Rattle.std.specs.Io.KnownBytes.{prepend_known, Consumes}
 use Rattle.re_syntax.specs.Bytes.{Text}
-use Rattle.re_syntax.specs.Lines.{HasNoNewline, lines_of}
+use Rattle.re_syntax.specs.Lines.{lines_of}
 use Rattle.grep_core.specs.Files.{File, Inputs, whole, broken}
 use Rattle.grep_core.specs.Meters.{AddsAtMost, Steps as StepCounts}
 use Rattle.grep_core.specs.Output.{written}
 use Rattle.grep_core.specs.Reading.{Reading, IsReadingOf, AreLeft, open_source, file_of}
-use Rattle.grep_core.specs.Reading.{failures_of}
+use Rattle.grep_core.specs.Reading.{failures_of, IsOneLineAndFew}
 use Rattle.grep_core.specs.Run.{count_more}
-use Rattle.grep_core.specs.Written.{GoesOut, StopsWithin}
+use Rattle.grep_core.specs.Written.{GoesOut, StopsWithin, Writes}
+use Rattle.grep_core.specs.declared.status.Status.{Status}
+use Rattle.grep_core.specs.declared.status.Status.TheVariants.{Selected, NoneSelected, Error}
 use Rattle.grep_session.specs.declared.fault.EditFault.{EditFault}
 use Rattle.grep_session.specs.declared.fault.EditFault.TheVariants as fault
 use Rattle.grep_session.specs.Edits.{Edit, EditGives}
+use Rattle.grep_session.specs.Headline.{GrepGives}
 use Rattle.grep_session.specs.Touched.{Costs, NeedsNoMemory}
 use Rattle.grep_cmd.specs.declared.script.ScriptEnd.{ScriptEnd}
 use Rattle.grep_cmd.specs.declared.script.ScriptEnd.TheVariants.{Clean, Refused}
@@ -23,10 +26,10 @@ use Rattle.grep_cmd.specs.declared.script.ScriptFault.{ScriptFault}
 use Rattle.grep_cmd.specs.declared.script.ScriptFault.TheVariants.{Read, Write, Memory}
 use Rattle.grep_session.specs.Marks.{Watched, new_watched, all_known, MarksGiven}
 use Rattle.grep_cmd.specs.Script.{Step, does, reports, reports_changes, reports_page, is_bad}
-use Rattle.grep_cmd.specs.Script.{is_truncated, tells_version, sets_text, Steps}
-use Rattle.grep_cmd.specs.Script.{IsUnfinished, IsBegun}
-use Rattle.grep_cmd.specs.Show.{AreShown}
-use Rattle.grep_cmd.specs.Lists.{ReportsChanges, ReportsPage}
+use Rattle.grep_cmd.specs.Script.{is_truncated, tells_version, sets_text, Steps, IsUnfinished}
+use Rattle.grep_cmd.specs.Script.{IsBegun}
+use Rattle.grep_live.specs.Reported.{AllChanges, AllHits}
+use Rattle.grep_live.specs.Rows.{changes_rows, page_lines}
 use Rattle.grep_utility.specs.Texts.{kind_name}
 
 -- ---- replies
@@ -83,6 +86,41 @@ pub record IsAnswered (edit : Edit) (before after : Watched)
   pub same_states : after.states ≡ before.states
   pub named : NeedsNoMemory edit before.inputs → answer ≢ Err fault.Memory
 
+-- the status as a line
+abbrev pub status_line : Status → Text
+status_line Selected = codes "status 0"
+status_line NoneSelected = codes "status 1"
+status_line Error = codes "status 2"
+
+-- the lines, each after the margin
+abbrev pub with_margin : Text → List Text → List Text
+with_margin margin text = map (λ line. margin ++ line) text
+
+-- the lines that are shown of the inputs
+pub record AreShown (inputs : Inputs) (shown : List Text) : Type 0 where
+  pub grep : GrepGives inputs
+  pub is : shown ≡ with_margin (codes "o ") grep.out ++
+      (with_margin (codes "e ") grep.reported ++ status_line grep.status ∷ [])
+
+-- they were written, or a beginning of them
+abbrev pub Shows : {W T E : Type 0} → (W → Option Text) → (W → ℕ) → Inputs → W → W → Result T E →
+    Type 0
+Shows contents failures inputs old new result =
+    (shown : List Text) × AreShown inputs shown ×
+    Writes contents failures old new (written [] shown) result
+
+-- the rows of what changed of each file, with texts or without, and the status
+pub record ReportsChanges (texts : Bool) (before after : Watched) (rows : List Text) : Type 0 where
+  pub all : AllChanges before
+  pub is : rows ≡ changes_rows texts 0 all.changes ++ status_line all.status ∷ []
+  pub leaves : after ≡ all_known before
+
+-- the number of hits, at most `count` of them from number `first` on, and the status
+pub record ReportsPage (texts : Bool) (inputs : Inputs) (first count : ℕ)
+    (rows : List Text) : Type 0 where
+  pub all : AllHits inputs
+  pub is : rows ≡ page_lines texts first count all.view ++ status_line all.status ∷ []
+
 -- the reply to a step, and what it makes of the state
 abbrev pub RepliesTo : Step → ScriptState → List Text → ScriptState → Type 0
 RepliesTo (does edit) before reply after =
@@ -101,38 +139,20 @@ RepliesTo (sets_text on) before reply after =
 RepliesTo is_bad before reply after = (reply ≡ bad_command ∷ []) × (after ≡ before)
 RepliesTo is_truncated before reply after = (reply ≡ truncated ∷ []) × (after ≡ before)
 
--- the replies to some steps, one after the other, and what these make of the state
-abbrev pub Replies : List Step → ScriptState → List Text → ScriptState → Type 0
-Replies [] before replies after = (replies ≡ []) × (after ≡ before)
-Replies (step ∷ steps) before replies after =
-    (reply : List Text) × (between : ScriptState) × (rest : List Text) ×
-    RepliesTo step before reply between × Replies steps between rest after ×
-    (replies ≡ reply ++ rest)
-
--- ---- work
-
 -- a command takes this many steps of search at most: none, or what its edit costs; what is no edit
 -- searches nothing
 abbrev pub SearchesAtMost : Step → Inputs → ℕ → Type 0
 SearchesAtMost (does edit) before most = (most ≡ 0) ⊎ Costs edit before most
 SearchesAtMost _ before most = most ≡ 0
 
--- some commands, answered so, take this many together
-abbrev pub AllSearchAtMost : List Step → ScriptState → List Text → ScriptState → ℕ → Type 0
-AllSearchAtMost [] before replies after most = (replies ≡ []) × (after ≡ before) × (most ≡ 0)
-AllSearchAtMost (step ∷ steps) before replies after most =
-    (reply : List Text) × (between : ScriptState) × (given : List Text) × (own : ℕ) × (rest : ℕ) ×
+-- the replies to some steps, one after the other, what these make of the state, and how many steps
+-- of search they take at most
+abbrev pub Replies : List Step → ScriptState → List Text → ScriptState → ℕ → Type 0
+Replies [] before replies after most = (replies ≡ []) × (after ≡ before) × (most ≡ 0)
+Replies (step ∷ steps) before replies after most =
+    (reply : List Text) × (between : ScriptState) × (rest : List Text) × (own : ℕ) × (more : ℕ) ×
     RepliesTo step before reply between × SearchesAtMost step before.session.inputs own ×
-    AllSearchAtMost steps between given after rest × (replies ≡ reply ++ given) ×
-    (most ≡ own + rest)
-
--- the commands of a script, answered so, took no more steps of search, and passed no more bytes, than
--- their edits cost
-pub record SearchesTouched (before : ScriptState) (steps : List Step) (replies : List Text)
-    (after : ScriptState) (begun spent : StepCounts) : Type 0 where
-  pub most : ℕ
-  pub is_most : AllSearchAtMost steps before replies after most
-  pub few : AddsAtMost most begun spent
+    Replies steps between rest after more × (replies ≡ reply ++ rest) × (most ≡ own + more)
 
 -- ---- runs
 
@@ -140,20 +160,22 @@ pub record SearchesTouched (before : ScriptState) (steps : List Step) (replies :
 abbrev pub end_for : List Text → ScriptEnd
 end_for replies = if list_any is_refusal replies then Refused else Clean
 
--- the replies to the first steps of a script, whose lines are those of a file, with the lines
--- after them
-pub record AnswersScript (before : ScriptState) (file : File) (replies rest : List Text) : Type 0
-  where
-    pub steps : List Step
-    pub are_steps : Steps file.ending file.lines steps rest
-    pub after : ScriptState
-    pub are_replies : Replies steps before replies after
+-- the first steps of a script, whose lines are those of a file, with the lines after them, were
+-- answered so; no more steps of search were taken, and no more bytes passed, than their edits cost
+pub record AnswersScript (before : ScriptState) (file : File) (begun spent : StepCounts)
+    (replies rest : List Text) (after : ScriptState) : Type 0 where
+  pub steps : List Step
+  pub are_steps : Steps file.ending file.lines steps rest
+  pub most : ℕ
+  pub are_replies : Replies steps before replies after most
+  pub few : AddsAtMost most begun spent
 
 -- the bytes have, before others, the replies to all of some commands but the last
 pub record HasAllButLast (steps : List Step) (before : ScriptState) (bytes : Text) : Type 0 where
   pub sent : List Text
   pub between : ScriptState
-  pub are_replies : Replies (take (length (drop 1 steps)) steps) before sent between
+  pub most : ℕ
+  pub are_replies : Replies (take (length (drop 1 steps)) steps) before sent between most
   pub more : Text
   pub are_first : bytes ≡ written [] sent ++ more
 
@@ -182,14 +204,14 @@ pub record BeginsScript (known : Option Text) (failed_before failed : ℕ)
   pub none_failed : failed ≡ failed_before
 
 -- a reader gave these lines: the bytes that it had are those of the lines, those that were read
--- past them, and those that it has left; of these that were read, but for the last 65,536 bytes, all
--- are the beginning of one line
+-- past them, and those that it has left; but for the last ones, which a buffer holds, those that
+-- were read past them are the beginning of one line
 pub record GaveLines (known left : Option Text) (lines : List Text) : Type 0 where
   pub given : Text
   pub are_lines : lines_of given ≡ lines
   pub ahead : Text
   pub gave : Consumes known (prepend_known ahead left) given
-  pub few : HasNoNewline (take (length ahead - 65536) ahead)
+  pub few : IsOneLineAndFew ahead
 
 -- the rest of a script whose reading failed holds no whole command
 abbrev pub IsCutShort : List Text → Type 0
@@ -205,9 +227,7 @@ module _ {W : Type 0} (contents : W → Option Text) (failures : W → ℕ)
     pub reads : ReadsScript known left failed_before failed file
     pub is_whole : file.ending ≡ whole
     pub replies : List Text
-    pub answers : AnswersScript before file replies []
-    pub leaves : after ≡ answers.after
-    pub work : SearchesTouched before answers.steps replies answers.after begun spent
+    pub answers : AnswersScript before file begun spent replies [] after
     pub goes : GoesOut contents failures old new (written [] replies)
     pub ended : ending ≡ end_for replies
 
@@ -219,10 +239,8 @@ module _ {W : Type 0} (contents : W → Option Text) (failures : W → ℕ)
     pub is_broken : file.ending ≡ broken
     pub replies : List Text
     pub rest : List Text
-    pub answers : AnswersScript before file replies rest
-    pub leaves : after ≡ answers.after
+    pub answers : AnswersScript before file begun spent replies rest after
     pub cut_short : IsCutShort rest
-    pub work : SearchesTouched before answers.steps replies answers.after begun spent
     pub goes : GoesOut contents failures old new (written [] replies)
 
   -- an allocation failed: the lines that were read are those of all commands that were answered,
@@ -232,16 +250,12 @@ module _ {W : Type 0} (contents : W → Option Text) (failures : W → ℕ)
     pub reads : BeginsScript known failed_before failed file
     pub replies : List Text
     pub done : List Text
-    pub rest : List Text
-    pub is_file : file.lines ≡ done ++ rest
-    pub answers : AnswersScript before file replies rest
-    pub leaves : after ≡ answers.after
     pub first : List Text
     pub others : List Text
-    pub is_rest : rest ≡ first ++ others
+    pub is_file : file.lines ≡ done ++ (first ++ others)
+    pub answers : AnswersScript before file begun spent replies (first ++ others) after
     pub is_begun : IsBegun first
     pub were_read : has_read (done ++ first)
-    pub work : SearchesTouched before answers.steps replies answers.after begun spent
     pub goes : GoesOut contents failures old new (written [] replies)
 
   -- a write failed: the replies to the first commands were written, and a beginning of the last of
@@ -252,9 +266,9 @@ module _ {W : Type 0} (contents : W → Option Text) (failures : W → ℕ)
         ReadsScript known left failed_before failed file
     pub replies : List Text
     pub rest : List Text
-    pub answers : AnswersScript before file replies rest
-    pub leaves : IsUpToReport after answers.after
-    pub work : SearchesTouched before answers.steps replies answers.after begun spent
+    pub done : ScriptState
+    pub answers : AnswersScript before file begun spent replies rest done
+    pub leaves : IsUpToReport after done
     pub stops : StopsWithin contents failures old new (written [] replies)
     pub broken : HasAllButLast answers.steps before stops.front
 

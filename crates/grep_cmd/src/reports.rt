@@ -2,8 +2,8 @@
 ghost use Rattle.grep_core.specs.Row.{output_line};
 ghost use Rattle.grep_core.specs.Written.{Writes};
 ghost use Rattle.std.specs.Prelude.{[]};
-ghost use Rattle.grep_cmd.specs.Show.{Shows, status_line};
-ghost use Rattle.grep_cmd.specs.Lists.{WritesReport, WritesHits};
+ghost use Rattle.grep_cmd.specs.Replies.{Shows, status_line};
+ghost use Rattle.grep_cmd.specs.Working.Reported.{WritesReport, WritesHits};
 
 use grep_core::{CountedWrite, Status, WriteFault, write_line};
 use grep_live::{RowForm, changes, page};

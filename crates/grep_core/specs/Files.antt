@@ -22,6 +22,10 @@ abbrev pub AreMeant : Syntax → Options → List Text → List Expression → T
 AreMeant syntax options patterns es =
     AllZip (λ text e. IsMeant syntax options.ignore_case text e) patterns es
 
+-- the expressions that the patterns of the inputs mean
+abbrev pub Mean : Inputs → List Expression → Type 0
+Mean inputs es = AreMeant inputs.syntax inputs.options inputs.patterns es
+
 module _ (es : List Expression) (options : Options) where
   -- some expression matches some part of the line; under `-x` the whole line
   abbrev pub Matched : Text → Type 0

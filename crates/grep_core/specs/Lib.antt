@@ -15,6 +15,7 @@ pub use Rattle.re_search.specs.Searches
 pub mod Row
 pub mod Choose
 pub mod Files
+pub mod Options
 pub mod Around
 pub mod Output
 pub mod Messages

@@ -1,5 +1,6 @@
 //! The options of a run, and what they ask for.
 ghost use Rattle.std.specs.Prelude.{◌≡◌, ◌||◌, ◌↔◌, IsTrue, MatchOption};
+ghost use Rattle.grep_core.specs.Options.{option_of, with_option};
 ghost use Rattle.grep_core.specs.Output.{form, counts, around};
 ghost use Rattle.grep_core.specs.Working.OneLine.{IsPlain};
 ghost use Rattle.grep_core.specs.Working.Requests.{form_of, selects};
@@ -80,6 +81,40 @@ pub enum Form {
 }
 
 impl Options {
+    /// An option's value.
+    pub fn get(self, flag: Flag) -> bool
+        ensures { result ≡ option_of flag self }
+    {
+        match flag {
+            Flag::Count => self.count,
+            Flag::IgnoreCase => self.ignore_case,
+            Flag::FilesWithMatches => self.files_with_matches,
+            Flag::LineNumber => self.line_number,
+            Flag::OnlyMatching => self.only_matching,
+            Flag::Quiet => self.quiet,
+            Flag::NoMessages => self.no_messages,
+            Flag::InvertMatch => self.invert_match,
+            Flag::LineRegexp => self.line_regexp,
+        }
+    }
+
+    /// Sets an option to this value.
+    pub fn set(&mut self, flag: Flag, on: bool)
+        ensures { self.new ≡ with_option flag on self.old }
+    {
+        match flag {
+            Flag::Count => self.count = on,
+            Flag::IgnoreCase => self.ignore_case = on,
+            Flag::FilesWithMatches => self.files_with_matches = on,
+            Flag::LineNumber => self.line_number = on,
+            Flag::OnlyMatching => self.only_matching = on,
+            Flag::Quiet => self.quiet = on,
+            Flag::NoMessages => self.no_messages = on,
+            Flag::InvertMatch => self.invert_match = on,
+            Flag::LineRegexp => self.line_regexp = on,
+        }
+    }
+
     /// What the options ask for.
     #[inline]
     pub fn form(self) -> Form

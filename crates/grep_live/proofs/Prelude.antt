@@ -1,10 +1,11 @@
 -- The words of specs and of std that proofs of this crate use, passed on from one place. Declares nothing.
 pub use Rattle.grep_core.specs.Choose.{EachGives, IfHolds}
-pub use Rattle.grep_core.specs.Files.{AreMeant, File, HasSelected, Inputs, Selected}
+pub use Rattle.grep_core.specs.Files.{AreMeant, File, HasSelected, Inputs, Mean, Selected}
 pub use Rattle.grep_core.specs.Messages.{AnySelected, StatusOf}
 pub use Rattle.grep_core.specs.Output.{written}
 pub use Rattle.grep_core.specs.Row.{output_line}
 pub use Rattle.grep_core.specs.Run.{file_at}
+pub use Rattle.grep_core.specs.Options.{option_of, with_option}
 pub use Rattle.grep_core.specs.Written.{GoesOut, StopsWithin, Writes}
 pub use Rattle.grep_core.specs.declared.options.Context.{Context}
 pub use Rattle.grep_core.specs.declared.options.Flag.{Flag}
@@ -14,16 +15,15 @@ pub use Rattle.grep_core.specs.declared.status.Status.{Status}
 pub use Rattle.grep_io.specs.declared.devices.counted.WriteFault.{WriteFault}
 pub use Rattle.grep_live.specs.Changes.{AreChanges, AreWithin, Change, ChangesFile, after, after_each, all_after, hits_before, hits_from, is_idle, moved, spliced_hits}
 pub use Rattle.grep_live.specs.Follows.{Follows, FollowsFile, hits_at, view_after}
-pub use Rattle.grep_live.specs.Hits.{AreHits, Hit, HitOf, Hits, HitsFrom, View}
-pub use Rattle.grep_live.specs.Laws.{AreBetween, EachLeavesEnds, EachStays, EditsCarry, LeaveLine, LeavesEnds, LeavesHits, NothingTwice, OneSplice, OnlyTouched, Stays, UntouchedLines, changes_at, splices}
-pub use Rattle.grep_live.specs.Lists.{AllThree}
-pub use Rattle.grep_live.specs.Reported.{WritesChanges, WritesPage}
+pub use Rattle.grep_live.specs.Hits.{AllThree, AreHits, Hit, HitOf, Hits, HitsFrom, View}
+pub use Rattle.grep_live.specs.Laws.{AreBetween, EachLeavesEnds, EachStays, EditsCarry, LeaveLine, LeavesAll, LeavesEnds, NothingTwice, OneSplice, OnlyTouched, Stays, UntouchedLines, changes_at, splices}
+pub use Rattle.grep_live.specs.Reported.{AllChanges, WritesChanges, WritesPage}
 pub use Rattle.grep_live.specs.Rows.{all_hits, change_row, change_rows, changes_rows, hit_row, line_text, more_parts, page_row, page_rows, part_text, parts_text, spaced, total_row}
-pub use Rattle.grep_live.specs.Working.LineHits.{HitsBetween, IsFirst, IsPlaceAfter, Mean, SelectedBefore}
-pub use Rattle.grep_session.specs.Edits.{AddFile, AddMissing, AddPatterns, Applies, ChangePattern, DropFile, DropPattern, Edit, EditGives, Reads, SetContext, SetFlag, SetSyntax, Splice, missing_file, option_of, spliced, whole_file, with_context, with_files, with_option, with_patterns}
-pub use Rattle.grep_session.specs.Headline.{Attempt, IsStatusOfInputs, accepted, with_accepted}
+pub use Rattle.grep_live.specs.Working.LineHits.{HitsBetween, IsFirst, IsPlaceAfter, SelectedBefore}
+pub use Rattle.grep_session.specs.Edits.{AddFile, AddMissing, AddPatterns, Applies, ChangePattern, DropFile, DropPattern, Edit, EditGives, Reads, SetContext, SetFlag, SetSyntax, Splice, missing_file, spliced, whole_file, with_context, with_files, with_patterns}
+pub use Rattle.grep_session.specs.Headline.{Attempt, GrepGives, IsStatusOfInputs, accepted, with_accepted}
 pub use Rattle.grep_session.specs.Listed.{ListedParts}
-pub use Rattle.grep_session.specs.Marks.{AreFit, IsFit, MarksAfter, MarksGiven, Watched, all_known, mark_at, marks_by_flag}
+pub use Rattle.grep_session.specs.Marks.{AreFit, IsFit, MarksAfter, MarksGiven, Watched, all_known, changes_hits, mark_at}
 pub use Rattle.grep_session.specs.Working.Kept.{span_places}
 pub use Rattle.grep_session.specs.declared.fault.EditFault.{EditFault}
 pub use Rattle.grep_session.specs.declared.fault.EditFault.TheVariants.{FileIsMissing, LineHasNewline, Memory, NoSuchFile, NoSuchPattern, OutOfRange, Pattern, TooManyPatterns}

@@ -2,11 +2,10 @@
 use Rattle.std.specs.Prelude.{ℕ, ◌<◌, nat_eq, List, [], ◌∷◌, ◌++◌, map, length, get_or}
 use Rattle.std.specs.List.{filter, remove}
 use Rattle.re_syntax.specs.Expression.{Expression}
-use Rattle.grep_core.specs.Files.{File, Inputs, AreMeant}
+use Rattle.grep_core.specs.Files.{File, Inputs, Mean}
 use Rattle.grep_session.specs.Edits.{Edit, AddFile, AddMissing, DropFile}
 use Rattle.line_marks.specs.Stretches.{Marked, Keeps}
-use Rattle.grep_live.specs.Lists.{AllThree}
-use Rattle.grep_live.specs.Hits.{Hit, View, HitOf}
+use Rattle.grep_live.specs.Hits.{AllThree, Hit, View, HitOf}
 use Rattle.grep_live.specs.Changes.{AreWithin, moved}
 use Rattle.grep_session.specs.Marks.{Watched}
 
@@ -19,8 +18,7 @@ hits_at place hits = filter (λ hit. nat_eq hit.place place) hits
 pub record FollowsFile (inputs : Inputs) (file : File) (mark : Marked)
     (hits : List Hit) : Type 0 where
   pub in_order : AreWithin 0 mark.known hits
-  pub untouched : (es : List Expression) →
-      AreMeant inputs.syntax inputs.options inputs.patterns es → (old new : ℕ) →
+  pub untouched : (es : List Expression) → Mean inputs es → (old new : ℕ) →
       Keeps mark.stretches old new → new < length file.lines →
       HitOf es inputs.options (new, get_or file.lines new [])
       (map (moved old new) (hits_at old hits))

@@ -1,5 +1,5 @@
 -- Hits: the selected lines of files, as an editor lists them.
-use Rattle.std.specs.Prelude.{◌≡◌, ℕ, List, [], ◌∷◌}
+use Rattle.std.specs.Prelude.{◌≡◌, ℕ, List, [], ◌∷◌, ⊤}
 use Rattle.std.specs.List.{enumerate_from, AllZip}
 use Rattle.re_syntax.specs.Bytes.{Text}
 use Rattle.re_syntax.specs.Expression.{Expression}
@@ -7,6 +7,15 @@ use Rattle.grep_core.specs.declared.options.Options.{Options}
 use Rattle.grep_core.specs.Choose.{IfHolds, EachGives}
 use Rattle.grep_core.specs.Files.{File, Selected}
 use Rattle.grep_session.specs.Listed.{ListedParts}
+
+-- three lists are of one length, and R holds of their elements at each place
+abbrev pub AllThree : {A B C : Type 0} → (A → B → C → Type 0) → List A → List B → List C → Type 0
+AllThree R [] [] [] = ⊤
+AllThree R [] [] (z ∷ zs) = ⊥
+AllThree R [] (y ∷ ys) zs = ⊥
+AllThree R (x ∷ xs) [] zs = ⊥
+AllThree R (x ∷ xs) (y ∷ ys) [] = ⊥
+AllThree R (x ∷ xs) (y ∷ ys) (z ∷ zs) = R x y z × AllThree R xs ys zs
 
 -- a selected line: its place in its file, counted from 0, its text, and its listed parts, each from
 -- its first byte to the place after its last

@@ -1,25 +1,21 @@
 -- Laws of the definitions.
 use Rattle.std.specs.Prelude.{◌≡◌, ◌≢◌, ℕ, ◌+◌, ◌-◌, ◌<◌, ◌≤◌, ◌⊎◌, ⊤, List, [], ◌∷◌}
-use Rattle.std.specs.Prelude.{Bool, length, get_or, Result, Ok, Err, IfOk, MatchResult}
+use Rattle.std.specs.Prelude.{Bool, false, length, get_or, Result, Ok, Err, IfOk, MatchResult}
 use Rattle.re_syntax.specs.Bytes.{Text}
 use Rattle.re_syntax.specs.Expression.{Expression}
-use Rattle.grep_core.specs.declared.options.Flag.{Flag}
-use Rattle.grep_core.specs.declared.options.Flag.TheVariants.{IgnoreCase, OnlyMatching}
-use Rattle.grep_core.specs.declared.options.Flag.TheVariants.{InvertMatch, LineRegexp}
+use Rattle.grep_core.specs.Options.{option_of}
 use Rattle.grep_core.specs.Choose.{IfHolds}
 use Rattle.grep_core.specs.Files.{Inputs}
 use Rattle.grep_core.specs.Run.{file_at}
-use Rattle.grep_session.specs.Edits.{Edit, AddFile, AddMissing, DropFile, Splice, AddPatterns}
-use Rattle.grep_session.specs.Edits.{DropPattern, ChangePattern, SetFlag, SetSyntax, SetContext}
-use Rattle.grep_session.specs.Edits.{option_of}
-use Rattle.grep_session.specs.Edits.{Applies, EditGives}
+use Rattle.grep_session.specs.Edits.{Edit, AddFile, AddMissing, DropFile, Splice, ChangePattern}
+use Rattle.grep_session.specs.Edits.{SetFlag, SetSyntax, SetContext, Applies, EditGives}
 use Rattle.grep_session.specs.Headline.{Attempt, accepted}
 use Rattle.grep_session.specs.declared.fault.EditFault.{EditFault}
 use Rattle.line_marks.specs.Stretches.{Moves, most_stretches}
-use Rattle.grep_live.specs.Hits.{Hit, View}
+use Rattle.grep_live.specs.Hits.{AllThree, Hit, View}
 use Rattle.grep_live.specs.Follows.{Follows, view_after}
-use Rattle.grep_live.specs.Lists.{AllThree}
-use Rattle.grep_session.specs.Marks.{Watched, all_known, AreFit, MarksAfter, MarksGiven}
+use Rattle.grep_session.specs.Marks.{Watched, all_known, changes_hits, AreFit, MarksAfter}
+use Rattle.grep_session.specs.Marks.{MarksGiven}
 use Rattle.grep_live.specs.Changes.{Change, ChangesFile, AreWithin}
 use Rattle.grep_live.specs.Rows.{change_rows, changes_rows}
 
@@ -81,13 +77,14 @@ OneSplice =
 
 -- ---- what is reported after edits that leave lines of a file as they are
 
--- an option that changes neither which lines are selected nor which parts are listed
-abbrev pub LeavesHits : Flag → Type 0
-LeavesHits IgnoreCase = ⊥
-LeavesHits OnlyMatching = ⊥
-LeavesHits InvertMatch = ⊥
-LeavesHits LineRegexp = ⊥
-LeavesHits _ = ⊤
+-- an edit leaves all files, which of their lines are selected and which parts are listed
+abbrev pub LeavesAll : Edit → Inputs → Type 0
+LeavesAll (ChangePattern p text) old = text ≡ get_or old.patterns p []
+LeavesAll (SetFlag flag on) old =
+    (changes_hits flag ≡ false) ⊎ (option_of flag old.options ≡ on)
+LeavesAll (SetSyntax syntax) old = syntax ≡ old.syntax
+LeavesAll (SetContext context) old = ⊤
+LeavesAll _ old = ⊥
 
 -- an edit leaves the number of file k, its first `front` lines, its last `back` lines, and which
 -- hits these lines have
@@ -97,12 +94,7 @@ LeavesEnds k front back (AddMissing name) old = ⊤
 LeavesEnds k front back (DropFile other) old = k < other
 LeavesEnds k front back (Splice other start count lines) old =
     (other ≢ k) ⊎ ((front ≤ start) × (start + count + back ≤ length (file_at old.files k).lines))
-LeavesEnds k front back (AddPatterns list) old = ⊥
-LeavesEnds k front back (DropPattern p) old = ⊥
-LeavesEnds k front back (ChangePattern p text) old = text ≡ get_or old.patterns p []
-LeavesEnds k front back (SetFlag flag on) old = LeavesHits flag ⊎ (option_of flag old.options ≡ on)
-LeavesEnds k front back (SetSyntax syntax) old = syntax ≡ old.syntax
-LeavesEnds k front back (SetContext context) old = ⊤
+LeavesEnds k front back edit old = LeavesAll edit old
 
 -- edits that were tried, one after the other, lead from an old to a new state, and each that was
 -- accepted leaves these ends of file k
@@ -145,14 +137,7 @@ Stays k line (DropFile other) old j now =
     (((k < other) × (j ≡ k)) ⊎ ((other < k) × (j + 1 ≡ k))) × (now ≡ line)
 Stays k line (Splice other start count lines) old j now =
     (j ≡ k) × IfHolds (other ≡ k) (Moves start count (length lines) line now) (now ≡ line)
-Stays k line (AddPatterns list) old j now = ⊥
-Stays k line (DropPattern p) old j now = ⊥
-Stays k line (ChangePattern p text) old j now =
-    (text ≡ get_or old.patterns p []) × (j ≡ k) × (now ≡ line)
-Stays k line (SetFlag flag on) old j now =
-    (LeavesHits flag ⊎ (option_of flag old.options ≡ on)) × (j ≡ k) × (now ≡ line)
-Stays k line (SetSyntax syntax) old j now = (syntax ≡ old.syntax) × (j ≡ k) × (now ≡ line)
-Stays k line (SetContext context) old j now = (j ≡ k) × (now ≡ line)
+Stays k line edit old j now = LeavesAll edit old × (j ≡ k) × (now ≡ line)
 
 -- edits that were tried, one after the other, lead from an old to a new state, and each that was
 -- accepted leaves this line

@@ -2,7 +2,6 @@
 pub use Rattle.grep_session.specs.Edits
 pub use Rattle.grep_session.specs.Marks
 -- what an editor lists of a session
-pub mod Lists
 pub mod Hits
 pub mod Changes
 pub mod Follows

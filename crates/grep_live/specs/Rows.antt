@@ -1,6 +1,6 @@
 -- How changes and pages are written (occur(1), REPLIES).
-use Rattle.std.specs.Prelude.{ℕ, ◌+◌, List, [], ◌∷◌, ◌++◌, map, length, take, drop, codes}
-use Rattle.std.specs.Prelude.{Bool, if◌then◌else◌}
+use Rattle.std.specs.Prelude.{ℕ, ◌+◌, ◌-◌, ◌^◌, min, List, [], ◌∷◌, ◌++◌, map, length, take, drop}
+use Rattle.std.specs.Prelude.{Bool, if◌then◌else◌, codes}
 use Rattle.std.specs.List.{flat_map}
 use Rattle.std.specs.Fmt.{decimal}
 use Rattle.re_syntax.specs.Bytes.{Text}
@@ -71,3 +71,9 @@ module _ (texts : Bool) where
   -- of all hits, numbered from 0, at most `count` from number `first` on
   abbrev pub page_rows : ℕ → ℕ → List (ℕ × Hit) → List Text
   page_rows first count all = map page_row (take count (drop first all))
+
+  -- the number of all hits, or the greatest u64, and those of the page
+  abbrev pub page_lines : ℕ → ℕ → View → List Text
+  page_lines first count view =
+      total_row (min (length (all_hits 0 view)) (2 ^ 64 - 1)) ∷
+      page_rows first count (all_hits 0 view)

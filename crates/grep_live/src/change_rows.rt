@@ -6,11 +6,11 @@ ghost use Rattle.grep_core.specs.Output.{written};
 ghost use Rattle.grep_core.specs.Run.{file_at};
 ghost use Rattle.grep_core.specs.Written.{Writes};
 ghost use Rattle.grep_session.specs.Marks.{AreFit, IsFit};
-ghost use Rattle.grep_live.specs.Lists.{AllThree};
-ghost use Rattle.grep_live.specs.Hits.{Hit};
+ghost use Rattle.grep_live.specs.Hits.{AllThree, Hit};
 ghost use Rattle.grep_live.specs.Changes.{Change, ChangesFile};
 ghost use Rattle.grep_live.specs.Rows.{hit_row, change_row, change_rows, changes_rows};
-ghost use Rattle.grep_live.specs.Working.LineHits.{Mean, HitsBetween};
+ghost use Rattle.grep_live.specs.Working.LineHits.{HitsBetween};
+ghost use Rattle.grep_core.specs.Files.{Mean};
 
 use crate::hits::{LineRange, count_hits, first_hit};
 use crate::row_form::RowForm;

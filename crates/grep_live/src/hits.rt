@@ -4,7 +4,8 @@ ghost use Rattle.re_syntax.specs.Expression.{Expression};
 ghost use Rattle.grep_core.specs.Run.{file_at};
 ghost use Rattle.grep_session.specs.Working.Kept.{span_places};
 ghost use Rattle.grep_live.specs.Hits.{Hit};
-ghost use Rattle.grep_live.specs.Working.LineHits.{Mean, HitsBetween, IsFirst, IsPlaceAfter};
+ghost use Rattle.grep_live.specs.Working.LineHits.{HitsBetween, IsFirst, IsPlaceAfter};
+ghost use Rattle.grep_core.specs.Files.{Mean};
 
 use crate::placed_hit::PlacedHit;
 use grep_session::Session;

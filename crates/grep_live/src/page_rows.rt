@@ -6,8 +6,9 @@ ghost use Rattle.grep_core.specs.Run.{file_at};
 ghost use Rattle.grep_core.specs.Written.{Writes};
 ghost use Rattle.grep_live.specs.Hits.{Hit, View, AreHits};
 ghost use Rattle.grep_live.specs.Rows.{all_hits, page_rows, total_row};
-ghost use Rattle.grep_live.specs.Working.LineHits.{Mean, HitsBetween};
+ghost use Rattle.grep_live.specs.Working.LineHits.{HitsBetween};
 ghost use Rattle.grep_live.specs.Working.PageRest.{IsRest};
+ghost use Rattle.grep_core.specs.Files.{Mean};
 
 use crate::hits::{LineRange, count_file, first_hit, place_after};
 use crate::row_form::RowForm;

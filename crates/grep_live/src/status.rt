@@ -4,7 +4,7 @@ ghost use Rattle.std.specs.Bool.{Decides};
 ghost use Rattle.re_syntax.specs.Expression.{Expression};
 ghost use Rattle.grep_core.specs.Messages.{AnySelected};
 ghost use Rattle.grep_session.specs.Headline.{IsStatusOfInputs};
-ghost use Rattle.grep_live.specs.Working.LineHits.{Mean};
+ghost use Rattle.grep_core.specs.Files.{Mean};
 
 use grep_core::Status;
 use grep_session::Session;

@@ -6,12 +6,13 @@ pub use Rattle.grep_core.specs.Files.{AreMeant, File, HasSelected, Inputs, Match
 pub use Rattle.grep_core.specs.Matchers.{IsFirstRefused}
 pub use Rattle.grep_core.specs.Messages.{AnySelected, FaultMet, Message, Messages, Reached, StatusOf, Stops, message}
 pub use Rattle.grep_core.specs.Meters.{Steps}
+pub use Rattle.grep_core.specs.Options.{option_of, with_option}
 pub use Rattle.grep_core.specs.Output.{Form, Out, OutAs, SelectedLines, around, counts, form, lines, lines_with, names, nothing, parts, shown_name, shown_number, written}
 pub use Rattle.grep_core.specs.Row.{output_line}
 pub use Rattle.grep_core.specs.Run.{file_at}
 pub use Rattle.grep_core.specs.Working.Groups.{GroupedAs, rows_after}
 pub use Rattle.grep_core.specs.Working.Handed.{file_so_far}
-pub use Rattle.grep_core.specs.Working.MatcherLists.{AreMatchers}
+pub use Rattle.grep_core.specs.Working.MatcherLists.{AreMatchers, KeepAtMost}
 pub use Rattle.grep_core.specs.Working.OneLine.{IsPlain, LineRowsOf, RowsOfSelected}
 pub use Rattle.grep_core.specs.Working.Progress.{row_by}
 pub use Rattle.grep_core.specs.Working.Requests.{name_shown}
@@ -24,23 +25,18 @@ pub use Rattle.grep_core.specs.declared.options.Options.{Options}
 pub use Rattle.grep_core.specs.declared.status.FileEnd.{FileEnd}
 pub use Rattle.grep_core.specs.declared.status.FileEnd.TheVariants.{Missing, Whole}
 pub use Rattle.grep_core.specs.declared.status.Status.{Status}
-pub use Rattle.grep_session.specs.Edits.{AddFile, AddMissing, AddPatterns, Applies, ChangePattern, DropFile, DropPattern, Edit, EditGives, HasPlace, Reads, SetContext, SetFlag, SetSyntax, Splice, no_inputs, option_of, spliced, whole_file, with_files, with_option, with_patterns}
+pub use Rattle.grep_session.specs.Edits.{AddFile, AddMissing, AddPatterns, Applies, ChangePattern, DropFile, DropPattern, Edit, EditGives, HasPlace, Reads, SetContext, SetFlag, SetSyntax, Splice, no_inputs, spliced, whole_file, with_files, with_patterns}
 pub use Rattle.grep_session.specs.Headline.{AcceptedEditsDecide, Attempt, ComesTo, GrepGives, IsStatusOfInputs, Makes, ReportsAllInputs, ReportsInputs, accepted, with_accepted}
 pub use Rattle.grep_session.specs.Laws.{AreAlike, EditsAreDetermined}
 pub use Rattle.grep_session.specs.Listed.{ListedParts}
-pub use Rattle.grep_session.specs.Marks.{AreFit, IsFit, MarksAfter, MarksGiven, Watched, known_marks, mark_at}
+pub use Rattle.grep_session.specs.Marks.{AreFit, IsFit, MarksAfter, MarksGiven, Watched, changes_hits, known_marks, mark_at}
 pub use Rattle.grep_session.specs.Touched.{Costs, CostsAccepted, CostsAs, Narrows, NeedsNoMemory, TakesSteps, Touched, Touches, all_lines, pairs_cost, parting, parts_alone, searched_by, touched_by_flag}
 pub use Rattle.grep_session.specs.Working.Again.{AreReadable, ReadsAgain, read_as}
 pub use Rattle.grep_session.specs.Working.Changed.{HasChanged, HasNewParts, IsParted, IsSought, SearchesEach, anew, exchanged}
 pub use Rattle.grep_session.specs.Working.Columns.{AddsColumn, AddsColumns, AreAllParts, AreLeft, AreMatches, ArePartsAgain, IsNextLine, StaysSame, came, had_gone, has_new_parts, is_parted, is_sought, marked_cost, next_line_cost}
-pub use Rattle.grep_session.specs.Working.Counts.{SelectedFrom}
-pub use Rattle.grep_session.specs.Working.Effects.{LosesAll}
-pub use Rattle.grep_session.specs.Working.Found.{IsColumn, chunks_of, chunks_of_files, lines_of_files}
-pub use Rattle.grep_session.specs.Working.Kept.{AddsMatching, AreMatching, ArePartsKept, IsFileKept, IsKept, IsNew, file_with, has_number, kept_file, kept_lines, span_places}
-pub use Rattle.grep_session.specs.Working.ListedParts.{listed_spans}
-pub use Rattle.grep_session.specs.Working.PatternRefusals.{RefusesFirst, reported_at, reported_by}
-pub use Rattle.grep_session.specs.Working.Report.{FileFits, LinesFit, NextShown, OnLine, PartsFit, Reports, ReportsMessages, WritesGroups, any_missing, any_selected, around_rows, context_as, end_of, end_with, has_selected, has_selected_in, is_faulty, is_selected, matches_none, part_rows, place_rows, selected_count, some_selected, status_by_files, status_given}
-pub use Rattle.grep_session.specs.Working.Rooms.{KeepAtMost}
+pub use Rattle.grep_session.specs.Working.Kept.{AddsMatching, AreMatching, ArePartsKept, IsColumn, IsFileKept, IsKept, IsNew, chunks_of, chunks_of_files, file_with, has_number, kept_file, kept_lines, lines_of_files, listed_spans, span_places}
+pub use Rattle.grep_session.specs.Working.Refusals.{RefusesFirst, reported_at, reported_by}
+pub use Rattle.grep_session.specs.Working.Report.{FileFits, NextShown, OnLine, PartsFit, Reports, ReportsMessages, SelectedFrom, WritesGroups, any_missing, any_selected, around_rows, context_as, end_of, end_with, has_selected, has_selected_in, is_faulty, is_selected, matches_none, part_rows, place_rows, selected_count, some_selected, status_by_files, status_given}
 pub use Rattle.grep_session.specs.Working.Sessions.{IsSession, LosesMarks, SplicesMark, inputs_of, watched_of}
 pub use Rattle.grep_session.specs.declared.change.Change.{Change}
 pub use Rattle.grep_session.specs.declared.fault.EditFault.{EditFault}

@@ -1,6 +1,6 @@
 -- The edits of a session, and the inputs that each leaves.
-use Rattle.std.specs.Prelude.{◌≡◌, ◌≢◌, ℕ, ◌+◌, ◌<◌, ◌≤◌, Bool, false, List, [], ◌∷◌, ◌++◌, length}
-use Rattle.std.specs.Prelude.{Option, None, Result, Ok, Err, All, slice_set}
+use Rattle.std.specs.Prelude.{◌≡◌, ◌≢◌, ℕ, ◌+◌, ◌<◌, ◌≤◌, Bool, List, [], ◌∷◌, ◌++◌, length}
+use Rattle.std.specs.Prelude.{Option, Result, Ok, Err, All, slice_set}
 use Rattle.std.specs.List.{splice, remove}
 use Rattle.re_syntax.specs.declared.fault.PatternFault.{PatternFault}
 use Rattle.re_syntax.specs.declared.syntax.Syntax.{Syntax}
@@ -9,11 +9,8 @@ use Rattle.re_syntax.specs.Bytes.{Text}
 use Rattle.re_syntax.specs.Lines.{HasNoNewline, list_of}
 use Rattle.re_search.specs.Reading.{IsReadable}
 use Rattle.grep_core.specs.declared.options.Flag.{Flag}
-use Rattle.grep_core.specs.declared.options.Flag.TheVariants.{Count, IgnoreCase, FilesWithMatches}
-use Rattle.grep_core.specs.declared.options.Flag.TheVariants.{LineNumber, OnlyMatching, Quiet}
-use Rattle.grep_core.specs.declared.options.Flag.TheVariants.{NoMessages, InvertMatch, LineRegexp}
 use Rattle.grep_core.specs.declared.options.Context.{Context}
-use Rattle.grep_core.specs.declared.options.Options.{Options}
+use Rattle.grep_core.specs.Options.{no_options, with_option}
 use Rattle.grep_core.specs.Choose.{IfHolds}
 use Rattle.grep_core.specs.Files.{File, Inputs, whole, missing}
 use Rattle.re_syntax.specs.Profile.{most_patterns}
@@ -43,45 +40,6 @@ pub data Edit : Type 0 where
   SetSyntax : Syntax → Edit
   -- sets how many lines are shown around selected ones, or that none are
   SetContext : Option Context → Edit
-
--- an option's value
-abbrev pub option_of : Flag → Options → Bool
-option_of Count options = options.count
-option_of IgnoreCase options = options.ignore_case
-option_of FilesWithMatches options = options.files_with_matches
-option_of LineNumber options = options.line_number
-option_of OnlyMatching options = options.only_matching
-option_of Quiet options = options.quiet
-option_of NoMessages options = options.no_messages
-option_of InvertMatch options = options.invert_match
-option_of LineRegexp options = options.line_regexp
-
--- the options with one of them set to this value
-abbrev pub with_option : Flag → Bool → Options → Options
-with_option Count on options = record options { count = on }
-with_option IgnoreCase on options = record options { ignore_case = on }
-with_option FilesWithMatches on options = record options { files_with_matches = on }
-with_option LineNumber on options = record options { line_number = on }
-with_option OnlyMatching on options = record options { only_matching = on }
-with_option Quiet on options = record options { quiet = on }
-with_option NoMessages on options = record options { no_messages = on }
-with_option InvertMatch on options = record options { invert_match = on }
-with_option LineRegexp on options = record options { line_regexp = on }
-
-abbrev pub no_options : Options
-no_options =
-    record {
-      count = false;
-      ignore_case = false;
-      files_with_matches = false;
-      line_number = false;
-      only_matching = false;
-      quiet = false;
-      no_messages = false;
-      invert_match = false;
-      line_regexp = false;
-      context = None;
-    }
 
 -- the inputs of a new session: no file, no pattern, basic syntax, and no option
 abbrev pub no_inputs : Inputs

@@ -6,7 +6,7 @@ use Rattle.std.specs.Prelude.{◌≡◌, ℕ, List, [], ◌∷◌, ◌++◌, Opt
 use Rattle.re_syntax.specs.Bytes.{Text}
 use Rattle.re_syntax.specs.Expression.{Expression}
 use Rattle.grep_core.specs.declared.status.Status.{Status}
-use Rattle.grep_core.specs.Files.{Inputs, AreMeant}
+use Rattle.grep_core.specs.Files.{Inputs, Mean}
 use Rattle.grep_core.specs.Messages.{Messages, StatusOf}
 use Rattle.grep_core.specs.Output.{Out, written}
 use Rattle.grep_core.specs.Written.{Writes}
@@ -17,9 +17,12 @@ use Rattle.grep_session.specs.Edits.{Edit, Applies, EditGives, no_inputs}
 
 -- what grep writes to standard output and to standard error for these inputs, and its status (XCU
 -- grep, STDOUT, STDERR and EXIT STATUS)
-pub record GrepGives (inputs : Inputs) (out reported : List Text) (status : Status) : Type 0 where
+pub record GrepGives (inputs : Inputs) : Type 0 where
+  pub out : List Text
+  pub reported : List Text
+  pub status : Status
   pub es : List Expression
-  pub are_meant : AreMeant inputs.syntax inputs.options inputs.patterns es
+  pub are_meant : Mean inputs es
   pub is_output : Out es inputs.options inputs.files out
   pub are_messages : Messages es inputs.options inputs.files reported
   pub is_status : StatusOf es inputs.options inputs.files status
@@ -31,27 +34,20 @@ module _ {W : Type 0} (contents : W → Option Text) (failures : W → ℕ) (inp
   -- the output was written, each line after the margin, and the answer is the status; or a write
   -- failed, and a beginning of the output was written
   pub record ReportsInputs {E : Type 0} (result : Result Status E) : Type 0 where
-    pub out : List Text
-    pub reported : List Text
-    pub status : Status
-    pub gives : GrepGives inputs out reported status
-    pub wrote : Writes contents failures old new (written margin out) result
-    pub answered : IfOk result (λ answer. answer ≡ status)
+    pub grep : GrepGives inputs
+    pub wrote : Writes contents failures old new (written margin grep.out) result
+    pub answered : IfOk result (λ answer. answer ≡ grep.status)
 
   -- the messages were written, each after the margin; or a write failed, and a beginning of them
   -- was written
   pub record ReportsAllInputs {T E : Type 0} (result : Result T E) : Type 0 where
-    pub out : List Text
-    pub reported : List Text
-    pub status : Status
-    pub gives : GrepGives inputs out reported status
-    pub wrote : Writes contents failures old new (written margin reported) result
+    pub grep : GrepGives inputs
+    pub wrote : Writes contents failures old new (written margin grep.reported) result
 
 -- the status is the one for the inputs
 pub record IsStatusOfInputs (inputs : Inputs) (status : Status) : Type 0 where
-  pub out : List Text
-  pub reported : List Text
-  pub gives : GrepGives inputs out reported status
+  pub grep : GrepGives inputs
+  pub answered : status ≡ grep.status
 
 -- ---- lists of edits
 
@@ -95,6 +91,5 @@ pub record AcceptedEditsDecide : Type 0 where
       ComesTo (tried ++ last ∷ []) no_inputs new
       → (left : Inputs) × Makes (accepted tried) no_inputs left ×
       EditGives last.edit left new last.answer
-  pub one_report : (inputs : Inputs) (out more reported reported_too : List Text) (status other : Status) →
-      GrepGives inputs out reported status → GrepGives inputs more reported_too other
-      → (more ≡ out) × (reported_too ≡ reported) × (other ≡ status)
+  pub one_report : (inputs : Inputs) (a b : GrepGives inputs) →
+      (b.out ≡ a.out) × (b.reported ≡ a.reported) × (b.status ≡ a.status)

@@ -1,16 +1,17 @@
 -- Marks: which lines of each file edits left untouched since its changes were last reported.
 use Rattle.std.specs.Prelude.{◌≡◌, ℕ, List, [], ◌∷◌, ◌++◌, map, length}
-use Rattle.std.specs.Prelude.{get_or, slice_set, Result, Ok, Err}
+use Rattle.std.specs.Prelude.{get_or, slice_set, Result, Ok, Err, Bool, true, false, if◌then◌else◌}
 use Rattle.std.specs.List.{remove, AllZip}
 use Rattle.grep_core.specs.declared.options.Flag.{Flag}
 use Rattle.grep_core.specs.declared.options.Flag.TheVariants.{IgnoreCase, OnlyMatching}
 use Rattle.grep_core.specs.declared.options.Flag.TheVariants.{InvertMatch, LineRegexp}
+use Rattle.grep_core.specs.Options.{option_of}
 use Rattle.grep_core.specs.Choose.{IfHolds}
 use Rattle.grep_core.specs.Files.{File, Inputs}
 use Rattle.grep_session.specs.declared.fault.EditFault.{EditFault}
 use Rattle.grep_session.specs.Edits.{Edit, AddFile, AddMissing, DropFile, Splice, AddPatterns}
 use Rattle.grep_session.specs.Edits.{DropPattern, ChangePattern, SetFlag, SetSyntax, SetContext}
-use Rattle.grep_session.specs.Edits.{option_of, no_inputs}
+use Rattle.grep_session.specs.Edits.{no_inputs}
 use Rattle.line_marks.specs.Stretches.{Marked, Fits, Splices, whole_mark, new_mark, lost}
 
 -- what an editor sees of a session: its inputs, a mark for each file, and how many states each of
@@ -43,12 +44,12 @@ abbrev pub AreFit : List File → List Marked → Type 0
 AreFit files marks = AllZip IsFit files marks
 
 -- after a change of one of these options other lines may be selected, or other parts listed
-abbrev pub marks_by_flag : Flag → List Marked → List Marked
-marks_by_flag IgnoreCase marks = map lost marks
-marks_by_flag OnlyMatching marks = map lost marks
-marks_by_flag InvertMatch marks = map lost marks
-marks_by_flag LineRegexp marks = map lost marks
-marks_by_flag _ marks = marks
+abbrev pub changes_hits : Flag → Bool
+changes_hits IgnoreCase = true
+changes_hits OnlyMatching = true
+changes_hits InvertMatch = true
+changes_hits LineRegexp = true
+changes_hits _ = false
 
 -- the marks that an accepted edit leaves: a splice leaves the other lines of its file untouched;
 -- where other lines may be selected, or other parts listed, no line is
@@ -66,7 +67,7 @@ MarksAfter (ChangePattern p text) old marks =
     (marks ≡ map lost old.marks)
 MarksAfter (SetFlag flag on) old marks =
     IfHolds (option_of flag old.inputs.options ≡ on) (marks ≡ old.marks)
-    (marks ≡ marks_by_flag flag old.marks)
+    (marks ≡ (if changes_hits flag then map lost old.marks else old.marks))
 MarksAfter (SetSyntax syntax) old marks =
     IfHolds (syntax ≡ old.inputs.syntax) (marks ≡ old.marks) (marks ≡ map lost old.marks)
 MarksAfter (SetContext context) old marks = marks ≡ old.marks

@@ -14,14 +14,15 @@ use Rattle.grep_core.specs.Meters.{Steps, AddsAtMost}
 use Rattle.grep_core.specs.declared.options.Flag.{Flag}
 use Rattle.grep_core.specs.declared.options.Flag.TheVariants.{IgnoreCase, OnlyMatching, LineRegexp}
 use Rattle.grep_core.specs.declared.options.Options.{Options}
+use Rattle.grep_core.specs.Options.{option_of}
 use Rattle.grep_core.specs.Choose.{IfHolds, Chosen}
 use Rattle.grep_core.specs.Cost.{search_cost}
-use Rattle.grep_core.specs.Files.{Inputs, AreMeant, Matched}
+use Rattle.grep_core.specs.Files.{Inputs, AreMeant, Matched, Mean}
 use Rattle.re_syntax.specs.Profile.{most_patterns}
 use Rattle.grep_session.specs.declared.fault.EditFault.{EditFault}
-use Rattle.grep_session.specs.Edits.{Edit, AddFile, AddMissing, DropFile, Splice, AddPatterns}
+use Rattle.grep_session.specs.Edits.{Edit, AddFile, DropFile, Splice, AddPatterns}
 use Rattle.grep_session.specs.Edits.{DropPattern, ChangePattern, SetFlag, SetSyntax, SetContext}
-use Rattle.grep_session.specs.Edits.{option_of, HasPlace, Applies}
+use Rattle.grep_session.specs.Edits.{HasPlace, Applies}
 
 -- what an edit has searched: each of `paired` by that number of patterns, and the parts of those of
 -- `lines` that some pattern matches after it
@@ -88,9 +89,7 @@ Touches (SetFlag flag on) old touched =
 Touches (SetSyntax syntax) old touched =
     IfHolds (syntax ≡ old.syntax) (touched ≡ nothing_touched)
     (touched ≡ searched_by (length old.patterns) (all_lines old))
-Touches (AddMissing name) old touched = touched ≡ nothing_touched
-Touches (DropFile k) old touched = touched ≡ nothing_touched
-Touches (SetContext context) old touched = touched ≡ nothing_touched
+Touches _ old touched = touched ≡ nothing_touched
 
 -- the cost of searching each of the lines once by each of this number of patterns
 abbrev pub pairs_cost : ℕ → List Text → ℕ
@@ -106,7 +105,7 @@ parting es options = if options.only_matching then length es else 0
 -- and of the parts of those of the lines that some pattern matches
 pub record CostsAccepted (edit : Edit) (old new : Inputs) (cost : ℕ) : Type 0 where
   pub es : List Expression
-  pub are_meant : AreMeant new.syntax new.options new.patterns es
+  pub are_meant : Mean new es
   pub touched : Touched
   pub are_touched : Touches edit old touched
   pub parted : List Text
@@ -140,8 +139,6 @@ is_of_output _ = ⊤
 -- the edits that ask for no memory: those that only remove something, change only what is written,
 -- or set what is set already; and those refused for a file, a place or the number of patterns
 abbrev pub NeedsNoMemory : Edit → Inputs → Type 0
-NeedsNoMemory (AddFile name lines) old = ⊥
-NeedsNoMemory (AddMissing name) old = ⊥
 NeedsNoMemory (DropFile k) old = ⊤
 NeedsNoMemory (Splice k start count lines) old =
     (lines ≡ []) ⊎ (HasPlace old.files k start count → ⊥)
@@ -153,3 +150,4 @@ NeedsNoMemory (SetFlag flag on) old =
     is_of_output flag ⊎ ((option_of flag old.options ≡ on) ⊎ ((flag ≡ OnlyMatching) × (on ≡ false)))
 NeedsNoMemory (SetSyntax syntax) old = syntax ≡ old.syntax
 NeedsNoMemory (SetContext context) old = ⊤
+NeedsNoMemory _ old = ⊥

@@ -1,14 +1,8 @@
 pub mod Kept
 pub mod Sessions
-pub mod SplicePlaces
-pub mod Found
-pub mod PatternRefusals
 pub mod Again
 pub mod Effects
 pub mod Report
-pub mod ListedParts
 pub mod Changed
-pub mod Copied
 pub mod Columns
-pub mod Counts
-pub mod Rooms
+pub mod Refusals

@@ -1,6 +1,6 @@
 //! How much the matchers of a session keep.
 ghost use Rattle.std.specs.Prelude.{◌*◌, ◌≤◌, length};
-ghost use Rattle.grep_session.specs.Working.Rooms.{KeepAtMost};
+ghost use Rattle.grep_core.specs.Working.MatcherLists.{KeepAtMost};
 
 use re_search::Matcher;
 

@@ -7,7 +7,7 @@ ghost use Rattle.re_search.specs.Working.Matchers.{AreAlike, AreSame, matched_ex
 ghost use Rattle.line_chunks.specs.Working.Chunks.{FitsColumn, all_of, line_text};
 ghost use Rattle.grep_session.specs.Working.Changed.{HasChanged, SearchesEach};
 ghost use Rattle.grep_session.specs.Working.Columns.{AddsColumns, StaysSame};
-ghost use Rattle.grep_session.specs.Working.Found.{IsColumn, lines_of_files};
+ghost use Rattle.grep_session.specs.Working.Kept.{IsColumn, lines_of_files};
 ghost use Rattle.grep_session.specs.Working.Kept.{IsFileKept, IsKept, kept_file};
 
 use crate::change::Change;

@@ -5,8 +5,7 @@ ghost use Rattle.re_search.specs.Working.Blocks.{HoldsOfMany};
 ghost use Rattle.grep_core.specs.Files.{Selected};
 ghost use Rattle.line_chunks.specs.Working.Chunks.{all_of};
 ghost use Rattle.grep_session.specs.Working.Kept.{IsFileKept, kept_file};
-ghost use Rattle.grep_session.specs.Working.Counts.{SelectedFrom};
-ghost use Rattle.grep_session.specs.Working.Report.{selected_count};
+ghost use Rattle.grep_session.specs.Working.Report.{selected_count, SelectedFrom};
 
 use crate::kept::{FileLines, KeptFile};
 use grep_core::Options;

@@ -6,7 +6,7 @@ ghost use Rattle.std.specs.Vec.Iter.{into_iter_items};
 ghost use Rattle.re_syntax.specs.Expression.{Expression};
 ghost use Rattle.grep_core.specs.declared.options.Options.{Options};
 ghost use Rattle.line_chunks.specs.Working.Chunks.{FitsColumn, FitColumns, with_columns};
-ghost use Rattle.grep_session.specs.Working.Found.{IsColumn, chunks_of, chunks_of_files};
+ghost use Rattle.grep_session.specs.Working.Kept.{IsColumn, chunks_of, chunks_of_files};
 ghost use Rattle.grep_session.specs.Working.Kept.{IsFileKept, kept_file};
 
 use crate::kept::KeptFile;

@@ -5,7 +5,7 @@ ghost use Rattle.grep_core.specs.Files.{Selected};
 ghost use Rattle.line_chunks.specs.Working.Chunks.{all_of, no_line};
 ghost use Rattle.grep_session.specs.Listed.{ListedParts};
 ghost use Rattle.grep_session.specs.Working.Kept.{IsFileKept, kept_file, span_places};
-ghost use Rattle.grep_session.specs.Working.ListedParts.{listed_spans};
+ghost use Rattle.grep_session.specs.Working.Kept.{listed_spans};
 
 use crate::kept::{FileLines, KeptFile};
 use crate::verdicts::is_selected;

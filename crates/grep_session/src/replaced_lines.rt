@@ -5,7 +5,7 @@ ghost use Rattle.std.specs.List.{splice};
 ghost use Rattle.std.specs.Option.{option_map};
 ghost use Rattle.grep_session.specs.declared.fault.EditFault.TheVariants.{Memory};
 ghost use Rattle.grep_session.specs.Working.Kept.{kept_lines, kept_file};
-ghost use Rattle.grep_session.specs.Working.SplicePlaces.{PlaceGives};
+ghost use Rattle.grep_session.specs.Working.Refusals.{PlaceGives};
 ghost use Rattle.line_chunks.specs.Working.Chunks.{all_of};
 
 use crate::fault::EditFault;

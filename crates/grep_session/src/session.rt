@@ -20,7 +20,7 @@ use crate::fault::EditFault;
 use crate::kept::KeptFile;
 use crate::marks::{know_all, lose_all, push_file, touch};
 use crate::new_lines::NewLines;
-use crate::options::{Effect, effect_of, is_same, option_of, with_option};
+use crate::options::{Effect, effect_of, is_same};
 use crate::pattern_matchers::{read_matcher, read_matchers};
 use crate::patterns::{add_texts, is_text, narrows, texts_of, too_many};
 use crate::removal::{drop_column, exchange, put_back};
@@ -307,10 +307,11 @@ impl Session {
         ensures memory { NeedsNoMemory (SetFlag flag on) self.old.inputs →
             IfErr result (λ fault. fault ≢ Memory) }
     {
-        if option_of(&self.options, flag) == on {
+        let mut options = self.options;
+        if options.get(flag) == on {
             return Ok(());
         }
-        let options = with_option(self.options, flag, on);
+        options.set(flag, on);
         match effect_of(flag, on) {
             Effect::Verdicts => {
                 let syntax = self.syntax;

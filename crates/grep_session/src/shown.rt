@@ -3,9 +3,8 @@ ghost use Rattle.std.specs.Prelude.{◌≡◌, ◌-◌, ◌≤◌, All, List, le
 ghost use Rattle.re_syntax.specs.Expression.{Expression};
 ghost use Rattle.grep_core.specs.Output.{form};
 ghost use Rattle.line_chunks.specs.Working.Chunks.{all_of, line_text};
-ghost use Rattle.grep_session.specs.Working.Counts.{SelectedFrom};
 ghost use Rattle.grep_session.specs.Working.Kept.{IsKept};
-ghost use Rattle.grep_session.specs.Working.Report.{context_as, NextShown};
+ghost use Rattle.grep_session.specs.Working.Report.{context_as, NextShown, SelectedFrom};
 
 use crate::counts::find_selected;
 use crate::kept::FileLines;

@@ -5,6 +5,7 @@ pub use Rattle.grep_core.specs.Counted.{one_more}
 pub use Rattle.grep_core.specs.Files.{AreMeant, Ending, File, HasSelected, Selected, broken, missing, whole}
 pub use Rattle.grep_core.specs.Matchers.{IsFirstRefused}
 pub use Rattle.grep_core.specs.Messages.{FaultMet, FaultMetBy, Messages, StatusOf}
+pub use Rattle.grep_core.specs.Options.{no_options}
 pub use Rattle.grep_core.specs.Output.{Out, written}
 pub use Rattle.grep_core.specs.Reading.{IsReadingOf, Reading, Source, ends_after, fails_after, failures_of, file_of, most_lines, not_opened, open_source}
 pub use Rattle.grep_core.specs.Row.{output_line}
@@ -28,16 +29,15 @@ pub use Rattle.grep_utility.specs.Folder.{Folder, after_use, display_name, searc
 pub use Rattle.grep_utility.specs.Patterns.{FirstUnread, GivePatterns, GivesPatterns, folder_after, folder_after_all, patterns_by}
 pub use Rattle.grep_utility.specs.Texts.{out_of_memory, pattern_refused, too_many_patterns, usage_after, usage_texts}
 unfoldable pub use Rattle.grep_utility.specs.Texts.{fault_text, kind_name, usage}
-pub use Rattle.grep_utility.specs.Words.{AreRead, Asked, Draft, OrMemory, PatternsFrom, Token, Wanting, a_group, an_operand, asked, by_characters, ends_options, fault, file, given_source, group, list, most_around, no_numbers, nothing_asked, number_of, pieces, read, reads_on, texts_of, with_argument, with_piece}
+pub use Rattle.grep_utility.specs.Words.{Asked, Draft, PatternsFrom, Token, Wanting, a_group, an_operand, by_characters, ends_options, fault, file, group, list, most_around, no_numbers, nothing_asked, number_of, pieces, read, reads_on, texts_of, with_argument, with_piece}
 unfoldable pub use Rattle.grep_utility.specs.Words.{meaning_of, word_of}
 pub use Rattle.grep_utility.specs.Working.CollectedTexts.{Adds, AddsLines, AddsSource, ReadsFile, StopsFor}
-pub use Rattle.grep_utility.specs.Working.Known.{AllIsKnown, CountDecides, FailuresAre, IsKnown, Predicts, ReportsMemory, WordsDecide, Wrote, full_files, full_reading, in_full, unopened, unopened_by}
+pub use Rattle.grep_utility.specs.Working.Known.{AllIsKnown, CountDecides, FailuresAre, HasReturned, IsKnown, Predicts, ReportsMemory, WordsDecide, Wrote, full_files, full_reading, in_full, unopened, unopened_by}
 pub use Rattle.grep_utility.specs.Working.Numbers.{digit_of}
 unfoldable pub use Rattle.grep_utility.specs.Working.Operands.{StandsAt}
 pub use Rattle.grep_utility.specs.Working.Prepared.{HasNumber, IsDue, IsPrepared, due_text}
-pub use Rattle.grep_utility.specs.Working.Returned.{HasReturned}
 pub use Rattle.grep_utility.specs.Working.ServingMatchers.{AreGrouped, ArePatterns, AreReadAs, AreStrings, IsJoined, ServeFor, most_kept}
-pub use Rattle.grep_utility.specs.Working.Tokens.{AreUsedUp, drafted, token_of, tokens_from, tokens_left, words_left}
+pub use Rattle.grep_utility.specs.Working.Tokens.{AreRead, AreUsedUp, OrMemory, asked, drafted, given_source, token_of, tokens_from, tokens_left, words_left}
 pub use Rattle.grep_utility.specs.Working.Worked.{BrokenFollows, RowFollows, broken_messages, broken_output, broken_text, broken_words, row_messages, row_output, row_text, row_words}
 pub use Rattle.grep_utility.specs.declared.patterns.FileRead.TheVariants.{Broken, Whole}
 pub use Rattle.grep_utility.specs.declared.patterns.PatternsFault.{PatternsFault}

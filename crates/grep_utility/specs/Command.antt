@@ -108,12 +108,9 @@ module _ (folder : Folder) (returned_with : List (Option Text) → Type 0) (old 
       × DoesForPatterns asked (folder_after_all folder asked.sources) texts
       (ReturnedAfter asked.sources returned_with) old new status)
 
-  -- what the command does for its words, unless it is out of memory before the search
-  abbrev pub DoesForWords : List Text → Type 0
-  DoesForWords words =
-      MatchResult (read words) DoesForRequest
-      (λ fault. GivesUp old new (usage_texts fault) 0 status)
-
   -- what the command does for its words, or it was out of memory before the search
   abbrev pub CommandGives : List Text → Type 0
-  CommandGives words = DoesForWords words ⊎ GivesUp old new (out_of_memory ∷ []) 0 status
+  CommandGives words =
+      MatchResult (read words) DoesForRequest
+      (λ fault. GivesUp old new (usage_texts fault) 0 status)
+      ⊎ GivesUp old new (out_of_memory ∷ []) 0 status

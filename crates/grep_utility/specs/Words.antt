@@ -1,11 +1,12 @@
 -- The words of a command (XBD 12.2, Guidelines 3 to 7, 10, 11 and 13; XCU grep, OPTIONS and
 -- OPERANDS). An option after an operand is still an option, as GNU grep has it; Guideline 9 has
 -- all options before the operands.
-use Rattle.std.specs.Prelude.{◌≡◌, ℕ, ◌-◌, ◌^◌, nat_eq, nat_lt, min, Bool, true, false, ◌&&◌}
+use Rattle.std.specs.Prelude.{ℕ, ◌-◌, ◌^◌, nat_eq, nat_lt, min, Bool, true, false, ◌&&◌}
 use Rattle.std.specs.Prelude.{if◌then◌else◌}
 use Rattle.std.specs.Prelude.{List, [], ◌∷◌, ◌++◌, map, codes, bytes_eq, Option, Some, None}
 use Rattle.std.specs.Prelude.{Result, Ok, Err, String}
 use Rattle.std.specs.List.{list_all}
+use Rattle.std.specs.Option.{option_or, unwrap_or}
 use Rattle.std.specs.Str.{byte, chars, encode_utf8_all}
 use Rattle.std.specs.String.{string_bytes}
 use Rattle.re_trees.specs.declared.class.Class.TheVariants.{Digit}
@@ -15,6 +16,7 @@ use Rattle.re_syntax.specs.declared.syntax.Syntax.{Syntax}
 use Rattle.re_syntax.specs.declared.syntax.Syntax.TheVariants.{Basic, Extended, Fixed}
 use Rattle.grep_core.specs.declared.options.Context.{Context}
 use Rattle.grep_core.specs.declared.options.Options.{Options}
+use Rattle.grep_core.specs.Options.{no_options, with_option}
 use Rattle.grep_core.specs.declared.options.Flag.{Flag}
 use Rattle.grep_core.specs.declared.options.Flag.TheVariants.{Count, IgnoreCase, FilesWithMatches}
 use Rattle.grep_core.specs.declared.options.Flag.TheVariants.{LineNumber, OnlyMatching, Quiet}
@@ -22,10 +24,6 @@ use Rattle.grep_core.specs.declared.options.Flag.TheVariants.{NoMessages, Invert
 use Rattle.grep_utility.specs.declared.words.UsageFault.{UsageFault}
 use Rattle.grep_utility.specs.declared.words.UsageFault.TheVariants.{UnknownOption, MissingArgument}
 use Rattle.grep_utility.specs.declared.words.UsageFault.TheVariants.{BadNumber, TwoSyntaxes, NoPattern}
-use Rattle.grep_utility.specs.declared.words.UsageFault.TheVariants.{Memory}
-use Rattle.grep_utility.specs.declared.words.PatternSource.{PatternSource}
-use Rattle.grep_utility.specs.declared.words.PatternSource.TheVariants as given
-use Rattle.grep_utility.specs.declared.words.Request.{Request}
 use Rattle.grep_utility.specs.declared.words.around.Side.{Side}
 use Rattle.grep_utility.specs.declared.words.around.Side.TheVariants.{After, Before, Both}
 use Rattle.grep_utility.specs.declared.words.around.Around.{Around}
@@ -85,17 +83,6 @@ may_follow Extended Fixed = false
 may_follow Fixed Extended = false
 may_follow _ _ = true
 
-abbrev pub with_flag : Flag → Options → Options
-with_flag Count options = record options { count = true }
-with_flag IgnoreCase options = record options { ignore_case = true }
-with_flag FilesWithMatches options = record options { files_with_matches = true }
-with_flag LineNumber options = record options { line_number = true }
-with_flag Quiet options = record options { quiet = true }
-with_flag NoMessages options = record options { no_messages = true }
-with_flag InvertMatch options = record options { invert_match = true }
-with_flag LineRegexp options = record options { line_regexp = true }
-with_flag OnlyMatching options = record options { only_matching = true }
-
 -- a number, as a script has it, is one decimal digit or more, of a value below 2 ^ 64
 abbrev pub number_of : Text → Option ℕ
 number_of [] = None
@@ -113,39 +100,30 @@ lines_of [] = None
 lines_of (b ∷ rest) =
     if list_all (in_class Digit) (b ∷ rest) then Some (min (value (b ∷ rest)) most_around) else None
 
-abbrev pub around_from : ℕ → Side → Option ℕ → Token
-around_from letter side (Some count) = around side count
-around_from letter side None = fault (BadNumber letter)
-
 abbrev pub with_lines : Side → ℕ → Around → Around
 with_lines After count before = record before { after = Some count }
 with_lines Before count before = record before { before = Some count }
 with_lines Both count before = record before { both = Some count }
 
-abbrev pub either : Option ℕ → Option ℕ → Option ℕ
-either (Some count) _ = Some count
-either None other = other
-
-abbrev pub or_none : Option ℕ → ℕ
-or_none (Some count) = count
-or_none None = 0
-
+-- no lines are shown on a side without a number where the other has one
 abbrev pub context_from : Option ℕ → Option ℕ → Option Context
 context_from None None = None
-context_from None (Some after) = Some (record { before = 0; after = after })
-context_from (Some before) after = Some (record { before = before; after = or_none after })
+context_from before after =
+    Some (record { before = unwrap_or before 0; after = unwrap_or after 0 })
 
--- on each side its own option takes precedence over `-C`; no lines are shown on a side without a
--- number where the other has one
+-- on each side its own option takes precedence over `-C`
 abbrev pub context_of : Around → Option Context
 context_of numbers =
-    context_from (either numbers.before numbers.both) (either numbers.after numbers.both)
+    context_from (option_or numbers.before numbers.both) (option_or numbers.after numbers.both)
 
 -- the option of this letter with its argument
 abbrev pub with_argument : ℕ → Argument → Text → Token
 with_argument letter argument.List text = source (list text)
 with_argument letter argument.File text = source (file text)
-with_argument letter (argument.Lines side) text = around_from letter side (lines_of text)
+with_argument letter (argument.Lines side) text = elim (lines_of text) [
+  | Some count ↦ around side count
+  | None ↦ fault (BadNumber letter)
+]
 
 -- ---- words
 
@@ -228,7 +206,7 @@ with_piece d (reads_as s) =
     if may_follow d.asked.syntax s then Ok (record d { asked = record d.asked { syntax = s } })
     else Err TwoSyntaxes
 with_piece d (flag f) =
-    Ok (record d { asked = record d.asked { options = with_flag f d.asked.options } })
+    Ok (record d { asked = record d.asked { options = with_option f true d.asked.options } })
 with_piece d (source s) = Ok (record d { asked = with_source s d.asked })
 with_piece d (around side count) = Ok (record d { numbers = with_lines side count d.numbers })
 with_piece d (operand text) = Ok (record d { asked = with_operand text d.asked })
@@ -243,23 +221,7 @@ reads_on d (p ∷ ps) = elim (with_piece d p) [
 ]
 
 abbrev pub nothing_asked : Asked
-nothing_asked = record {
-  syntax = Basic;
-  options = record {
-    count = false;
-    ignore_case = false;
-    files_with_matches = false;
-    line_number = false;
-    only_matching = false;
-    quiet = false;
-    no_messages = false;
-    invert_match = false;
-    line_regexp = false;
-    context = None;
-  };
-  sources = [];
-  files = [];
-}
+nothing_asked = record { syntax = Basic; options = no_options; sources = []; files = [] }
 
 abbrev pub no_numbers : Around
 no_numbers = record { after = None; before = None; both = None }
@@ -268,30 +230,7 @@ no_numbers = record { after = None; before = None; both = None }
 abbrev pub read : List Text → Result Asked UsageFault
 read words = reads_on (record { asked = nothing_asked; numbers = no_numbers }) (pieces words None)
 
--- ---- words and requests as the code has them
-
-abbrev pub given_source : PatternSource → PatternsFrom
-given_source (given.List text) = list (string_bytes text)
-given_source (given.File name) = file (string_bytes name)
+-- ---- words as the code has them
 
 abbrev pub texts_of : {Z : Type 0} → List (String Z) → List Text
 texts_of words = map string_bytes words
-
--- a request by its texts
-abbrev pub asked : Request → Asked
-asked request = record {
-  syntax = request.syntax;
-  options = request.options;
-  sources = map given_source request.sources.items;
-  files = texts_of request.files.items;
-}
-
--- the fault is out of memory, or this holds
-abbrev pub OrMemory : UsageFault → Type 0 → Type 0
-OrMemory Memory P = Unit {0}
-OrMemory _ P = P
-
--- a request is what its words ask for, and a fault is theirs or out of memory
-abbrev pub AreRead : List Text → Result Request UsageFault → Type 0
-AreRead words (Ok request) = read words ≡ Ok (asked request)
-AreRead words (Err f) = OrMemory f (read words ≡ Err f)

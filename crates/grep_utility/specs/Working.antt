@@ -5,6 +5,5 @@ pub mod Operands
 pub mod ServingMatchers
 pub mod Prepared
 -- what the public laws say, of known files and of two commands worked by hand
-pub mod Returned
 pub mod Known
 pub mod Worked

@@ -9,7 +9,7 @@ ghost use Rattle.grep_utility.specs.Patterns.{GivesPatterns, folder_after, folde
 ghost use Rattle.grep_utility.specs.Patterns.{FirstUnread, OneReaderEach};
 ghost use Rattle.grep_utility.specs.declared.patterns.FileRead.{FileRead};
 ghost use Rattle.grep_utility.specs.Working.CollectedTexts.{AddsLines, ReadsFile, AddsSource, StopsFor};
-ghost use Rattle.grep_utility.specs.Words.{given_source};
+ghost use Rattle.grep_utility.specs.Working.Tokens.{given_source};
 
 use crate::files::{Files, open_named};
 use crate::words::PatternSource;

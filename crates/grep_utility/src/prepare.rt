@@ -4,7 +4,7 @@ ghost use Rattle.re_syntax.specs.Bytes.{Text};
 ghost use Rattle.re_syntax.specs.Lines.{lines_of};
 ghost use Rattle.grep_core.specs.Sources.{Returns};
 ghost use Rattle.grep_utility.specs.Patterns.{OneReaderEach};
-ghost use Rattle.grep_utility.specs.Words.{asked};
+ghost use Rattle.grep_utility.specs.Working.Tokens.{asked};
 ghost use Rattle.grep_utility.specs.Working.Prepared.{IsPrepared, IsDue};
 
 use crate::files::Files;

@@ -1,17 +1,16 @@
 //! The words of grep, and what they ask for (XBD 12.2; XCU grep, SYNOPSIS, OPTIONS, OPERANDS).
 ghost use Rattle.std.specs.Prelude.{◌≡◌, [], IfOk, MatchResult};
-ghost use Rattle.grep_utility.specs.Words.{AreRead, OrMemory, asked, completed, context_of, file, list};
-ghost use Rattle.grep_utility.specs.Words.{may_follow, no_numbers, nothing_asked, pieces, reads_on};
-ghost use Rattle.grep_utility.specs.Words.{texts_of, with_context, with_flag, with_operand, with_piece};
-ghost use Rattle.grep_utility.specs.Words.{with_source};
-ghost use Rattle.grep_utility.specs.Working.Tokens.{drafted, token_of};
+ghost use Rattle.grep_utility.specs.Words.{completed, context_of, file, list, may_follow, no_numbers};
+ghost use Rattle.grep_utility.specs.Words.{nothing_asked, pieces, reads_on, texts_of, with_context};
+ghost use Rattle.grep_utility.specs.Words.{with_operand, with_piece, with_source};
+ghost use Rattle.grep_utility.specs.Working.Tokens.{AreRead, OrMemory, asked, drafted, token_of};
 
 pub mod around;
 pub mod tokens;
 
 use crate::words::around::Around;
 use crate::words::tokens::{Token, tokens_of};
-use grep_core::{Flag, Options};
+use grep_core::Options;
 use re_syntax::Syntax;
 use std::alloc::{AllocError, Global};
 
@@ -64,23 +63,6 @@ pub struct Request {
     /// The names of the files that are searched, in order; standard input is searched where there
     /// are none.
     pub files: Vec<String>,
-}
-
-/// Sets the option.
-fn set_flag(options: &mut Options, flag: Flag)
-    ensures { options.new ≡ with_flag flag options.old }
-{
-    match flag {
-        Flag::Count => options.count = true,
-        Flag::IgnoreCase => options.ignore_case = true,
-        Flag::FilesWithMatches => options.files_with_matches = true,
-        Flag::LineNumber => options.line_number = true,
-        Flag::Quiet => options.quiet = true,
-        Flag::NoMessages => options.no_messages = true,
-        Flag::InvertMatch => options.invert_match = true,
-        Flag::LineRegexp => options.line_regexp = true,
-        Flag::OnlyMatching => options.only_matching = true,
-    }
 }
 
 /// Whether the option for the second syntax may follow that for the first, or none.
@@ -198,7 +180,7 @@ impl Draft {
     {
         let request = &mut self.request;
         match piece {
-            Token::Flag(flag) => set_flag(&mut request.options, flag),
+            Token::Flag(flag) => request.options.set(flag, true),
             Token::Syntax(syntax) if goes_with(request.syntax, syntax) => request.syntax = syntax,
             Token::Syntax(_) => return Err(UsageFault::TwoSyntaxes),
             Token::List(text) => request.add_list(alloc, text)?,

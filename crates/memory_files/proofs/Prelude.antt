@@ -3,7 +3,7 @@ pub use Rattle.grep_core.specs.Counted.{one_more}
 pub use Rattle.grep_core.specs.Run.{count_more, writer}
 pub use Rattle.grep_core.specs.Sources.{Returns}
 pub use Rattle.grep_core.specs.Working.Limited.{limited}
-pub use Rattle.grep_utility.specs.Working.Returned.{HasReturned}
+pub use Rattle.grep_utility.specs.Working.Known.{HasReturned}
 pub use Rattle.grep_utility.specs.Working.Worked.{broken_text, row_text}
 pub use Rattle.memory_files.specs.Working.Memory.{IsSameHistory, bytes_left, bytes_of, folder_of, next_count, returned_by}
 pub use Rattle.memory_files.specs.declared.files.MemoryFiles.{MemoryFiles}

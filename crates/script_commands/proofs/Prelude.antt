@@ -3,7 +3,7 @@ pub use Rattle.grep_session.specs.Edits.{Splice}
 pub use Rattle.grep_utility.specs.Words.{number_of}
 pub use Rattle.re_syntax.specs.Bytes.{Text}
 pub use Rattle.re_syntax.specs.Lines.{joined, newline, put_before}
-pub use Rattle.script_commands.specs.Commands.{AsksForMemory, counts, file_command, line_command, missing_command, space, splice_command, splice_from, unnamed_command}
+pub use Rattle.script_commands.specs.Commands.{AsksForMemory, counts, file_command, line_command, missing_command, space, splice_command, unnamed_command}
 unfoldable pub use Rattle.script_commands.specs.Commands.{command_of, words_of}
 pub use Rattle.script_commands.specs.Working.LineWords.{four_words, words_of_rest}
 pub use Rattle.script_commands.specs.Working.ReadCommands.{meant}

@@ -1,6 +1,7 @@
 -- The commands of a script: what a line asks for, with the lines that it counts (occur(1), COMMANDS).
 use Rattle.std.specs.Prelude.{◌≡◌, ℕ, ◌≤◌, nat_eq, Bool, true, false, if◌then◌else◌, List, [], ◌∷◌}
-use Rattle.std.specs.Prelude.{length, codes, bytes_eq, Option, Some, None, option_map}
+use Rattle.std.specs.Prelude.{length, codes, bytes_eq, Option, Some, None, option_and_then}
+use Rattle.std.specs.Prelude.{option_map}
 use Rattle.re_syntax.specs.declared.syntax.Syntax.{Syntax}
 use Rattle.re_syntax.specs.declared.syntax.Syntax.TheVariants.{Basic, Extended, Fixed}
 use Rattle.re_syntax.specs.Bytes.{Text}
@@ -60,13 +61,14 @@ pub data Command : Type 0 where
   asks_version : Command
   switches_text : Bool → Command
 
-abbrev pub file_from : Option Text → Option ℕ → Option Command
-file_from (Some name) (Some count) = Some (counts count (AddFile name))
-file_from _ _ = None
+-- what is made of the number that a word is, where it is one
+abbrev pub from_number : Text → (ℕ → Option Command) → Option Command
+from_number word make = option_and_then make (number_of word)
 
 -- `file NAME COUNT`
 abbrev pub file_command : List Text → Option Command
-file_command (name ∷ count ∷ []) = file_from (name_of name) (number_of count)
+file_command (name ∷ count ∷ []) =
+    from_number count (λ n. option_map (λ text. counts n (AddFile text)) (name_of name))
 file_command _ = None
 
 -- `missing NAME`
@@ -76,48 +78,39 @@ missing_command _ = None
 
 -- `close K`
 abbrev pub close_command : List Text → Option Command
-close_command (file ∷ []) = option_map (λ k. edits (DropFile k)) (number_of file)
+close_command (file ∷ []) = from_number file (λ k. Some (edits (DropFile k)))
 close_command _ = None
-
-abbrev pub splice_from : Option ℕ → Option ℕ → Option ℕ → Option ℕ → Option Command
-splice_from (Some file) (Some start) (Some removed) (Some count) =
-    Some (counts count (Splice file start removed))
-splice_from _ _ _ _ = None
 
 -- `splice K START REMOVE COUNT`
 abbrev pub splice_command : List Text → Option Command
 splice_command (file ∷ start ∷ removed ∷ count ∷ []) =
-    splice_from (number_of file) (number_of start) (number_of removed) (number_of count)
+    from_number file (λ k. from_number start (λ s. from_number removed (λ r.
+    from_number count (λ n. Some (counts n (Splice k s r))))))
 splice_command _ = None
-
-abbrev pub patterns_from : Option ℕ → Option Command
-patterns_from (Some count) =
-    if nat_eq count 0 then None else Some (counts count (λ lines. AddPatterns (joined lines)))
-patterns_from None = None
 
 -- `patterns COUNT`, where there is at least one
 abbrev pub patterns_command : List Text → Option Command
-patterns_command (count ∷ []) = patterns_from (number_of count)
+patterns_command (count ∷ []) =
+    from_number count (λ n. if nat_eq n 0 then None else
+    Some (counts n (λ lines. AddPatterns (joined lines))))
 patterns_command _ = None
 
 -- `drop P`
 abbrev pub drop_command : List Text → Option Command
-drop_command (pattern ∷ []) = option_map (λ p. edits (DropPattern p)) (number_of pattern)
+drop_command (pattern ∷ []) = from_number pattern (λ p. Some (edits (DropPattern p)))
 drop_command _ = None
 
 -- `pattern P`, which counts one line
 abbrev pub pattern_command : List Text → Option Command
 pattern_command (pattern ∷ []) =
-    option_map (λ p. counts 1 (λ lines. ChangePattern p (joined lines))) (number_of pattern)
+    from_number pattern (λ p. Some (counts 1 (λ lines. ChangePattern p (joined lines))))
 pattern_command _ = None
-
-abbrev pub flag_from : Option Flag → Option Bool → Option Command
-flag_from (Some flag) (Some on) = Some (edits (SetFlag flag on))
-flag_from _ _ = None
 
 -- `flag LETTER on` or `flag LETTER off`
 abbrev pub flag_command : List Text → Option Command
-flag_command (letter ∷ switch ∷ []) = flag_from (flag_of letter) (switch_of switch)
+flag_command (letter ∷ switch ∷ []) =
+    option_and_then (λ flag. option_map (λ on. edits (SetFlag flag on)) (switch_of switch))
+    (flag_of letter)
 flag_command _ = None
 
 -- `syntax basic`, `syntax extended` or `syntax fixed`
@@ -125,55 +118,36 @@ abbrev pub syntax_command : List Text → Option Command
 syntax_command (name ∷ []) = option_map (λ syntax. edits (SetSyntax syntax)) (syntax_of name)
 syntax_command _ = None
 
-abbrev pub context_from : Option ℕ → Option ℕ → Option Command
-context_from (Some before) (Some after) =
-    Some (edits (SetContext (Some (record { before = before; after = after }))))
-context_from _ _ = None
-
-abbrev pub no_context : Text → Option Command
-no_context word = if bytes_eq word (codes "off") then Some (edits (SetContext None)) else None
-
--- `context BEFORE AFTER` or `context off`
+-- `context off` or `context BEFORE AFTER`
 abbrev pub context_command : List Text → Option Command
-context_command (word ∷ []) = no_context word
-context_command (before ∷ after ∷ []) = context_from (number_of before) (number_of after)
+context_command (word ∷ []) =
+    if bytes_eq word (codes "off") then Some (edits (SetContext None)) else None
+context_command (before ∷ after ∷ []) = from_number before (λ b. from_number after (λ a.
+    Some (edits (SetContext (Some (record { before = b; after = a }))))))
 context_command _ = None
-
--- `show`
-abbrev pub show_command : List Text → Option Command
-show_command [] = Some shows
-show_command _ = None
-
--- `changes`
-abbrev pub changes_command : List Text → Option Command
-changes_command [] = Some lists_changes
-changes_command _ = None
-
-abbrev pub page_from : Option ℕ → Option ℕ → Option Command
-page_from (Some first) (Some count) = Some (lists_page first count)
-page_from _ _ = None
 
 -- `page FIRST COUNT`
 abbrev pub page_command : List Text → Option Command
-page_command (first ∷ count ∷ []) = page_from (number_of first) (number_of count)
+page_command (first ∷ count ∷ []) =
+    from_number first (λ f. from_number count (λ c. Some (lists_page f c)))
 page_command _ = None
-
--- `version`
-abbrev pub version_command : List Text → Option Command
-version_command [] = Some asks_version
-version_command _ = None
 
 -- `text on` or `text off`
 abbrev pub text_command : List Text → Option Command
 text_command (switch ∷ []) = option_map (λ on. switches_text on) (switch_of switch)
 text_command _ = None
 
+-- `show`, `changes` or `version`: a command that no word follows
+abbrev pub alone : Command → List Text → Option Command
+alone command [] = Some command
+alone command _ = None
+
 unfoldable pub asking_command : Text → List Text → Option Command
 asking_command word given =
-    if bytes_eq word (codes "show") then show_command given else
-    if bytes_eq word (codes "changes") then changes_command given else
+    if bytes_eq word (codes "show") then alone shows given else
+    if bytes_eq word (codes "changes") then alone lists_changes given else
     if bytes_eq word (codes "page") then page_command given else
-    if bytes_eq word (codes "version") then version_command given else
+    if bytes_eq word (codes "version") then alone asks_version given else
     if bytes_eq word (codes "text") then text_command given else None
 
 unfoldable pub unnamed_command : Text → List Text → Option Command

@@ -1,14 +1,11 @@
 //! The commands of a script.
-ghost use Rattle.std.specs.Prelude.{◌≡◌, [], Some, IfOk, IfErr, option_map};
-ghost use Rattle.grep_utility.specs.Words.{number_of};
+ghost use Rattle.std.specs.Prelude.{◌≡◌, [], ◌∷◌, Some, IfOk, IfErr, option_map};
 ghost use Rattle.script_commands.specs.Commands.{name_of, flag_of, switch_of, syntax_of, file_command};
 ghost use Rattle.script_commands.specs.Commands.{missing_command, close_command, splice_command};
 ghost use Rattle.script_commands.specs.Commands.{patterns_command, pattern_command, drop_command};
-ghost use Rattle.script_commands.specs.Commands.{flag_command, syntax_command, no_context, context_from};
-ghost use Rattle.script_commands.specs.Commands.{context_command, show_command, unnamed_command};
-ghost use Rattle.script_commands.specs.Commands.{line_command, changes_command, page_command};
-ghost use Rattle.script_commands.specs.Commands.{version_command, text_command, asking_command};
-ghost use Rattle.script_commands.specs.Commands.{AsksForMemory};
+ghost use Rattle.script_commands.specs.Commands.{flag_command, syntax_command, context_command};
+ghost use Rattle.script_commands.specs.Commands.{page_command, text_command, alone, asking_command};
+ghost use Rattle.script_commands.specs.Commands.{unnamed_command, line_command, AsksForMemory};
 ghost use Rattle.script_commands.specs.Working.ReadCommands.{meant};
 
 use crate::line_words::{LineWords, words_of};
@@ -247,9 +244,9 @@ fn read_syntax_command(words: LineWords<'_>) -> Option<Command>
     Some(Command::Edit(LineEdit::SetSyntax(syntax)))
 }
 
-/// `off`, after `context`
+/// `context off`
 fn read_no_context(word: &[u8]) -> Option<Command>
-    ensures { option_map meant result ≡ no_context word.now }
+    ensures { option_map meant result ≡ context_command (word.now ∷ []) }
 {
     if word == b"off".as_slice() {
         return Some(Command::Edit(LineEdit::SetContext(None)));
@@ -257,9 +254,9 @@ fn read_no_context(word: &[u8]) -> Option<Command>
     None
 }
 
-/// `BEFORE AFTER`, after `context`
+/// `context BEFORE AFTER`
 fn read_numbers_of_lines(before: &[u8], after: &[u8]) -> Option<Command>
-    ensures { option_map meant result ≡ context_from (number_of before.now) (number_of after.now) }
+    ensures { option_map meant result ≡ context_command (before.now ∷ after.now ∷ []) }
 {
     let before = read_number(before)? as u64;
     let after = read_number(after)? as u64;
@@ -267,7 +264,7 @@ fn read_numbers_of_lines(before: &[u8], after: &[u8]) -> Option<Command>
     Some(Command::Edit(LineEdit::SetContext(Some(context))))
 }
 
-/// `context BEFORE AFTER` or `context off`
+/// `context off` or `context BEFORE AFTER`
 fn read_context(words: LineWords<'_>) -> Option<Command>
     ensures { option_map meant result ≡ context_command words.entry }
 {
@@ -282,25 +279,14 @@ fn read_context(words: LineWords<'_>) -> Option<Command>
     }
 }
 
-/// `show`
-fn read_show(words: LineWords<'_>) -> Option<Command>
-    ensures { option_map meant result ≡ show_command words.entry }
+/// `show`, `changes` or `version`: a command that no word follows
+fn read_alone(command: Command, words: LineWords<'_>) -> Option<Command>
+    ensures { option_map meant result ≡ alone (meant command) words.entry }
 {
     let mut words = words;
     match words.next() {
         Some(_) => None,
-        None => Some(Command::Show),
-    }
-}
-
-/// `changes`
-fn read_changes(words: LineWords<'_>) -> Option<Command>
-    ensures { option_map meant result ≡ changes_command words.entry }
-{
-    let mut words = words;
-    match words.next() {
-        Some(_) => None,
-        None => Some(Command::Changes),
+        None => Some(command),
     }
 }
 
@@ -312,17 +298,6 @@ fn read_page(words: LineWords<'_>) -> Option<Command>
     let first = read_number(first)?;
     let count = read_number(count)?;
     Some(Command::Page(first, count))
-}
-
-/// `version`
-fn read_version(words: LineWords<'_>) -> Option<Command>
-    ensures { option_map meant result ≡ version_command words.entry }
-{
-    let mut words = words;
-    match words.next() {
-        Some(_) => None,
-        None => Some(Command::Version),
-    }
 }
 
 /// `text on` or `text off`
@@ -339,16 +314,16 @@ fn read_asking(word: &[u8], words: LineWords<'_>) -> Option<Command>
     ensures { option_map meant result ≡ asking_command word.now words.entry }
 {
     if word == b"show".as_slice() {
-        return read_show(words);
+        return read_alone(Command::Show, words);
     }
     if word == b"changes".as_slice() {
-        return read_changes(words);
+        return read_alone(Command::Changes, words);
     }
     if word == b"page".as_slice() {
         return read_page(words);
     }
     if word == b"version".as_slice() {
-        return read_version(words);
+        return read_alone(Command::Version, words);
     }
     if word == b"text".as_slice() {
         return read_text(words);

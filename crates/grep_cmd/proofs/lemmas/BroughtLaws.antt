@@ -1,5 +1,5 @@
 -- The steps of a script bring no more bytes than its lines have.
-use Rattle.grep_cmd.proofs.Prelude.{◌≡◌, ℕ, ◌+◌, ◌≤◌, Bool, true, false, List, [], ◌∷◌, ◌++◌, length, codes, bytes_eq, nat_eq, Option, Some, None, refl, sym, ap, subst, inl, inr, arith, if◌then◌else◌, option_map, sum_by, Text, joined, Flag, Ending, Edit, AddFile, AddMissing, DropFile, Splice, DropPattern, ChangePattern, SetFlag, SetSyntax, SetContext, number_of, name_of, flag_of, switch_of, syntax_of, Command, edits, counts, shows, lists_changes, lists_page, asks_version, switches_text, file_from, file_command, missing_command, close_command, splice_from, splice_command, patterns_from, patterns_command, drop_command, pattern_command, flag_from, flag_command, syntax_command, context_from, context_command, show_command, changes_command, page_from, page_command, version_command, text_command, asking_command, unnamed_command, command_of, Step, does, reports, reports_changes, reports_page, tells_version, sets_text, is_bad, IsStep, IsUnfinished, Steps, words_of, bytes_of, sum_by-append, sum_by-cons}
+use Rattle.grep_cmd.proofs.Prelude.{◌≡◌, ℕ, ◌+◌, ◌≤◌, Bool, true, false, List, [], ◌∷◌, ◌++◌, length, codes, bytes_eq, nat_eq, Option, Some, None, refl, sym, ap, subst, inl, inr, arith, if◌then◌else◌, option_map, option_and_then, sum_by, Text, joined, Ending, Edit, AddFile, AddMissing, DropFile, Splice, DropPattern, ChangePattern, SetFlag, SetSyntax, SetContext, number_of, name_of, flag_of, switch_of, syntax_of, Command, alone, from_number, edits, counts, shows, lists_changes, lists_page, asks_version, switches_text, file_command, missing_command, close_command, splice_command, patterns_command, drop_command, pattern_command, flag_command, syntax_command, context_command, page_command, text_command, asking_command, unnamed_command, command_of, Step, does, reports, reports_changes, reports_page, tells_version, sets_text, is_bad, IsStep, IsUnfinished, Steps, words_of, bytes_of, sum_by-append, sum_by-cons}
 use Rattle.grep_session.specs.Edits.{AddPatterns}
 
 -- one for a step, and the bytes of the lines that it puts into a file
@@ -49,15 +49,21 @@ few_map : {A : Type 0} (edit : A → Edit) → ((x : A) → brought (does (edit 
 few_map edit one None = few_none
 few_map edit one (Some x) = few_edit (edit x) (one x)
 
-few_file_from : (name : Option Text) (count : Option ℕ) → Few (file_from name count)
-few_file_from None count = few_none
-few_file_from (Some name) None = few_none
-few_file_from (Some name) (Some count) = few_counted count (AddFile name) (λ taken. omega arith)
+few_then : {A : Type 0} (make : A → Option Command) → ((x : A) → Few (make x)) → (found : Option A) → Few (option_and_then make found)
+few_then make few None = few_none
+few_then make few (Some x) = few x
+
+few_number : (word : Text) (make : ℕ → Option Command) → ((n : ℕ) → Few (make n)) → Few (from_number word make)
+few_number word make few = few_then make few (number_of word)
+
+few_named : (count : ℕ) (name : Option Text) → Few (option_map (λ text. counts count (AddFile text)) name)
+few_named count None = few_none
+few_named count (Some name) = few_counted count (AddFile name) (λ taken. omega arith)
 
 few_file : (given : List Text) → Few (file_command given)
 few_file [] = few_none
 few_file (name ∷ []) = few_none
-few_file (name ∷ count ∷ []) = few_file_from (name_of name) (number_of count)
+few_file (name ∷ count ∷ []) = few_number count _ (λ n. few_named n (name_of name))
 few_file (name ∷ count ∷ more ∷ rest) = few_none
 
 few_missing : (given : List Text) → Few (missing_command given)
@@ -67,56 +73,36 @@ few_missing (name ∷ more ∷ rest) = few_none
 
 few_close : (given : List Text) → Few (close_command given)
 few_close [] = few_none
-few_close (file ∷ []) = few_map DropFile (λ k. refl) (number_of file)
+few_close (file ∷ []) = few_number file _ (λ k. few_edit (DropFile k) refl)
 few_close (file ∷ more ∷ rest) = few_none
-
-few_splice_from : (file start removed count : Option ℕ) → Few (splice_from file start removed count)
-few_splice_from None start removed count = few_none
-few_splice_from (Some k) None removed count = few_none
-few_splice_from (Some k) (Some s) None count = few_none
-few_splice_from (Some k) (Some s) (Some r) None = few_none
-few_splice_from (Some k) (Some s) (Some r) (Some count) = few_counted count (Splice k s r) (λ taken. omega arith)
 
 few_splice : (given : List Text) → Few (splice_command given)
 few_splice [] = few_none
 few_splice (a ∷ []) = few_none
 few_splice (a ∷ b ∷ []) = few_none
 few_splice (a ∷ b ∷ c ∷ []) = few_none
-few_splice (a ∷ b ∷ c ∷ d ∷ []) = few_splice_from (number_of a) (number_of b) (number_of c) (number_of d)
+few_splice (a ∷ b ∷ c ∷ d ∷ []) = few_number a _ (λ k. few_number b _ (λ s. few_number c _ (λ r. few_number d _ (λ n. few_counted n (Splice k s r) (λ taken. omega arith)))))
 few_splice (a ∷ b ∷ c ∷ d ∷ more ∷ rest) = few_none
-
-few_patterns_from : (count : Option ℕ) → Few (patterns_from count)
-few_patterns_from None = few_none
-few_patterns_from (Some count) = few_if (nat_eq count 0) None (Some (counts count (λ lines. AddPatterns (joined lines)))) few_none (few_counted count (λ lines. AddPatterns (joined lines)) (λ taken. omega arith))
 
 few_patterns : (given : List Text) → Few (patterns_command given)
 few_patterns [] = few_none
-few_patterns (count ∷ []) = few_patterns_from (number_of count)
+few_patterns (count ∷ []) = few_number count _ (λ n. few_if (nat_eq n 0) None (Some (counts n (λ lines. AddPatterns (joined lines)))) few_none (few_counted n (λ lines. AddPatterns (joined lines)) (λ taken. omega arith)))
 few_patterns (count ∷ more ∷ rest) = few_none
 
 few_drop : (given : List Text) → Few (drop_command given)
 few_drop [] = few_none
-few_drop (pattern ∷ []) = few_map DropPattern (λ p. refl) (number_of pattern)
+few_drop (pattern ∷ []) = few_number pattern _ (λ p. few_edit (DropPattern p) refl)
 few_drop (pattern ∷ more ∷ rest) = few_none
-
-few_pattern_from : (found : Option ℕ) → Few (option_map (λ p. counts 1 (λ lines. ChangePattern p (joined lines))) found)
-few_pattern_from None = few_none
-few_pattern_from (Some p) = few_counted 1 (λ lines. ChangePattern p (joined lines)) (λ taken. omega arith)
 
 few_pattern : (given : List Text) → Few (pattern_command given)
 few_pattern [] = few_none
-few_pattern (pattern ∷ []) = few_pattern_from (number_of pattern)
+few_pattern (pattern ∷ []) = few_number pattern _ (λ p. few_counted 1 (λ lines. ChangePattern p (joined lines)) (λ taken. omega arith))
 few_pattern (pattern ∷ more ∷ rest) = few_none
-
-few_flag_from : (flag : Option Flag) (on : Option Bool) → Few (flag_from flag on)
-few_flag_from None on = few_none
-few_flag_from (Some flag) None = few_none
-few_flag_from (Some flag) (Some on) = few_edit (SetFlag flag on) refl
 
 few_flag : (given : List Text) → Few (flag_command given)
 few_flag [] = few_none
 few_flag (letter ∷ []) = few_none
-few_flag (letter ∷ switch ∷ []) = few_flag_from (flag_of letter) (switch_of switch)
+few_flag (letter ∷ switch ∷ []) = few_then _ (λ flag. few_map (SetFlag flag) (λ on. refl) (switch_of switch)) (flag_of letter)
 few_flag (letter ∷ switch ∷ more ∷ rest) = few_none
 
 few_syntax : (given : List Text) → Few (syntax_command given)
@@ -124,48 +110,30 @@ few_syntax [] = few_none
 few_syntax (name ∷ []) = few_map SetSyntax (λ s. refl) (syntax_of name)
 few_syntax (name ∷ more ∷ rest) = few_none
 
-few_context_from : (before after : Option ℕ) → Few (context_from before after)
-few_context_from None after = few_none
-few_context_from (Some before) None = few_none
-few_context_from (Some before) (Some after) = few_edit (SetContext (Some (record { before = before; after = after }))) refl
-
 few_context : (given : List Text) → Few (context_command given)
 few_context [] = few_none
 few_context (word ∷ []) = few_if (bytes_eq word (codes "off")) (Some (edits (SetContext None))) None (few_edit (SetContext None) refl) few_none
-few_context (before ∷ after ∷ []) = few_context_from (number_of before) (number_of after)
+few_context (before ∷ after ∷ []) = few_number before _ (λ b. few_number after _ (λ a. few_edit (SetContext (Some (record { before = b; after = a }))) refl))
 few_context (before ∷ after ∷ more ∷ rest) = few_none
-
-few_show : (given : List Text) → Few (show_command given)
-few_show [] = few_shows
-few_show (word ∷ rest) = few_none
-
-few_changes_command : (given : List Text) → Few (changes_command given)
-few_changes_command [] = few_changes
-few_changes_command (word ∷ rest) = few_none
-
-few_page_from : (first count : Option ℕ) → Few (page_from first count)
-few_page_from None count = few_none
-few_page_from (Some first) None = few_none
-few_page_from (Some first) (Some count) = few_page first count
 
 few_page_command : (given : List Text) → Few (page_command given)
 few_page_command [] = few_none
 few_page_command (first ∷ []) = few_none
-few_page_command (first ∷ count ∷ []) = few_page_from (number_of first) (number_of count)
+few_page_command (first ∷ count ∷ []) = few_number first _ (λ f. few_number count _ (λ n. few_page f n))
 few_page_command (first ∷ count ∷ more ∷ rest) = few_none
 
-few_version_command : (given : List Text) → Few (version_command given)
-few_version_command [] = few_version
-few_version_command (word ∷ rest) = few_none
-
-few_text_found : (found : Option Bool) → Few (option_map (λ on. switches_text on) found)
-few_text_found None = few_none
-few_text_found (Some on) = few_text on
+few_switch : (found : Option Bool) → Few (option_map (λ on. switches_text on) found)
+few_switch None = few_none
+few_switch (Some on) = few_text on
 
 few_text_command : (given : List Text) → Few (text_command given)
 few_text_command [] = few_none
-few_text_command (switch ∷ []) = few_text_found (switch_of switch)
+few_text_command (switch ∷ []) = few_switch (switch_of switch)
 few_text_command (switch ∷ more ∷ rest) = few_none
+
+few_alone : (command : Command) → Few (Some command) → (given : List Text) → Few (alone command given)
+few_alone command few [] = few
+few_alone command few (word ∷ rest) = few_none
 
 module _ (word : Text) (given : List Text) where
   abbrev is_word : Text → Bool
@@ -174,10 +142,10 @@ module _ (word : Text) (given : List Text) where
   few_asking : Few (asking_command word given)
   unfolding asking_command
   few_asking =
-      few_if (is_word (codes "show")) (show_command given) _ (few_show given)
-      (few_if (is_word (codes "changes")) (changes_command given) _ (few_changes_command given)
+      few_if (is_word (codes "show")) (alone shows given) _ (few_alone shows few_shows given)
+      (few_if (is_word (codes "changes")) (alone lists_changes given) _ (few_alone lists_changes few_changes given)
       (few_if (is_word (codes "page")) (page_command given) _ (few_page_command given)
-      (few_if (is_word (codes "version")) (version_command given) _ (few_version_command given)
+      (few_if (is_word (codes "version")) (alone asks_version given) _ (few_alone asks_version few_version given)
       (few_if (is_word (codes "text")) (text_command given) None (few_text_command given) few_none))))
 
   few_unnamed : Few (unnamed_command word given)

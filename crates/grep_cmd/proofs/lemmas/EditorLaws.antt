@@ -1,5 +1,6 @@
 -- The lists that an editor makes by the replies alone follow, and are the present hits.
-use Rattle.grep_cmd.proofs.Prelude.{Bool, ◌⊎◌, ◌≢◌, All, All-head, All-tail, All-cons, All-weaker, map, text_after, sets_text, HaveTexts, AreButTexts, read_change, ScriptState, new_state, ◌≡◌, ℕ, ◌+◌, ◌<◌, ◌≤◌, ◌^◌, min, true, false, true≢false, List, [], ◌∷◌, ◌++◌, length, take, drop, get_or, codes, Result, Ok, Err, refl, sym, ap, subst, ◌∙◌, inl, inr, arith, append_assoc, ◌-◌, list_any, sum_by, Text, Status, IfHolds, File, Inputs, EditFault, Edit, Marked, View, Watched, ChangesFile, all_after, FollowsFile, Follows, view_after, AreFit, changes_rows, total_row, page_row, page_rows, all_hits, all_known, Step, does, reports, reports_changes, reports_page, tells_version, is_bad, is_truncated, AreShown, with_margin, status_line, ReportsChanges, RepliesTo, Replies, IsAnswered, AnswersScript, cause, reply_to, IsHeld, bytes_of, has_status, EndsWithStatus, IsOneReply, ReadsChanges, ListsAfter, ListsAfterAll, ArePresent, Took, EditorsFollow, or_parts, All-nil, sum_by-cons}
+use Rattle.grep_cmd.proofs.Prelude.{Bool, ◌⊎◌, ◌≢◌, All, All-head, All-tail, All-cons, All-weaker, map, text_after, sets_text, HaveTexts, AreButTexts, read_change, ScriptState, new_state, ◌≡◌, ℕ, ◌+◌, ◌<◌, ◌≤◌, ◌^◌, min, true, false, true≢false, List, [], ◌∷◌, ◌++◌, length, take, drop, get_or, codes, Result, Ok, Err, refl, sym, ap, subst, ◌∙◌, inl, inr, arith, append_assoc, ◌-◌, list_any, sum_by, Text, Status, IfHolds, File, Inputs, EditFault, Edit, Marked, View, Watched, ChangesFile, all_after, FollowsFile, Follows, view_after, AreFit, changes_rows, total_row, page_row, page_rows, all_hits, all_known, Step, does, reports, reports_changes, reports_page, tells_version, is_bad, is_truncated, AreShown, with_margin, status_line, ReportsChanges, RepliesTo, Replies, SearchesAtMost, IsAnswered, AnswersScript, cause, reply_to, IsHeld, bytes_of, has_status, EndsWithStatus, IsOneReply, ReadsChanges, ListsAfter, ListsAfterAll, ArePresent, Took, EditorsFollow, or_parts, All-nil, sum_by-cons}
+use Rattle.grep_core.specs.Meters.{Steps as StepCounts}
 use Rattle.grep_core.specs.declared.status.Status.TheVariants as status
 use Rattle.grep_session.proofs.lemmas.FitLemmas.{known_fit, zip-length}
 use Rattle.grep_live.proofs.lemmas.CarryLemmas.{edits_carry}
@@ -22,20 +23,20 @@ ends_with rows s lines e none = (rows, status_line s, e, none, has_it s)
 
 shown_ends : (inputs : Inputs) (shown : List Text) → AreShown inputs shown → EndsWithStatus shown
 shown_ends inputs shown s =
-    let out = none_mapped has_status (λ line. codes "o " ++ line) s.out (λ line. refl) in
-    let reported = none_mapped has_status (λ line. codes "e " ++ line) s.reported (λ line. refl) in
-    ends_with (with_margin (codes "o ") s.out ++ with_margin (codes "e ") s.reported) s.status shown
-    (s.is ∙ sym (append_assoc (with_margin (codes "o ") s.out) (with_margin (codes "e ") s.reported) (status_line s.status ∷ [])))
-    (none_joined has_status (with_margin (codes "o ") s.out) (with_margin (codes "e ") s.reported) out reported)
+    let out = none_mapped has_status (λ line. codes "o " ++ line) s.grep.out (λ line. refl) in
+    let reported = none_mapped has_status (λ line. codes "e " ++ line) s.grep.reported (λ line. refl) in
+    ends_with (with_margin (codes "o ") s.grep.out ++ with_margin (codes "e ") s.grep.reported) s.grep.status shown
+    (s.is ∙ sym (append_assoc (with_margin (codes "o ") s.grep.out) (with_margin (codes "e ") s.grep.reported) (status_line s.grep.status ∷ [])))
+    (none_joined has_status (with_margin (codes "o ") s.grep.out) (with_margin (codes "e ") s.grep.reported) out reported)
 
 -- the reply to a step is taken whole
 is_one_reply : (step : Step) (before after : ScriptState) (reply : List Text) → RepliesTo step before reply after → IsOneReply step reply
 is_one_reply (does edit) before after reply r = ap length r.3
 is_one_reply reports before after reply r = shown_ends before.session.inputs reply r.0
-is_one_reply reports_changes before after reply (r, same) = ends_with (changes_rows before.texts 0 r.changes) r.status reply r.is (none_changes has_status before.texts (λ hit. refl) (λ k change. refl) 0 r.changes)
+is_one_reply reports_changes before after reply (r, same) = ends_with (changes_rows before.texts 0 r.all.changes) r.all.status reply r.is (none_changes has_status before.texts (λ hit. refl) (λ k change. refl) 0 r.all.changes)
 is_one_reply (reports_page first count) before after reply (r, same) =
-    let all = all_hits 0 r.view in
-    ends_with (total_row (min (length all) (2 ^ 64 - 1)) ∷ page_rows before.texts first count all) r.status reply r.is (none_mapped has_status (page_row before.texts) (take count (drop first all)) (λ row. refl))
+    let all = all_hits 0 r.all.view in
+    ends_with (total_row (min (length all) (2 ^ 64 - 1)) ∷ page_rows before.texts first count all) r.all.status reply r.is (none_mapped has_status (page_row before.texts) (take count (drop first all)) (λ row. refl))
 is_one_reply tells_version before after reply r = ap length r.0
 is_one_reply (sets_text on) before after reply r = ap length r.0
 is_one_reply is_bad before after reply r = ap length r.0
@@ -112,18 +113,18 @@ abbrev Present : Type 0 → ScriptState → View → Type 0
 Present Lost state view = (others : View) × ViewsAs Lost view others × ArePresent state.session others
 
 -- the lists that the reported changes make
-read_as : (before after : ScriptState) (reply : List Text) (view new : View) (r : ReportsChanges before.texts before.session after.session reply) → length view ≡ length r.changes → ListsAfter before.texts reports_changes reply view new →
-    all_after (map (map (read_change before.texts)) r.changes) view ≡ new
+read_as : (before after : ScriptState) (reply : List Text) (view new : View) (r : ReportsChanges before.texts before.session after.session reply) → length view ≡ length r.all.changes → ListsAfter before.texts reports_changes reply view new →
+    all_after (map (map (read_change before.texts)) r.all.changes) view ≡ new
 read_as before after reply view new r lists (changes, reads, n) =
-    let long : length changes ≡ length r.changes = reads.one_each ∙ lists in
+    let long : length changes ≡ length r.all.changes = reads.one_each ∙ lists in
     let held = subst (λ (n : ℕ). n < 2 ^ 64) (sym reads.one_each) reads.held.0 in
-    sym (n ∙ one_reading before.texts changes r.changes reads.status r.status view long held reads.held.1 (sym reads.is ∙ r.is))
+    sym (n ∙ one_reading before.texts changes r.all.changes reads.status r.all.status view long held reads.held.1 (sym reads.is ∙ r.is))
 
 module _ (Lost : Type 0) (before after : ScriptState) (reply : List Text) (view new : View) (s : Stands Lost before view) where
-  lists_each : (r : ReportsChanges before.texts before.session after.session reply) → length view ≡ length r.changes
+  lists_each : (r : ReportsChanges before.texts before.session after.session reply) → length view ≡ length r.all.changes
   lists_each r =
       let old = before.session in
-      let files = (three-length (ChangesFile r.es old.inputs.options) old.inputs.files old.marks r.changes r.are_changes).1 in
+      let files = (three-length (ChangesFile r.all.es old.inputs.options) old.inputs.files old.marks r.all.changes r.all.are_changes).1 in
       let lists = (three-length (FollowsFile old.inputs) old.inputs.files old.marks s.others s.follows).1 in
       zip-length (AreAs Lost) view s.others s.alike ∙ sym lists ∙ files
 
@@ -163,17 +164,17 @@ module _ (Lost : Type 0) (before after : ScriptState) (reply : List Text) (view 
       by_switch false (inr lost) = inr lost
 
   -- the lists after the reply to `changes`
-  read_stands : (r : ReportsChanges before.texts before.session after.session reply) → ListsAfter before.texts reports_changes reply view new → ViewsAs Lost new (all_after r.changes s.others)
+  read_stands : (r : ReportsChanges before.texts before.session after.session reply) → ListsAfter before.texts reports_changes reply view new → ViewsAs Lost new (all_after r.all.changes s.others)
   read_stands r l =
-      subst (λ (v : View). ViewsAs Lost v (all_after r.changes s.others)) (read_as before after reply view new r (lists_each r) l) (as_all_after Lost before.texts s.kept r.changes view s.others s.alike)
+      subst (λ (v : View). ViewsAs Lost v (all_after r.all.changes s.others)) (read_as before after reply view new r (lists_each r) l) (as_all_after Lost before.texts s.kept r.all.changes view s.others s.alike)
 
   changes_stand : (r : ReportsChanges before.texts before.session after.session reply) → after.texts ≡ before.texts → ListsAfter before.texts reports_changes reply view new → Stands Lost after new
   changes_stand r same l = record {
     kept = subst (Kept Lost) (sym same) s.kept;
-    others = all_after r.changes s.others;
+    others = all_after r.all.changes s.others;
     alike = read_stands r l;
     fit = subst (λ (w : Watched). AreFit w.inputs.files w.marks) (sym r.leaves) (known_fit before.session.inputs.files);
-    follows = r.follows s.others s.follows;
+    follows = subst (λ (w : Watched). Follows w (all_after r.all.changes s.others)) (sym r.leaves) (r.all.follows s.others s.follows);
   }
 
   step_follows : (step : Step) → Keeps Lost step → RepliesTo step before reply after → ListsAfter before.texts step reply view new → Stands Lost after new
@@ -188,8 +189,8 @@ module _ (Lost : Type 0) (before after : ScriptState) (reply : List Text) (view 
 
   step_present : RepliesTo reports_changes before reply after → ListsAfter before.texts reports_changes reply view new → Present Lost after new
   step_present (r, same) l =
-      let others = all_after r.changes s.others in
-      let known : ArePresent (all_known before.session) others = record { es = r.es; are_meant = r.are_meant; are_hits = r.catches_up s.others s.follows } in
+      let others = all_after r.all.changes s.others in
+      let known : ArePresent (all_known before.session) others = record { es = r.all.es; are_meant = r.all.are_meant; are_hits = r.all.catches_up s.others s.follows } in
       (others, read_stands r l, subst (λ (w : Watched). ArePresent w others) (sym r.leaves) known)
 
 -- ---- all replies
@@ -201,13 +202,16 @@ record OneStep (step : Step) (steps : List Step) (before end : ScriptState) (rep
   reply : List Text
   rest : List Text
   joined : replies ≡ reply ++ rest
+  own : ℕ
+  cost : SearchesAtMost step before.session.inputs own
   replies_to : RepliesTo step before reply state
   lists : ListsAfter before.texts step reply view between
-  are_replies : Replies steps state rest end
+  most : ℕ
+  are_replies : Replies steps state rest end most
   lists_all : ListsAfterAll state.texts steps rest between new
 
-first_step : (step : Step) (steps : List Step) (before end : ScriptState) (replies : List Text) (view new : View) → Replies (step ∷ steps) before replies end → ListsAfterAll before.texts (step ∷ steps) replies view new → OneStep step steps before end replies view new
-first_step step steps before end replies view new (reply, state, rest, r, more, e) (taken, between, left, split, one, l, lists) =
+first_step : (step : Step) (steps : List Step) (before end : ScriptState) (replies : List Text) (view new : View) (most : ℕ) → Replies (step ∷ steps) before replies end most → ListsAfterAll before.texts (step ∷ steps) replies view new → OneStep step steps before end replies view new
+first_step step steps before end replies view new most (reply, state, rest, own, left_over, r, cost, more, e, sum) (taken, between, left, split, one, l, lists) =
     let same = reply_cut step taken reply left rest one (is_one_reply step before state reply r) (sym split ∙ e) in
     record {
       state = state;
@@ -215,43 +219,47 @@ first_step step steps before end replies view new (reply, state, rest, r, more, 
       reply = reply;
       rest = rest;
       joined = e;
+      own = own;
+      cost = cost;
       replies_to = r;
       lists = subst (λ (lines : List Text). ListsAfter before.texts step lines view between) same.0 l;
+      most = left_over;
       are_replies = more;
       lists_all = subst (λ (b : Bool). ListsAfterAll b steps rest between new) (sym (texts_go step before state reply r)) (subst (λ (lines : List Text). ListsAfterAll (text_after step before.texts) steps lines between new) same.1 lists);
     }
 
 module _ (Lost : Type 0) where
-  follow_from : (steps : List Step) (before end : ScriptState) (replies : List Text) (view new : View) → All (Keeps Lost) steps → Stands Lost before view → Replies steps before replies end → ListsAfterAll before.texts steps replies view new → Stands Lost end new
-  follow_from [] before end replies view new keep f r l = still Lost before end replies view new f r.1 l.1
-  follow_from (step ∷ steps) before end replies view new keep f r l =
-      let a = first_step step steps before end replies view new r l in
+  follow_from : (steps : List Step) (before end : ScriptState) (replies : List Text) (view new : View) (most : ℕ) → All (Keeps Lost) steps → Stands Lost before view → Replies steps before replies end most → ListsAfterAll before.texts steps replies view new → Stands Lost end new
+  follow_from [] before end replies view new most keep f r l = still Lost before end replies view new f r.1 l.1
+  follow_from (step ∷ steps) before end replies view new most keep f r l =
+      let a = first_step step steps before end replies view new most r l in
       let next = step_follows Lost before a.state a.reply view a.between f step (All-head (Keeps Lost) step steps keep) a.replies_to a.lists in
-      follow_from steps a.state end a.rest a.between new (All-tail (Keeps Lost) step steps keep) next a.are_replies a.lists_all
+      follow_from steps a.state end a.rest a.between new a.most (All-tail (Keeps Lost) step steps keep) next a.are_replies a.lists_all
 
-  present_from : (steps : List Step) (before end : ScriptState) (replies : List Text) (view new : View) → All (Keeps Lost) steps → Stands Lost before view → Replies (steps ++ reports_changes ∷ []) before replies end → ListsAfterAll before.texts (steps ++ reports_changes ∷ []) replies view new → Present Lost end new
-  present_from [] before end replies view new keep f r l =
-      let a = first_step reports_changes [] before end replies view new r l in
+  present_from : (steps : List Step) (before end : ScriptState) (replies : List Text) (view new : View) (most : ℕ) → All (Keeps Lost) steps → Stands Lost before view → Replies (steps ++ reports_changes ∷ []) before replies end most → ListsAfterAll before.texts (steps ++ reports_changes ∷ []) replies view new → Present Lost end new
+  present_from [] before end replies view new most keep f r l =
+      let a = first_step reports_changes [] before end replies view new most r l in
       let here = step_present Lost before a.state a.reply view a.between f a.replies_to a.lists in
       subst (λ (w : ScriptState). Present Lost w new) (sym a.are_replies.1) (subst (Present Lost a.state) (sym a.lists_all.1) here)
-  present_from (step ∷ steps) before end replies view new keep f r l =
-      let a = first_step step (steps ++ reports_changes ∷ []) before end replies view new r l in
+  present_from (step ∷ steps) before end replies view new most keep f r l =
+      let a = first_step step (steps ++ reports_changes ∷ []) before end replies view new most r l in
       let next = step_follows Lost before a.state a.reply view a.between f step (All-head (Keeps Lost) step steps keep) a.replies_to a.lists in
-      present_from steps a.state end a.rest a.between new (All-tail (Keeps Lost) step steps keep) next a.are_replies a.lists_all
+      present_from steps a.state end a.rest a.between new a.most (All-tail (Keeps Lost) step steps keep) next a.are_replies a.lists_all
 
 -- the first steps of some
-begin_from : (first later : List Step) (before end : ScriptState) (replies : List Text) (view new : View) → Replies (first ++ later) before replies end → ListsAfterAll before.texts (first ++ later) replies view new →
-    (front : List Text) × (rest : List Text) × (between : ScriptState) × (lists : View) × (replies ≡ front ++ rest) × Replies first before front between × ListsAfterAll before.texts first front view lists
-begin_from [] later before end replies view new r l = ([], replies, before, view, refl, (refl, refl), (refl, refl))
-begin_from (step ∷ first) later before end replies view new r l =
-    let a = first_step step (first ++ later) before end replies view new r l in
-    let (front, rest, between, lists, joined, are, made) = begin_from first later a.state end a.rest a.between new a.are_replies a.lists_all in (
+begin_from : (first later : List Step) (before end : ScriptState) (replies : List Text) (view new : View) (most : ℕ) → Replies (first ++ later) before replies end most → ListsAfterAll before.texts (first ++ later) replies view new →
+    (front : List Text) × (rest : List Text) × (between : ScriptState) × (lists : View) × (sum : ℕ) × (replies ≡ front ++ rest) × Replies first before front between sum × ListsAfterAll before.texts first front view lists
+begin_from [] later before end replies view new most r l = ([], replies, before, view, 0, refl, (refl, refl, refl), (refl, refl))
+begin_from (step ∷ first) later before end replies view new most r l =
+    let a = first_step step (first ++ later) before end replies view new most r l in
+    let (front, rest, between, lists, sum, joined, are, made) = begin_from first later a.state end a.rest a.between new a.most a.are_replies a.lists_all in (
       a.reply ++ front,
       rest,
       between,
       lists,
+      a.own + sum,
       a.joined ∙ ap (λ (l : List Text). a.reply ++ l) joined ∙ sym (append_assoc a.reply front rest),
-      (a.reply, a.state, front, a.replies_to, are, refl),
+      (a.reply, a.state, front, a.own, sum, a.replies_to, a.cost, are, refl, refl),
       (a.reply, a.between, front, refl, is_one_reply step before a.state a.reply a.replies_to, a.lists, subst (λ (b : Bool). ListsAfterAll b first front a.between lists) (texts_go step before a.state a.reply a.replies_to) made),
     )
 
@@ -301,14 +309,14 @@ module _ (n : ℕ) (held : IsHeld n) (before after : ScriptState) (reply : List 
   can_edit edit (Ok done) e = (view_after edit view, inl (e, refl))
   can_edit edit (Err fault) e = (view, inr (λ ok. refused_is_not_ok fault (sym e ∙ ok), refl))
 
-  can_read : IsWithin n before.session → Stands (Unit {0}) before view → (r : ReportsChanges before.texts before.session after.session reply) → ReadsChanges before.texts reply view r.changes
+  can_read : IsWithin n before.session → Stands (Unit {0}) before view → (r : ReportsChanges before.texts before.session after.session reply) → ReadsChanges before.texts reply view r.all.changes
   can_read w s r =
       let old = before.session in
-      let files = three-length (ChangesFile r.es old.inputs.options) old.inputs.files old.marks r.changes r.are_changes in
+      let files = three-length (ChangesFile r.all.es old.inputs.options) old.inputs.files old.marks r.all.changes r.all.are_changes in
       let lists = lists_each (Unit {0}) before after reply view view s r in
-      let all = changes_held r.es old.inputs.options n held old.inputs.files old.marks r.changes w.files w.marks s.fit r.are_changes in
+      let all = changes_held r.all.es old.inputs.options n held old.inputs.files old.marks r.all.changes w.files w.marks s.fit r.all.are_changes in
       record {
-        status = r.status;
+        status = r.all.status;
         is = r.is;
         one_each = sym lists;
         held = (omega (arith, held, w.few, files.0, files.1, lists), all);
@@ -317,20 +325,20 @@ module _ (n : ℕ) (held : IsHeld n) (before after : ScriptState) (reply : List 
   can_step : (step : Step) → IsWithin n before.session → Stands (Unit {0}) before view → RepliesTo step before reply after → (new : View) × ListsAfter before.texts step reply view new
   can_step (does edit) w s r = can_edit edit r.0 r.3
   can_step reports w s r = (view, refl)
-  can_step reports_changes w s (r, same) = (all_after (map (map (read_change before.texts)) r.changes) view, (r.changes, can_read w s r, refl))
+  can_step reports_changes w s (r, same) = (all_after (map (map (read_change before.texts)) r.all.changes) view, (r.all.changes, can_read w s r, refl))
   can_step (reports_page first count) w s r = (view, refl)
   can_step tells_version w s r = (view, refl)
   can_step (sets_text on) w s r = (view, refl)
   can_step is_bad w s r = (view, refl)
   can_step is_truncated w s r = (view, refl)
 
-can_from : (steps : List Step) (n : ℕ) (before end : ScriptState) (replies : List Text) (view : View) → IsHeld (n + sum_by brought steps) → IsWithin n before.session → Stands (Unit {0}) before view → Replies steps before replies end → (new : View) × ListsAfterAll before.texts steps replies view new
-can_from [] n before end replies view held w s r = (view, (r.0, refl))
-can_from (step ∷ steps) n before end replies view held w s (reply, between, rest, r, more, e) =
+can_from : (steps : List Step) (n : ℕ) (before end : ScriptState) (replies : List Text) (view : View) (most : ℕ) → IsHeld (n + sum_by brought steps) → IsWithin n before.session → Stands (Unit {0}) before view → Replies steps before replies end most → (new : View) × ListsAfterAll before.texts steps replies view new
+can_from [] n before end replies view most held w s r = (view, (r.0, refl))
+can_from (step ∷ steps) n before end replies view most held w s (reply, between, rest, own, left, r, cost, more, e, sum) =
     let total = sum_by-cons brought step steps in
     let here = can_step n (omega (arith, held)) before between reply view step w s r in
     let next = step_follows (Unit {0}) before between reply view here.0 s step (inr tt) r here.1 in
-    let later = can_from steps (n + brought step) between end rest here.0 (omega (arith, held, total)) (within_step n step before between reply w r) next more in
+    let later = can_from steps (n + brought step) between end rest here.0 left (omega (arith, held, total)) (within_step n step before between reply w r) next more in
     let lists = subst (λ (b : Bool). ListsAfterAll b steps rest here.0 later.0) (texts_go step before between reply r) later.1 in
     (later.0, (reply, here.0, rest, e, is_one_reply step before between reply r, here.1, lists))
 
@@ -341,15 +349,14 @@ new_within states = record { few = omega arith; files = All-nil (λ (file : File
 new_stands : (Lost : Type 0) (states : ℕ) → Stands Lost (new_state states) []
 new_stands Lost states = record { kept = inl refl; others = []; alike = tt; fit = tt; follows = tt }
 
-can_take : (states : ℕ) (script : File) (replies rest : List Text) → bytes_of script.lines < 2 ^ 64 → (a : AnswersScript (new_state states) script replies rest) → (view : View) × Took states a.steps replies a.after view
-can_take states script replies rest few a =
-    let taken = can_from a.steps 0 (new_state states) a.after replies [] (omega (arith, few, steps_bring script.ending script.lines a.steps rest a.are_steps)) (new_within states) (new_stands (Unit {0}) states) a.are_replies in
-    (taken.0, record { are_replies = a.are_replies; lists = taken.1 })
+can_take : (states : ℕ) (script : File) (begun spent : StepCounts) (replies rest : List Text) (after : ScriptState) → bytes_of script.lines < 2 ^ 64 → (a : AnswersScript (new_state states) script begun spent replies rest after) → (view : View) × ListsAfterAll true a.steps replies [] view
+can_take states script begun spent replies rest after few a =
+    can_from a.steps 0 (new_state states) after replies [] a.most (omega (arith, few, steps_bring script.ending script.lines a.steps rest a.are_steps)) (new_within states) (new_stands (Unit {0}) states) a.are_replies
 
-begin_of : (states : ℕ) (first later : List Step) (replies : List Text) (state : ScriptState) (view : View) → Took states (first ++ later) replies state view → (front : List Text) × (rest : List Text) × (between : ScriptState) × (lists : View) × (replies ≡ front ++ rest) × Took states first front between lists
-begin_of states first later replies state view t =
-    let (front, rest, between, lists, joined, are, made) = begin_from first later (new_state states) state replies [] view t.are_replies t.lists in
-    (front, rest, between, lists, joined, record { are_replies = are; lists = made })
+begin_of : (states : ℕ) (first later : List Step) (t : Took states (first ++ later)) → (begun : Took states first) × (rest : List Text) × (t.replies ≡ begun.replies ++ rest)
+begin_of states first later t =
+    let (front, rest, between, lists, sum, joined, are, made) = begin_from first later (new_state states) t.state t.replies [] t.view t.most t.are_replies t.lists in
+    (record { replies = front; state = between; most = sum; are_replies = are; view = lists; lists = made }, rest, joined)
 
 -- ---- what the lists are
 
@@ -361,25 +368,25 @@ all_keep (step ∷ steps) = All-cons (Keeps (Unit {0})) step steps (inr tt) (all
 none_lost : (steps : List Step) → HaveTexts steps → All (Keeps ⊥) steps
 none_lost steps have = All-weaker (λ step. step ≢ sets_text false) (Keeps ⊥) (λ step other. inl other) steps have
 
-follow_whole : (states : ℕ) (steps : List Step) (replies : List Text) (state : ScriptState) (view : View) → Took states steps replies state view → HaveTexts steps → Follows state.session view
-follow_whole states steps replies state view t have =
-    let s = follow_from ⊥ steps (new_state states) state replies [] view (none_lost steps have) (new_stands ⊥ states) t.are_replies t.lists in
-    subst (Follows state.session) (same_views view s.others s.alike) s.follows
+follow_whole : (states : ℕ) (steps : List Step) (t : Took states steps) → HaveTexts steps → Follows t.state.session t.view
+follow_whole states steps t have =
+    let s = follow_from ⊥ steps (new_state states) t.state t.replies [] t.view t.most (none_lost steps have) (new_stands ⊥ states) t.are_replies t.lists in
+    subst (Follows t.state.session) (same_views t.view s.others s.alike) s.follows
 
-present_whole : (states : ℕ) (steps : List Step) (replies : List Text) (state : ScriptState) (view : View) → Took states (steps ++ reports_changes ∷ []) replies state view → HaveTexts steps → ArePresent state.session view
-present_whole states steps replies state view t have =
-    let (others, alike, are) = present_from ⊥ steps (new_state states) state replies [] view (none_lost steps have) (new_stands ⊥ states) t.are_replies t.lists in
-    subst (ArePresent state.session) (same_views view others alike) are
+present_whole : (states : ℕ) (steps : List Step) (t : Took states (steps ++ reports_changes ∷ [])) → HaveTexts steps → ArePresent t.state.session t.view
+present_whole states steps t have =
+    let (others, alike, are) = present_from ⊥ steps (new_state states) t.state t.replies [] t.view t.most (none_lost steps have) (new_stands ⊥ states) t.are_replies t.lists in
+    subst (ArePresent t.state.session) (same_views t.view others alike) are
 
-follow_others : (states : ℕ) (steps : List Step) (replies : List Text) (state : ScriptState) (view : View) → Took states steps replies state view → (others : View) × AreButTexts view others × Follows state.session others
-follow_others states steps replies state view t =
-    let s = follow_from (Unit {0}) steps (new_state states) state replies [] view (all_keep steps) (new_stands (Unit {0}) states) t.are_replies t.lists in
-    (s.others, but_texts view s.others s.alike, s.follows)
+follow_others : (states : ℕ) (steps : List Step) (t : Took states steps) → (others : View) × AreButTexts t.view others × Follows t.state.session others
+follow_others states steps t =
+    let s = follow_from (Unit {0}) steps (new_state states) t.state t.replies [] t.view t.most (all_keep steps) (new_stands (Unit {0}) states) t.are_replies t.lists in
+    (s.others, but_texts t.view s.others s.alike, s.follows)
 
-present_others : (states : ℕ) (steps : List Step) (replies : List Text) (state : ScriptState) (view : View) → Took states (steps ++ reports_changes ∷ []) replies state view → (others : View) × AreButTexts view others × ArePresent state.session others
-present_others states steps replies state view t =
-    let (others, alike, are) = present_from (Unit {0}) steps (new_state states) state replies [] view (all_keep steps) (new_stands (Unit {0}) states) t.are_replies t.lists in
-    (others, but_texts view others alike, are)
+present_others : (states : ℕ) (steps : List Step) (t : Took states (steps ++ reports_changes ∷ [])) → (others : View) × AreButTexts t.view others × ArePresent t.state.session others
+present_others states steps t =
+    let (others, alike, are) = present_from (Unit {0}) steps (new_state states) t.state t.replies [] t.view t.most (all_keep steps) (new_stands (Unit {0}) states) t.are_replies t.lists in
+    (others, but_texts t.view others alike, are)
 
 pub editors_follow : EditorsFollow
 editors_follow = record {

@@ -1,5 +1,5 @@
 -- Where the steps of a script bring few bytes, the numbers of all changes can be held.
-use Rattle.grep_cmd.proofs.Prelude.{◌≡◌, ℕ, zero, suc, ◌+◌, ◌-◌, ◌<◌, ◌≤◌, Bool, true, false, List, [], ◌∷◌, ◌++◌, length, map, take, drop, get_or, All, MatchBool, Result, Ok, Err, refl, sym, ap, subst, inl, inr, arith, length-append, length-set, length-drop, length-take, slice_set, slice_range, remove, splice, sum_by, Text, Expression, ArePartsFrom, AreParts, Flag, Count, IgnoreCase, FilesWithMatches, LineNumber, OnlyMatching, Quiet, NoMessages, InvertMatch, LineRegexp, Options, File, Inputs, file_at, EditFault, Edit, AddFile, AddMissing, DropFile, Splice, DropPattern, ChangePattern, SetFlag, SetSyntax, SetContext, Applies, EditGives, with_files, spliced, whole_file, missing_file, ListedParts, Marked, Stretch, Fits, AllThree, Hit, HitOf, HitsFrom, Watched, whole_mark, new_mark, mark_at, lost, marks_by_flag, IsFit, AreFit, MarksAfter, MarksGiven, Change, AreChanges, ChangesFile, all_known, does, IsHeld, IsHeldPart, IsHeldHit, IsHeldChange, bytes_of, cases_lt, take-take, All-nil, All-cons, All-head, All-tail, All-append, All-set, All-weaker, All-take, All-drop, All-map, All-get_or, sum_by-append, sum_by-cons, sum_by-take-drop, sum_by-take-le, get_or-le-sum_by}
+use Rattle.grep_cmd.proofs.Prelude.{◌≡◌, ℕ, zero, suc, ◌+◌, ◌-◌, ◌<◌, ◌≤◌, Bool, true, false, List, [], ◌∷◌, ◌++◌, length, map, take, drop, get_or, All, MatchBool, Result, Ok, Err, refl, sym, ap, subst, inl, inr, arith, length-append, length-set, length-drop, length-take, slice_set, slice_range, remove, splice, sum_by, Text, Expression, ArePartsFrom, AreParts, Options, File, Inputs, file_at, EditFault, Edit, AddFile, AddMissing, DropFile, Splice, DropPattern, ChangePattern, SetFlag, SetSyntax, SetContext, Applies, EditGives, with_files, spliced, whole_file, missing_file, ListedParts, Marked, Stretch, Fits, AllThree, Hit, HitOf, HitsFrom, Watched, whole_mark, new_mark, mark_at, lost, changes_hits, if◌then◌else◌, IsFit, AreFit, MarksAfter, MarksGiven, Change, AreChanges, ChangesFile, all_known, does, IsHeld, IsHeldPart, IsHeldHit, IsHeldChange, bytes_of, cases_lt, take-take, All-nil, All-cons, All-head, All-tail, All-append, All-set, All-weaker, All-take, All-drop, All-map, All-get_or, sum_by-append, sum_by-cons, sum_by-take-drop, sum_by-take-le, get_or-le-sum_by}
 use Rattle.grep_session.specs.Edits.{AddPatterns}
 use Rattle.grep_live.proofs.lemmas.CarryLemmas.{added_file, added_missing, added_patterns, changed_pattern, context_set, dropped_pattern, file_dropped, option_set, refused_same, splice_accepted, syntax_set}
 use Rattle.grep_cmd.proofs.lemmas.BroughtLaws.{brought}
@@ -97,16 +97,9 @@ module _ (n : ℕ) where
   lost_within : (marks : List Marked) → All (MarkWithin n) marks → All (MarkWithin n) (map lost marks)
   lost_within marks within = All-map (MarkWithin n) lost marks (All-weaker (MarkWithin n) (λ (mark : Marked). MarkWithin n (lost mark)) (λ mark few. few) marks within)
 
-  flag_within : (flag : Flag) (marks : List Marked) → All (MarkWithin n) marks → All (MarkWithin n) (marks_by_flag flag marks)
-  flag_within Count marks within = within
-  flag_within IgnoreCase marks within = lost_within marks within
-  flag_within FilesWithMatches marks within = within
-  flag_within LineNumber marks within = within
-  flag_within OnlyMatching marks within = lost_within marks within
-  flag_within Quiet marks within = within
-  flag_within NoMessages marks within = within
-  flag_within InvertMatch marks within = lost_within marks within
-  flag_within LineRegexp marks within = lost_within marks within
+  lost_or_within : (all : Bool) (marks : List Marked) → All (MarkWithin n) marks → All (MarkWithin n) (if all then map lost marks else marks)
+  lost_or_within true marks within = lost_within marks within
+  lost_or_within false marks within = within
 
   mark_within : (marks : List Marked) (k : ℕ) → All (MarkWithin n) marks → MarkWithin n (mark_at marks k)
   mark_within marks k within = elim (cases_lt k (length marks)) [
@@ -132,7 +125,7 @@ module _ (n : ℕ) where
   marks_after (ChangePattern p text) old marks within (inl (same, m)) = marks_as marks old.marks m within
   marks_after (ChangePattern p text) old marks within (inr (other, m)) = marks_as marks (map lost old.marks) m (lost_within old.marks within)
   marks_after (SetFlag flag on) old marks within (inl (same, m)) = marks_as marks old.marks m within
-  marks_after (SetFlag flag on) old marks within (inr (other, m)) = marks_as marks (marks_by_flag flag old.marks) m (flag_within flag old.marks within)
+  marks_after (SetFlag flag on) old marks within (inr (other, m)) = marks_as marks (if changes_hits flag then map lost old.marks else old.marks) m (lost_or_within (changes_hits flag) old.marks within)
   marks_after (SetSyntax syntax) old marks within (inl (same, m)) = marks_as marks old.marks m within
   marks_after (SetSyntax syntax) old marks within (inr (other, m)) = marks_as marks (map lost old.marks) m (lost_within old.marks within)
   marks_after (SetContext context) old marks within m = marks_as marks old.marks m within

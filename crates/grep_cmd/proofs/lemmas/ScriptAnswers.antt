@@ -26,19 +26,19 @@ status_after rows s is none = ap (list_any is_refusal) is ∙ none_joined is_ref
 -- the replies to `show`, `changes` and `page` refuse nothing
 pub shown_is_no_refusal : {inputs : Inputs} {shown : List Text} → AreShown inputs shown → list_any is_refusal shown ≡ false
 shown_is_no_refusal s =
-    let out = none_mapped is_refusal (λ line. codes "o " ++ line) s.out (λ line. refl) in
-    let reported = none_mapped is_refusal (λ line. codes "e " ++ line) s.reported (λ line. refl) in
-    status_after (with_margin (codes "o ") s.out ++ with_margin (codes "e ") s.reported) s.status
-    (s.is ∙ sym (append_assoc (with_margin (codes "o ") s.out) (with_margin (codes "e ") s.reported) (status_line s.status ∷ [])))
-    (none_joined is_refusal (with_margin (codes "o ") s.out) (with_margin (codes "e ") s.reported) out reported)
+    let out = none_mapped is_refusal (λ line. codes "o " ++ line) s.grep.out (λ line. refl) in
+    let reported = none_mapped is_refusal (λ line. codes "e " ++ line) s.grep.reported (λ line. refl) in
+    status_after (with_margin (codes "o ") s.grep.out ++ with_margin (codes "e ") s.grep.reported) s.grep.status
+    (s.is ∙ sym (append_assoc (with_margin (codes "o ") s.grep.out) (with_margin (codes "e ") s.grep.reported) (status_line s.grep.status ∷ [])))
+    (none_joined is_refusal (with_margin (codes "o ") s.grep.out) (with_margin (codes "e ") s.grep.reported) out reported)
 
 pub changes_is_no_refusal : {texts : Bool} {before after : Watched} {reported : List Text} → ReportsChanges texts before after reported → list_any is_refusal reported ≡ false
-changes_is_no_refusal {texts} t = status_after (changes_rows texts 0 t.changes) t.status t.is (none_changes is_refusal texts (λ hit. refl) (λ k change. refl) 0 t.changes)
+changes_is_no_refusal {texts} t = status_after (changes_rows texts 0 t.all.changes) t.all.status t.is (none_changes is_refusal texts (λ hit. refl) (λ k change. refl) 0 t.all.changes)
 
 pub page_is_no_refusal : {texts : Bool} {inputs : Inputs} {first count : ℕ} {reported : List Text} → ReportsPage texts inputs first count reported → list_any is_refusal reported ≡ false
 page_is_no_refusal {texts} {first = first} {count = count} t =
-    let all = all_hits 0 t.view in
-    status_after (total_row (min (length all) (2 ^ 64 - 1)) ∷ page_rows texts first count all) t.status t.is (none_mapped is_refusal (page_row texts) (take count (drop first all)) (λ row. refl))
+    let all = all_hits 0 t.all.view in
+    status_after (total_row (min (length all) (2 ^ 64 - 1)) ∷ page_rows texts first count all) t.all.status t.is (none_mapped is_refusal (page_row texts) (take count (drop first all)) (λ row. refl))
 
 -- an edit that needs no memory isn't refused as out of memory
 not_for_memory : {T : Type 0} (answer : Result T EditFault) → IfErr answer (λ f. f ≢ fault.Memory) → answer ≢ Err fault.Memory

@@ -1,8 +1,8 @@
 -- How a run of a script continues and ends.
-use Rattle.grep_cmd.proofs.Prelude.{◌≡◌, ◌⊎◌, ℕ, ◌<◌, ◌≤◌, true, false, List, [], ◌∷◌, ◌++◌, length, Option, Result, Ok, Err, arith, inl, inr, refl, sym, ap, ◌∙◌, subst, append_assoc, append-nil, length-append, list_any, Text, HasNoNewline, lines_of, File, Ending, whole, broken, written, file_of, most_lines, GoesOut, StopsWithin, Numbered, HasHanded, StandsAs, AreHanded, IsOneLineAndFew, Stage, Open, Ended, Failed, ScriptState, ScriptFault, Read, Write, Memory, ScriptEnd, Clean, is_truncated, IsBegun, truncated, is_refusal, end_for, AnswersScript, ReadsScript, BeginsScript, GaveLines, SearchesTouched, StopsWriting, ScriptGives, IsUpToReport, HasRead, ReadsNext, FlushesFor, FlushesAfter, DoesStep, WantsLines, LosesLines, AnswersLine, AnsweredSoFar}
+use Rattle.grep_cmd.proofs.Prelude.{◌≡◌, ◌⊎◌, ℕ, ◌+◌, ◌<◌, ◌≤◌, true, false, List, [], ◌∷◌, ◌++◌, length, Option, Result, Ok, Err, arith, inl, inr, refl, sym, ap, ◌∙◌, subst, append_assoc, append-nil, length-append, list_any, Text, HasNoNewline, lines_of, File, Ending, whole, broken, written, file_of, most_lines, GoesOut, StopsWithin, Numbered, HasHanded, StandsAs, AreHanded, IsOneLineAndFew, Stage, Open, Ended, Failed, ScriptState, ScriptFault, Read, Write, Memory, ScriptEnd, Clean, is_truncated, IsBegun, truncated, is_refusal, end_for, AnswersScript, ReadsScript, BeginsScript, GaveLines, AddsAtMost, Replies, ScriptGives, IsUpToReport, HasRead, ReadsNext, FlushesFor, FlushesAfter, DoesStep, WantsLines, AnswersLine, AnsweredSoFar}
 use Rattle.re_syntax.proofs.lemmas.LinesLaws.{lines_of-terminated}
 use Rattle.grep_core.specs.Meters.{Steps as StepCounts}
-use Rattle.re_meter.proofs.lemmas.Adding.{adds_none}
+use Rattle.re_meter.proofs.lemmas.Adding.{adds_none, adds_both}
 use Rattle.grep_core.proofs.lemmas.HandedLemmas.{begins_with}
 use Rattle.grep_core.proofs.lemmas.NumberedLemmas.{has_handed_none}
 use Rattle.std.proofs.KnownBytes.{Appends-trans}
@@ -10,7 +10,7 @@ use Rattle.grep_core.specs.Counted.{one_more}
 use Rattle.grep_core.proofs.lemmas.RowLemmas.{goes_nowhere, goes_on}
 use Rattle.grep_core.proofs.lemmas.WriterLaws.{written-append}
 use Rattle.grep_cmd.specs.declared.script.ScriptEnd.TheVariants.{Refused}
-use Rattle.grep_cmd.proofs.lemmas.ScriptSteps.{done_push, done_steps, done_alone, replies_push, work_none, work_push, end_kept, end_refused, all_but_last, all_before}
+use Rattle.grep_cmd.proofs.lemmas.ScriptSteps.{done_push, done_steps, done_alone, replies_push, end_kept, end_refused, all_but_last, all_before}
 
 abbrev script_of : List Text → Ending → File
 script_of lines ending = record { name = []; lines = lines; ending = ending }
@@ -65,8 +65,9 @@ module _ {R W : Type 0} {remaining : R → Option Text} {failures : R → ℕ} {
     steps = [];
     are_done = refl;
     replies = [];
-    are_replies = (refl, refl);
-    work = work_none start begun;
+    most = 0;
+    are_replies = (refl, refl, refl);
+    few = adds_none 0 0 begun;
     goes = goes_nowhere contents write_failures old;
     ended = refl;
   }
@@ -81,15 +82,16 @@ module _ {R W : Type 0} {remaining : R → Option Text} {failures : R → ℕ} {
     Does line next after last reply = DoesStep remaining failures reader (s.handed ++ line ∷ []) line next spent last inputs after reply
 
     abbrev Wants : Text → Numbered R → ScriptState → StepCounts → Type 0
-    Wants line next after last = WantsLines remaining failures reader (s.handed ++ line ∷ []) line next spent last inputs after
+    Wants line next after last = WantsLines remaining failures reader (s.handed ++ line ∷ []) line next spent last inputs after whole
 
-    -- the steps so far, of a script that continues
-    answers_so_far : (file : File) (rest : List Text) → file.lines ≡ s.handed ++ rest → AnswersScript start file s.replies rest
-    answers_so_far file rest is = record {
+    -- the steps so far, of a script that continues; then nothing is searched
+    answers_so_far : {last : StepCounts} (file : File) (rest : List Text) → file.lines ≡ s.handed ++ rest → last ≡ spent → AnswersScript start file begun last s.replies rest inputs
+    answers_so_far file rest is idle = record {
       steps = s.steps;
       are_steps = rw is (done_alone file.ending s.handed rest s.steps s.are_done);
-      after = inputs;
+      most = s.most;
       are_replies = s.are_replies;
+      few = subst (AddsAtMost s.most begun) (sym idle) s.few;
     }
 
     -- ---- no further line was handed out
@@ -104,9 +106,7 @@ module _ {R W : Type 0} {remaining : R → Option Text} {failures : R → ℕ} {
         reads = reads remaining failures reader next s.handed whole stands;
         is_whole = refl;
         replies = s.replies;
-        answers = answers_so_far (script_of s.handed whole) [] (sym (append-nil s.handed));
-        leaves = refl;
-        work = s.work;
+        answers = answers_so_far (script_of s.handed whole) [] (sym (append-nil s.handed)) refl;
         goes = goes_same s.goes flushed;
         ended = s.ended;
       }
@@ -121,10 +121,8 @@ module _ {R W : Type 0} {remaining : R → Option Text} {failures : R → ℕ} {
         is_broken = refl;
         replies = s.replies;
         rest = [];
-        answers = answers_so_far (script_of s.handed broken) [] (sym (append-nil s.handed));
-        leaves = refl;
+        answers = answers_so_far (script_of s.handed broken) [] (sym (append-nil s.handed)) refl;
         cut_short = inl refl;
-        work = s.work;
         goes = goes_same s.goes flushed;
       }
 
@@ -140,16 +138,12 @@ module _ {R W : Type 0} {remaining : R → Option Text} {failures : R → ℕ} {
             reads = b.1;
             replies = s.replies;
             done = s.handed;
-            rest = begin ++ b.2.0;
-            is_file = is;
-            answers = answers_so_far b.0 (begin ++ b.2.0) is;
-            leaves = refl;
             first = begin;
             others = b.2.0;
-            is_rest = refl;
+            is_file = is;
+            answers = answers_so_far b.0 (begin ++ b.2.0) is refl;
             is_begun = is_begun;
             were_read = (handed, few);
-            work = s.work;
             goes = goes_same s.goes flushed;
           }
 
@@ -164,11 +158,11 @@ module _ {R W : Type 0} {remaining : R → Option Text} {failures : R → ℕ} {
             reads = inl b.1;
             replies = s.replies;
             rest = others ++ b.2.0;
-            answers = answers_so_far b.0 (others ++ b.2.0) (b.2.1 ∙ append_assoc s.handed others b.2.0);
+            done = inputs;
+            answers = answers_so_far b.0 (others ++ b.2.0) (b.2.1 ∙ append_assoc s.handed others b.2.0) refl;
             leaves = inl refl;
-            work = s.work;
             stops = stops_as (sym (append-nil (written [] s.replies))) s.goes stops;
-            broken = all_but_last s.steps start inputs s.replies stops.front s.are_replies;
+            broken = all_but_last s.steps start inputs s.replies s.most stops.front s.are_replies;
           }
 
     -- no further line was read
@@ -187,24 +181,25 @@ module _ {R W : Type 0} {remaining : R → Option Text} {failures : R → ℕ} {
         let longer = ap length (line_then s.handed line d.taken) ∙ length-append s.handed (line ∷ d.taken) in
         (omega (arith, longer, h.counted, s.has_handed.counted), omega (arith, h.counted, h.few))
 
-    works : {line : Text} {next : Numbered R} {after : ScriptState} {last : StepCounts} {reply : List Text} → (d : Does line next after last reply) → SearchesTouched start (s.steps ++ d.step ∷ []) (s.replies ++ reply) after begun last
-    works {reply = reply} d = work_push d.step reply s.work d.replies_to d.is_most d.few
-
-    -- without a step
-    idles : {last : StepCounts} → last ≡ spent → SearchesTouched start s.steps s.replies inputs begun last
-    idles idle = subst (SearchesTouched start s.steps s.replies inputs begun) (sym idle) s.work
-
-    works_truncated : {last : StepCounts} → last ≡ spent → SearchesTouched start (s.steps ++ is_truncated ∷ []) (s.replies ++ truncated ∷ []) inputs begun last
-    works_truncated {last} idle = work_push is_truncated (truncated ∷ []) (idles idle) (refl, refl) refl (adds_none 0 0 last)
+    -- one more command was answered, with this cost
+    done_too : {line : Text} {next : Numbered R} {after : ScriptState} {last : StepCounts} {reply : List Text} → (d : Does line next after last reply) → Replies (s.steps ++ d.step ∷ []) start (s.replies ++ reply) after (s.most + d.most) × AddsAtMost (s.most + d.most) begun last
+    done_too {after = after} {reply = reply} d = (replies_push s.steps d.step start inputs after s.replies reply s.most d.most s.are_replies d.replies_to d.is_most, adds_both s.most d.most s.most d.most _ _ _ s.few d.few)
 
     -- fewer lines follow than it counts
-    truncates : {line : Text} {next : Numbered R} {after : ScriptState} {last : StepCounts} (file : File) → (w : Wants line next after last) → file.lines ≡ s.handed ++ line ∷ w.taken → file.ending ≡ whole → AnswersScript start file (s.replies ++ truncated ∷ []) []
-    truncates {line} file w is ends = record {
-      steps = s.steps ++ is_truncated ∷ [];
-      are_steps = rw is (done_steps file.ending s.handed (line ∷ w.taken) [] s.steps (is_truncated ∷ []) s.are_done (inr (ends, w.wants, refl, refl, refl)));
-      after = inputs;
-      are_replies = replies_push s.steps is_truncated start inputs inputs s.replies (truncated ∷ []) s.are_replies (refl, refl);
-    }
+    truncates : {line : Text} {next : Numbered R} {after : ScriptState} {last : StepCounts} (file : File) → (w : Wants line next after last) → file.lines ≡ s.handed ++ line ∷ w.taken → file.ending ≡ whole → AnswersScript start file begun last (s.replies ++ truncated ∷ []) [] inputs
+    truncates {line} file w is ends =
+        let none : s.most ≡ s.most + 0 = omega arith in
+        record {
+          steps = s.steps ++ is_truncated ∷ [];
+          are_steps = rw is (done_steps file.ending s.handed (line ∷ w.taken) [] s.steps (is_truncated ∷ []) s.are_done (inr (ends, w.wants, refl, refl, refl)));
+          most = s.most + 0;
+          are_replies = replies_push s.steps is_truncated start inputs inputs s.replies (truncated ∷ []) s.most 0 s.are_replies (refl, refl) refl;
+          few = subst (AddsAtMost (s.most + 0) begun) (sym w.idle) (subst (λ n. AddsAtMost n begun spent) none s.few);
+        }
+
+    -- where the command changed nothing
+    as_left : {file : File} {last : StepCounts} {replies rest : List Text} {after : ScriptState} → after ≡ inputs → AnswersScript start file begun last replies rest inputs → AnswersScript start file begun last replies rest after
+    as_left {file} {last} {replies} {rest} same answers = subst (AnswersScript start file begun last replies rest) (sym same) answers
 
     reads_all : (line : Text) (next : Numbered R) (taken : List Text) (kind : Ending) → StandsAs remaining failures reader next ((s.handed ++ line ∷ []) ++ taken) kind
         → ReadsScript (remaining reader) (remaining next.lines.reader) (failures reader) (failures next.lines.reader) (script_of (s.handed ++ line ∷ taken) kind)
@@ -220,8 +215,9 @@ module _ {R W : Type 0} {remaining : R → Option Text} {failures : R → ℕ} {
         steps = s.steps ++ d.step ∷ [];
         are_done = done_push s.handed s.steps line d.taken d.step s.are_done d.is_step;
         replies = s.replies ++ reply;
-        are_replies = replies_push s.steps d.step start inputs after s.replies reply s.are_replies d.replies_to;
-        work = works d;
+        most = s.most + d.most;
+        are_replies = (done_too d).0;
+        few = (done_too d).1;
         goes = goes_both s.replies reply s.goes flushed goes;
         ended = is;
       }
@@ -242,15 +238,13 @@ module _ {R W : Type 0} {remaining : R → Option Text} {failures : R → ℕ} {
         reads = reads_all line next w.taken whole w.stands;
         is_whole = refl;
         replies = s.replies ++ truncated ∷ [];
-        answers = truncates (script_of (s.handed ++ line ∷ w.taken) whole) w refl refl;
-        leaves = w.same;
-        work = works_truncated w.idle;
+        answers = as_left w.same (truncates (script_of (s.handed ++ line ∷ w.taken) whole) w refl refl);
         goes = goes_both s.replies (truncated ∷ []) s.goes flushed goes;
         ended = sym (end_refused s.replies (truncated ∷ []) refl);
       }
 
       -- a read failed before all lines were read
-      cut_within : LosesLines remaining failures reader (s.handed ++ line ∷ []) line next spent last inputs after → GoesOut contents write_failures sent new []
+      cut_within : WantsLines remaining failures reader (s.handed ++ line ∷ []) line next spent last inputs after broken → GoesOut contents write_failures sent new []
           → Gives next after last new (Err Read)
       unfolding answers_so_far
       cut_within l goes = record {
@@ -259,10 +253,8 @@ module _ {R W : Type 0} {remaining : R → Option Text} {failures : R → ℕ} {
         is_broken = refl;
         replies = s.replies;
         rest = line ∷ l.taken;
-        answers = answers_so_far (script_of (s.handed ++ line ∷ l.taken) broken) (line ∷ l.taken) refl;
-        leaves = l.same;
+        answers = as_left l.same (answers_so_far (script_of (s.handed ++ line ∷ l.taken) broken) (line ∷ l.taken) refl l.idle);
         cut_short = inr l.wants;
-        work = idles l.idle;
         goes = goes_same s.goes (goes_same flushed goes);
       }
 
@@ -278,16 +270,17 @@ module _ {R W : Type 0} {remaining : R → Option Text} {failures : R → ℕ} {
             reads = inl b.1;
             replies = s.replies ++ reply;
             rest = b.2.0;
+            done = then;
             answers = record {
               steps = s.steps ++ d.step ∷ [];
               are_steps = rw b.2.1 (done_alone b.0.ending (s.handed ++ line ∷ d.taken) b.2.0 (s.steps ++ d.step ∷ []) (done_push s.handed s.steps line d.taken d.step s.are_done d.is_step));
-              after = then;
-              are_replies = replies_push s.steps d.step start inputs then s.replies reply s.are_replies d.replies_to;
+              most = s.most + d.most;
+              are_replies = (done_too d).0;
+              few = (done_too d).1;
             };
             leaves = leaves;
-            work = works d;
             stops = stops_as (written-append [] s.replies reply) (goes_same s.goes flushed) stops;
-            broken = all_before s.steps d.step start inputs s.replies stops.front s.are_replies;
+            broken = all_before s.steps d.step start inputs s.replies s.most stops.front s.are_replies;
           }
 
       stops_truncated : Wants line next after last → StopsWithin contents write_failures sent new (written [] (truncated ∷ []))
@@ -298,11 +291,11 @@ module _ {R W : Type 0} {remaining : R → Option Text} {failures : R → ℕ} {
         reads = inr (reads_all line next w.taken whole w.stands);
         replies = s.replies ++ truncated ∷ [];
         rest = [];
+        done = inputs;
         answers = truncates (script_of (s.handed ++ line ∷ w.taken) whole) w refl refl;
         leaves = inl w.same;
-        work = works_truncated w.idle;
         stops = stops_as (written-append [] s.replies (truncated ∷ [])) (goes_same s.goes flushed) stops;
-        broken = all_before s.steps is_truncated start inputs s.replies stops.front s.are_replies;
+        broken = all_before s.steps is_truncated start inputs s.replies s.most stops.front s.are_replies;
       }
 
     module _ (line : Text) {sent : W} (flushed : GoesOut contents write_failures mid sent []) (next : Numbered R) (after : ScriptState) (last : StepCounts) (new : W) where
@@ -328,34 +321,34 @@ module _ {W : Type 0} (contents : W → Option Text) (failures : W → ℕ) (has
   Given = ScriptGives contents failures has_read known left failed_before failed start after begun spent old
 
   -- what was buffered couldn't be sent
-  stopped : {file : File} {replies rest : List Text} → BeginsScript known failed_before failed file ⊎ ReadsScript known left failed_before failed file → (answers : AnswersScript start file replies rest) → after ≡ answers.after
-      → SearchesTouched start answers.steps replies answers.after begun spent → GoesOut contents failures old mid (written [] replies) → StopsWithin contents failures mid new [] → Given new (Err Write)
+  stopped : {file : File} {replies rest : List Text} → BeginsScript known failed_before failed file ⊎ ReadsScript known left failed_before failed file → AnswersScript start file begun spent replies rest after
+      → GoesOut contents failures old mid (written [] replies) → StopsWithin contents failures mid new [] → Given new (Err Write)
   unfolding stops_as
-  stopped {file} {replies} {rest} reads answers leaves work goes stops = record {
+  stopped {file} {replies} {rest} reads answers goes stops = record {
     file = file;
     reads = reads;
     replies = replies;
     rest = rest;
+    done = after;
     answers = answers;
-    leaves = inl leaves;
-    work = work;
+    leaves = inl refl;
     stops = stops_as (sym (append-nil (written [] replies))) goes stops;
-    broken = all_but_last answers.steps start answers.after replies stops.front answers.are_replies;
+    broken = all_but_last answers.steps start after replies answers.most stops.front answers.are_replies;
   }
 
   -- what was buffered was sent after a run, or that failed
   pub sends_after : (ended result : Result ScriptEnd ScriptFault) → Given mid ended → FlushesAfter contents failures mid new ended result → Given new result
   sends_after (Ok end) result e (inl (sent, is)) =
-      subst (Given new) (sym is) (record { file = e.file; reads = e.reads; is_whole = e.is_whole; replies = e.replies; answers = e.answers; leaves = e.leaves; work = e.work; goes = goes_same e.goes sent; ended = e.ended })
-  sends_after (Ok end) result e (inr (stops, is)) = subst (Given new) (sym is) (stopped (inr e.reads) e.answers e.leaves e.work e.goes stops)
+      subst (Given new) (sym is) (record { file = e.file; reads = e.reads; is_whole = e.is_whole; replies = e.replies; answers = e.answers; goes = goes_same e.goes sent; ended = e.ended })
+  sends_after (Ok end) result e (inr (stops, is)) = subst (Given new) (sym is) (stopped (inr e.reads) e.answers e.goes stops)
   sends_after (Err Read) result e (inl (sent, is)) =
       subst (Given new) (sym is)
-      (record { file = e.file; reads = e.reads; is_broken = e.is_broken; replies = e.replies; rest = e.rest; answers = e.answers; leaves = e.leaves; cut_short = e.cut_short; work = e.work; goes = goes_same e.goes sent })
-  sends_after (Err Read) result e (inr (stops, is)) = subst (Given new) (sym is) (stopped (inr e.reads) e.answers e.leaves e.work e.goes stops)
+      (record { file = e.file; reads = e.reads; is_broken = e.is_broken; replies = e.replies; rest = e.rest; answers = e.answers; cut_short = e.cut_short; goes = goes_same e.goes sent })
+  sends_after (Err Read) result e (inr (stops, is)) = subst (Given new) (sym is) (stopped (inr e.reads) e.answers e.goes stops)
   sends_after (Err Memory) result e (inl (sent, is)) =
       subst (Given new) (sym is)
-      (record { file = e.file; reads = e.reads; replies = e.replies; done = e.done; rest = e.rest; is_file = e.is_file; answers = e.answers; leaves = e.leaves; first = e.first; others = e.others; is_rest = e.is_rest; is_begun = e.is_begun; were_read = e.were_read; work = e.work; goes = goes_same e.goes sent })
-  sends_after (Err Memory) result e (inr (stops, is)) = subst (Given new) (sym is) (stopped (inl e.reads) e.answers e.leaves e.work e.goes stops)
+      (record { file = e.file; reads = e.reads; replies = e.replies; done = e.done; first = e.first; others = e.others; is_file = e.is_file; answers = e.answers; is_begun = e.is_begun; were_read = e.were_read; goes = goes_same e.goes sent })
+  sends_after (Err Memory) result e (inr (stops, is)) = subst (Given new) (sym is) (stopped (inl e.reads) e.answers e.goes stops)
   sends_after (Err Write) result e (same, is) = subst (Given new) (sym is) (subst (λ w. Given w (Err Write)) (sym same) e)
 
 -- ---- what the reader gave
@@ -378,13 +371,13 @@ module _ {R W : Type 0} (remaining : R → Option Text) (failures : R → ℕ) (
       → ScriptGives contents write_failures (HasRead remaining failures reader now) (remaining reader) (remaining now.lines.reader) (failures reader) (failures now.lines.reader) start after begun spent old new result
       → ScriptGives contents write_failures (GaveLines (remaining reader) (remaining now.lines.reader)) (remaining reader) (remaining now.lines.reader) (failures reader) (failures now.lines.reader) start after begun spent old new result
   gives_by_reader now begun spent old new (Ok end) e =
-      record { file = e.file; reads = e.reads; is_whole = e.is_whole; replies = e.replies; answers = e.answers; leaves = e.leaves; work = e.work; goes = e.goes; ended = e.ended }
+      record { file = e.file; reads = e.reads; is_whole = e.is_whole; replies = e.replies; answers = e.answers; goes = e.goes; ended = e.ended }
   gives_by_reader now begun spent old new (Err Read) e =
-      record { file = e.file; reads = e.reads; is_broken = e.is_broken; replies = e.replies; rest = e.rest; answers = e.answers; leaves = e.leaves; cut_short = e.cut_short; work = e.work; goes = e.goes }
+      record { file = e.file; reads = e.reads; is_broken = e.is_broken; replies = e.replies; rest = e.rest; answers = e.answers; cut_short = e.cut_short; goes = e.goes }
   gives_by_reader now begun spent old new (Err Memory) e =
-      record { file = e.file; reads = e.reads; replies = e.replies; done = e.done; rest = e.rest; is_file = e.is_file; answers = e.answers; leaves = e.leaves; first = e.first; others = e.others; is_rest = e.is_rest; is_begun = e.is_begun; were_read = gave now (e.done ++ e.first) e.were_read; work = e.work; goes = e.goes }
+      record { file = e.file; reads = e.reads; replies = e.replies; done = e.done; first = e.first; others = e.others; is_file = e.is_file; answers = e.answers; is_begun = e.is_begun; were_read = gave now (e.done ++ e.first) e.were_read; goes = e.goes }
   gives_by_reader now begun spent old new (Err Write) e =
-      record { file = e.file; reads = e.reads; replies = e.replies; rest = e.rest; answers = e.answers; leaves = e.leaves; work = e.work; stops = e.stops; broken = e.broken }
+      record { file = e.file; reads = e.reads; replies = e.replies; rest = e.rest; done = e.done; answers = e.answers; leaves = e.leaves; stops = e.stops; broken = e.broken }
 
 -- no memory for a reader of lines
 pub runs_out_at_once : {R W : Type 0} (remaining : R → Option Text) (failures : R → ℕ) (contents : W → Option Text) (write_failures : W → ℕ) (reader : R) (start : ScriptState) (steps : StepCounts) (out : W)

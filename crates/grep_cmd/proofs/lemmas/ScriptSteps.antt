@@ -1,7 +1,5 @@
--- The steps of a script, the replies to them and what they search, one more at a time.
-use Rattle.grep_cmd.proofs.Prelude.{◌≡◌, ℕ, ◌+◌, true, false, ◌||◌, if◌then◌else◌, List, [], ◌∷◌, ◌++◌, inl, refl, sym, ap, ◌∙◌, subst, append_assoc, append-nil, arith, or_right, list_any-append, list_any, length-append, length-drop, take_at, Text, Ending, written, AddsAtMost, ScriptState, Clean, Step, IsStep, line_command, Steps, RepliesTo, Replies, HasAllButLast, SearchesAtMost, AllSearchAtMost, SearchesTouched, is_refusal, end_for, AreDone}
-use Rattle.re_meter.proofs.lemmas.Adding.{adds_none, adds_both}
-use Rattle.grep_core.specs.Meters.{Steps as StepCounts}
+-- The steps of a script, and the replies to them, one more at a time.
+use Rattle.grep_cmd.proofs.Prelude.{◌≡◌, ℕ, ◌+◌, true, false, ◌||◌, if◌then◌else◌, List, [], ◌∷◌, ◌++◌, inl, refl, sym, ap, ◌∙◌, subst, append_assoc, append-nil, arith, or_right, list_any-append, list_any, length-append, length-drop, take_at, Text, Ending, written, ScriptState, Clean, Step, IsStep, line_command, Steps, RepliesTo, Replies, HasAllButLast, SearchesAtMost, is_refusal, end_for, AreDone}
 use Rattle.grep_core.proofs.lemmas.WriterLaws.{written-append}
 use Rattle.grep_cmd.specs.declared.script.ScriptEnd.TheVariants.{Refused}
 
@@ -23,44 +21,9 @@ pub done_alone : (ending : Ending) (lines rest : List Text) (steps : List Step) 
 done_alone ending lines rest steps done = subst (λ ss. Steps ending (lines ++ rest) ss rest) (append-nil steps) (done_steps ending lines rest rest steps [] done refl)
 
 -- one more reply
-pub replies_push : (steps : List Step) (step : Step) (before between after : ScriptState) (replies reply : List Text) → Replies steps before replies between → RepliesTo step between reply after
-    → Replies (steps ++ step ∷ []) before (replies ++ reply) after
-replies_push [] step before between after replies reply (none, same) h =
-    (reply, after, [], subst (λ i. RepliesTo step i reply after) same h, (refl, refl), ap (λ rs. rs ++ reply) none ∙ sym (append-nil reply))
-replies_push (s ∷ steps) step before between after replies reply (own, mid, rest, first, others, cut) h =
-    (own, mid, rest ++ reply, first, replies_push steps step mid between after rest reply others h, ap (λ rs. rs ++ reply) cut ∙ append_assoc own rest reply)
-
--- all but the last are written if all are
-pub all_but_last : (steps : List Step) (before after : ScriptState) (replies : List Text) (more : Text) → Replies steps before replies after → HasAllButLast steps before (written [] replies ++ more)
-all_but_last [] before after replies more h = record { sent = []; between = before; are_replies = (refl, refl); more = written [] replies ++ more; are_first = refl }
-all_but_last (step ∷ []) before after replies more h = record { sent = []; between = before; are_replies = (refl, refl); more = written [] replies ++ more; are_first = refl }
-all_but_last (step ∷ next ∷ steps) before after replies more (reply, mid, rest, first, others, cut) =
-    let h = all_but_last (next ∷ steps) mid after rest more others in
-    record {
-      sent = reply ++ h.sent;
-      between = h.between;
-      are_replies = (reply, mid, h.sent, first, h.are_replies, refl);
-      more = h.more;
-      are_first =
-          ap (λ rs. written [] rs ++ more) cut ∙ ap (λ t. t ++ more) (written-append [] reply rest) ∙ append_assoc (written [] reply) (written [] rest) more ∙ ap (λ t. written [] reply ++ t) h.are_first ∙
-          sym (append_assoc (written [] reply) (written [] h.sent) h.more) ∙ ap (λ t. t ++ h.more) (sym (written-append [] reply h.sent));
-    }
-
--- all of them, and a beginning of the reply to one more
-pub all_before : (steps : List Step) (step : Step) (before between : ScriptState) (replies : List Text) (more : Text) → Replies steps before replies between
-    → HasAllButLast (steps ++ step ∷ []) before (written [] replies ++ more)
-all_before steps step before between replies more h = record {
-  sent = replies;
-  between = between;
-  are_replies = subst (λ ss. Replies ss before replies between) (sym (take_at steps (step ∷ []) _ (omega (arith, length-drop 1 (steps ++ step ∷ []), length-append steps (step ∷ []))))) h;
-  more = more;
-  are_first = refl;
-}
-
--- the sum with one more command
-most_push : (steps : List Step) (step : Step) (before between after : ScriptState) (replies reply : List Text) (most own : ℕ) → AllSearchAtMost steps before replies between most → RepliesTo step between reply after
-    → SearchesAtMost step between.session.inputs own → AllSearchAtMost (steps ++ step ∷ []) before (replies ++ reply) after (most + own)
-most_push [] step before between after replies reply most own (none, same, zero) h cost = (
+pub replies_push : (steps : List Step) (step : Step) (before between after : ScriptState) (replies reply : List Text) (most own : ℕ) → Replies steps before replies between most → RepliesTo step between reply after
+    → SearchesAtMost step between.session.inputs own → Replies (steps ++ step ∷ []) before (replies ++ reply) after (most + own)
+replies_push [] step before between after replies reply most own (none, same, zero) h cost = (
   reply,
   after,
   [],
@@ -72,7 +35,7 @@ most_push [] step before between after replies reply most own (none, same, zero)
   ap (λ rs. rs ++ reply) none ∙ sym (append-nil reply),
   omega (arith, zero),
 )
-most_push (s ∷ steps) step before between after replies reply most own (first, mid, rest, one, others, given, cost, more, cut, sum) h last = (
+replies_push (s ∷ steps) step before between after replies reply most own (first, mid, rest, one, others, given, cost, more, cut, sum) h last = (
   first,
   mid,
   rest ++ reply,
@@ -80,22 +43,38 @@ most_push (s ∷ steps) step before between after replies reply most own (first,
   others + own,
   given,
   cost,
-  most_push steps step mid between after rest reply others own more h last,
+  replies_push steps step mid between after rest reply others own more h last,
   ap (λ rs. rs ++ reply) cut ∙ append_assoc first rest reply,
   omega (arith, sum),
 )
 
--- nothing was searched for no command
-pub work_none : (before : ScriptState) (steps : StepCounts) → SearchesTouched before [] [] before steps steps
-work_none before steps = record { most = 0; is_most = (refl, refl, refl); few = adds_none 0 0 steps }
+-- all but the last are written if all are
+pub all_but_last : (steps : List Step) (before after : ScriptState) (replies : List Text) (most : ℕ) (more : Text) → Replies steps before replies after most → HasAllButLast steps before (written [] replies ++ more)
+all_but_last [] before after replies most more h = record { sent = []; between = before; most = 0; are_replies = (refl, refl, refl); more = written [] replies ++ more; are_first = refl }
+all_but_last (step ∷ []) before after replies most more h = record { sent = []; between = before; most = 0; are_replies = (refl, refl, refl); more = written [] replies ++ more; are_first = refl }
+all_but_last (step ∷ next ∷ steps) before after replies most more (reply, mid, rest, own, left, first, cost, others, cut, sum) =
+    let h = all_but_last (next ∷ steps) mid after rest left more others in
+    record {
+      sent = reply ++ h.sent;
+      between = h.between;
+      most = own + h.most;
+      are_replies = (reply, mid, h.sent, own, h.most, first, cost, h.are_replies, refl, refl);
+      more = h.more;
+      are_first =
+          ap (λ rs. written [] rs ++ more) cut ∙ ap (λ t. t ++ more) (written-append [] reply rest) ∙ append_assoc (written [] reply) (written [] rest) more ∙ ap (λ t. written [] reply ++ t) h.are_first ∙
+          sym (append_assoc (written [] reply) (written [] h.sent) h.more) ∙ ap (λ t. t ++ h.more) (sym (written-append [] reply h.sent));
+    }
 
--- one more command searches no more than it costs
-pub work_push : {before : ScriptState} {steps : List Step} (step : Step) {between after : ScriptState} {replies : List Text} (reply : List Text) {begun spent last : StepCounts} {own : ℕ} → SearchesTouched before steps replies between begun spent
-    → RepliesTo step between reply after → SearchesAtMost step between.session.inputs own → AddsAtMost own spent last → SearchesTouched before (steps ++ step ∷ []) (replies ++ reply) after begun last
-work_push {before} {steps} step {between} {after} {replies} reply {own = own} w h cost few = record {
-  most = w.most + own;
-  is_most = most_push steps step before between after replies reply w.most own w.is_most h cost;
-  few = adds_both w.most own w.most own _ _ _ w.few few;
+-- all of them, and a beginning of the reply to one more
+pub all_before : (steps : List Step) (step : Step) (before between : ScriptState) (replies : List Text) (most : ℕ) (more : Text) → Replies steps before replies between most
+    → HasAllButLast (steps ++ step ∷ []) before (written [] replies ++ more)
+all_before steps step before between replies most more h = record {
+  sent = replies;
+  between = between;
+  most = most;
+  are_replies = subst (λ ss. Replies ss before replies between most) (sym (take_at steps (step ∷ []) _ (omega (arith, length-drop 1 (steps ++ step ∷ []), length-append steps (step ∷ []))))) h;
+  more = more;
+  are_first = refl;
 }
 
 -- a reply that refuses nothing

@@ -3,7 +3,7 @@ use Rattle.std.specs.Prelude.{◌≡◌, ℕ, ◌<◌, ◌≤◌, Bool, true, fa
 use Rattle.std.specs.Prelude.{Option, Some, None, Result, Ok, Err, ◌⊎◌}
 use Rattle.std.specs.List.{list_any}
 use Rattle.re_syntax.specs.Bytes.{Text}
-use Rattle.grep_core.specs.Files.{whole, broken}
+use Rattle.grep_core.specs.Files.{Ending, whole, broken}
 use Rattle.grep_core.specs.Meters.{AddsAtMost, Steps as StepCounts}
 use Rattle.grep_core.specs.Output.{written}
 use Rattle.grep_core.specs.Written.{GoesOut, StopsWithin}
@@ -17,7 +17,7 @@ use Rattle.grep_cmd.specs.declared.script.reply.Answer.{Answer}
 use Rattle.grep_cmd.specs.declared.script.reply.Answer.TheVariants.{Accepted, Refused, Truncated}
 use Rattle.script_commands.specs.Commands.{AsksForMemory, line_command}
 use Rattle.grep_cmd.specs.Script.{Step, IsStep, WantsMore}
-use Rattle.grep_cmd.specs.Replies.{RepliesTo, Replies, SearchesAtMost, SearchesTouched, truncated}
+use Rattle.grep_cmd.specs.Replies.{RepliesTo, Replies, SearchesAtMost, truncated}
 use Rattle.grep_session.specs.Marks.{Watched}
 use Rattle.grep_cmd.specs.Replies.{is_refusal, end_for, ScriptState, IsUpToReport}
 
@@ -109,60 +109,47 @@ module _ {R : Type 0} (remaining : R → Option Text) (failures : R → ℕ) (re
     pub is_most : SearchesAtMost step before.session.inputs most
     pub few : AddsAtMost most begun spent
 
-module _ {R : Type 0} (remaining : R → Option Text) (failures : R → ℕ) (reader : R)
-    (handed : List Text) (line : Text) (now : Numbered R) (begun spent : StepCounts)
-    (before after : ScriptState) where
-  -- what the command leaves and its reply, where it was done
-  abbrev pub Does : ScriptState → List Text → Type 0
-  Does then reply = DoesStep remaining failures reader handed line now begun spent before then reply
+  module _ (after : ScriptState) where
+    -- fewer lines follow than the command counts, and then the reader ended so
+    pub record WantsLines (ending : Ending) : Type 0 where
+      pub taken : List Text
+      pub wants : WantsMore (line_command line) taken
+      pub stands : StandsAs remaining failures reader now (handed ++ taken) ending
+      pub idle : spent ≡ begun
+      pub same : after ≡ before
 
-  -- fewer lines follow than the command counts
-  pub record WantsLines : Type 0 where
-    pub taken : List Text
-    pub wants : WantsMore (line_command line) taken
-    pub stands : StandsAs remaining failures reader now (handed ++ taken) whole
-    pub idle : spent ≡ begun
-    pub same : after ≡ before
+    -- an allocation failed for the command; these of its lines were taken
+    pub record RunsShort : Type 0 where
+      pub taken : List Text
+      pub asks : AsksForMemory (line_command line) taken
+      pub has_handed : HasHanded remaining failures reader now (handed ++ taken)
+      pub idle : spent ≡ begun
+      pub same : after ≡ before
 
-  -- a read failed before all lines that the command counts were read
-  pub record LosesLines : Type 0 where
-    pub taken : List Text
-    pub wants : WantsMore (line_command line) taken
-    pub stands : StandsAs remaining failures reader now (handed ++ taken) broken
-    pub idle : spent ≡ begun
-    pub same : after ≡ before
+    -- the command was given up
+    pub record GivesUp : Type 0 where
+      pub taken : List Text
+      pub has_handed : HasHanded remaining failures reader now (handed ++ taken)
+      pub idle : spent ≡ begun
+      pub same : after ≡ before
 
-  -- an allocation failed for the command; these of its lines were taken
-  pub record RunsShort : Type 0 where
-    pub taken : List Text
-    pub asks : AsksForMemory (line_command line) taken
-    pub has_handed : HasHanded remaining failures reader now (handed ++ taken)
-    pub idle : spent ≡ begun
-    pub same : after ≡ before
-
-  -- the command was given up
-  pub record GivesUp : Type 0 where
-    pub taken : List Text
-    pub has_handed : HasHanded remaining failures reader now (handed ++ taken)
-    pub idle : spent ≡ begun
-    pub same : after ≡ before
-
-  module _ {W : Type 0} (contents : W → Option Text) (write_failures : W → ℕ) (old new : W) where
-    abbrev pub AnswersLine : Result Answer ScriptFault → Type 0
-    AnswersLine (Ok Truncated) =
-        WantsLines × GoesOut contents write_failures old new (written [] (truncated ∷ []))
-    AnswersLine (Ok answer) =
-        (reply : List Text) × Does after reply ×
-        GoesOut contents write_failures old new (written [] reply) ×
-        (list_any is_refusal reply ≡ was_refused answer)
-    AnswersLine (Err Read) = LosesLines × GoesOut contents write_failures old new []
-    AnswersLine (Err Memory) = RunsShort × GoesOut contents write_failures old new []
-    AnswersLine (Err Write) =
-        (GivesUp × StopsWithin contents write_failures old new [])
-        ⊎ (((then : ScriptState) × (reply : List Text) × Does then reply ×
-        IsUpToReport after then ×
-        StopsWithin contents write_failures old new (written [] reply))
-        ⊎ (WantsLines × StopsWithin contents write_failures old new (written [] (truncated ∷ []))))
+    module _ {W : Type 0} (contents : W → Option Text) (write_failures : W → ℕ) (old new : W) where
+      abbrev pub AnswersLine : Result Answer ScriptFault → Type 0
+      AnswersLine (Ok Truncated) =
+          WantsLines whole × GoesOut contents write_failures old new (written [] (truncated ∷ []))
+      AnswersLine (Ok answer) =
+          (reply : List Text) × DoesStep after reply ×
+          GoesOut contents write_failures old new (written [] reply) ×
+          (list_any is_refusal reply ≡ was_refused answer)
+      AnswersLine (Err Read) = WantsLines broken × GoesOut contents write_failures old new []
+      AnswersLine (Err Memory) = RunsShort × GoesOut contents write_failures old new []
+      AnswersLine (Err Write) =
+          (GivesUp × StopsWithin contents write_failures old new [])
+          ⊎ (((then : ScriptState) × (reply : List Text) × DoesStep then reply ×
+          IsUpToReport after then ×
+          StopsWithin contents write_failures old new (written [] reply))
+          ⊎ (WantsLines whole ×
+          StopsWithin contents write_failures old new (written [] (truncated ∷ []))))
 
 -- ---- the commands so far
 
@@ -184,7 +171,8 @@ module _ {R W : Type 0} (remaining : R → Option Text) (failures : R → ℕ)
     pub steps : List Step
     pub are_done : AreDone handed steps
     pub replies : List Text
-    pub are_replies : Replies steps first replies state
-    pub work : SearchesTouched first steps replies state begun spent
+    pub most : ℕ
+    pub are_replies : Replies steps first replies state most
+    pub few : AddsAtMost most begun spent
     pub goes : GoesOut contents write_failures old new (written [] replies)
     pub ended : ending ≡ end_for replies

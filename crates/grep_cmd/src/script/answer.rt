@@ -12,10 +12,9 @@ ghost use Rattle.script_commands.specs.Commands.{line_command, counts};
 ghost use Rattle.script_commands.specs.Working.ReadCommands.{line_meant, pattern_meant};
 ghost use Rattle.script_commands.specs.Working.ReadCommands.{counted_meant};
 ghost use Rattle.grep_cmd.specs.declared.script.reply.Answer.{Answer};
-ghost use Rattle.grep_cmd.specs.Show.{AreShown};
-ghost use Rattle.grep_cmd.specs.Lists.{LeavesReport, ReportsChanges, ReportsPage};
+ghost use Rattle.grep_cmd.specs.Working.Reported.{LeavesReport};
 ghost use Rattle.grep_session.specs.Marks.{MarksGiven, Watched};
-ghost use Rattle.grep_cmd.specs.Replies.{reply_to, version_line};
+ghost use Rattle.grep_cmd.specs.Replies.{AreShown, ReportsChanges, ReportsPage, reply_to, version_line};
 ghost use Rattle.grep_cmd.specs.Working.Answered.{AnswersLine, Replied, answer_for, state_of};
 
 use crate::reports::{show, show_changes, show_page};

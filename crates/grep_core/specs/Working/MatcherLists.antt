@@ -1,10 +1,10 @@
 -- The matchers of patterns.
-use Rattle.std.specs.Prelude.{◌≡◌, List, length, All}
+use Rattle.std.specs.Prelude.{◌≡◌, ℕ, ◌≤◌, List, length, map, All}
 use Rattle.re_syntax.specs.declared.syntax.Syntax.{Syntax}
 use Rattle.re_syntax.specs.Bytes.{Text}
 use Rattle.re_search.specs.declared.matcher.Matcher.{Matcher}
 use Rattle.re_search.specs.Reading.{IsReadable}
-use Rattle.re_search.specs.Working.Matchers.{AreAlike, expressions_of}
+use Rattle.re_search.specs.Working.Matchers.{AreAlike, expressions_of, room_of}
 use Rattle.grep_core.specs.declared.options.Options.{Options}
 use Rattle.grep_core.specs.Files.{AreMeant}
 
@@ -15,3 +15,7 @@ pub record AreMatchers (syntax : Syntax) (options : Options) (texts : List Text)
   pub wholes : AreAlike options.line_regexp matchers
   pub readable : All (IsReadable syntax options.ignore_case) texts
   pub counted : length matchers ≡ length texts
+
+-- no matcher may keep more than this number of entries
+abbrev pub KeepAtMost : ℕ → List Matcher → Type 0
+KeepAtMost most matchers = All (λ room. room ≤ most) (map room_of matchers)

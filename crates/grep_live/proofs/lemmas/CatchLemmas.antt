@@ -1,5 +1,5 @@
 -- What is reported makes each view that follows the present hits, and it follows then.
-use Rattle.grep_live.proofs.Prelude.{◌≡◌, ℕ, ◌+◌, ◌-◌, ◌<◌, ◌≤◌, Bool, true, false, if◌then◌else◌, nat_eq, ◌&&◌, List, [], ◌∷◌, length, map, take, drop, get_or, Option, Result, Ok, Err, ◌⊎◌, inl, inr, refl, sym, ap, subst, ◌∙◌, arith, cases_lt, nat_tests, slice_range, MatchResult, Text, Expression, Status, Options, File, Inputs, Selected, StatusOf, written, Writes, IsStatusOfInputs, ListedParts, Marked, Stretch, Fits, Keeps, AllThree, Hit, View, HitOf, HitsFrom, Hits, AreHits, Watched, whole_mark, Change, AreChanges, ChangesFile, is_idle, AreWithin, moved, hits_at, spliced_hits, after, after_each, all_after, FollowsFile, Follows, changes_rows, all_known, WritesChanges, IsFit, AreFit, Mean, drop-drop, get_or-take, get_or-drop, length-take, length-take-le, length-drop}
+use Rattle.grep_live.proofs.Prelude.{◌≡◌, ℕ, ◌+◌, ◌-◌, ◌<◌, ◌≤◌, Bool, true, false, if◌then◌else◌, nat_eq, ◌&&◌, List, [], ◌∷◌, length, map, take, drop, get_or, Option, Result, Ok, Err, ◌⊎◌, inl, inr, refl, sym, ap, subst, ◌∙◌, arith, cases_lt, nat_tests, slice_range, MatchResult, Text, Expression, Status, Options, File, Inputs, Selected, written, Writes, GrepGives, IsStatusOfInputs, AllChanges, ListedParts, Marked, Stretch, Fits, Keeps, AllThree, Hit, View, HitOf, HitsFrom, Hits, AreHits, Watched, whole_mark, Change, AreChanges, ChangesFile, is_idle, AreWithin, moved, hits_at, spliced_hits, after, after_each, all_after, FollowsFile, Follows, changes_rows, all_known, WritesChanges, IsFit, AreFit, Mean, drop-drop, get_or-take, get_or-drop, length-take, length-take-le, length-drop}
 use Rattle.grep_core.proofs.lemmas.LawsHold.{means_one}
 use Rattle.grep_live.proofs.lemmas.HitLemmas.{within_wider, by_within, line_hits, hits_by_line, at_same, spliced_within, spliced_before, spliced_among, spliced_after}
 use Rattle.grep_live.proofs.lemmas.ListingLemmas.{HitsFrom-exist}
@@ -200,38 +200,29 @@ module _ (es : List Expression) (inputs : Inputs) where
 
 -- ---- what is reported
 
+changed : (old : Watched) → AreFit old.inputs.files old.marks → GrepGives old.inputs → AllChanges old
+changed old fit grep =
+    let changes = changes_exist grep.es old.inputs old.inputs.files old.marks fit in
+    let catches = λ (view : View) (f : Follows old view). all_catch grep.es old.inputs grep.are_meant old.inputs.files old.marks changes.0 view fit changes.1 f in
+    record {
+      es = grep.es;
+      are_meant = grep.are_meant;
+      changes = changes.0;
+      are_changes = changes.1;
+      status = grep.status;
+      is_status = grep.is_status;
+      catches_up = catches;
+      follows = (λ view f. all_follow grep.es old.inputs grep.are_meant old.inputs.files (all_after changes.0 view) (catches view f));
+    }
+
 module _ (texts : Bool) {W : Type 0} (contents : W → Option Text) (failures : W → ℕ) (margin : Text) (begun ended : W) (old new : Watched) (status : Status) where
   pub writes_all : (E : Type 0) (result : Result Status E) → AreFit old.inputs.files old.marks → IsStatusOfInputs old.inputs status →
       ((es : List Expression) → Mean old.inputs es → (changes : List (List Change)) → AllThree (ChangesFile es old.inputs.options) old.inputs.files old.marks changes → Writes contents failures begun ended (written margin (changes_rows texts 0 changes)) result) →
       MatchResult result (λ answer. (answer ≡ status) × (new ≡ all_known old)) (λ _. new ≡ old) → WritesChanges contents failures margin texts begun ended old new result
+  unfolding changed
   writes_all E (Ok answer) fit is wrote left =
-      let es = is.gives.es in
-      let meant = is.gives.are_meant in
-      let changes = changes_exist es old.inputs old.inputs.files old.marks fit in
-      let catches = λ (view : View) (f : Follows old view). all_catch es old.inputs meant old.inputs.files old.marks changes.0 view fit changes.1 f in
-      record {
-        es = es;
-        are_meant = meant;
-        changes = changes.0;
-        are_changes = changes.1;
-        wrote = wrote es meant changes.0 changes.1;
-        is_status = subst (StatusOf es old.inputs.options old.inputs.files) (sym left.0) is.gives.is_status;
-        leaves = left.1;
-        catches_up = catches;
-        follows = (λ view f. subst (λ (w : Watched). Follows w (all_after changes.0 view)) (sym left.1) (all_follow es old.inputs meant old.inputs.files (all_after changes.0 view) (catches view f)));
-      }
+      let all = changed old fit is.grep in
+      record { all = all; wrote = wrote all.es all.are_meant all.changes all.are_changes; answered = left.0 ∙ is.answered; leaves = left.1 }
   writes_all E (Err fault) fit is wrote left =
-      let es = is.gives.es in
-      let meant = is.gives.are_meant in
-      let changes = changes_exist es old.inputs old.inputs.files old.marks fit in
-      record {
-        es = es;
-        are_meant = meant;
-        changes = changes.0;
-        are_changes = changes.1;
-        wrote = wrote es meant changes.0 changes.1;
-        is_status = tt;
-        leaves = left;
-        catches_up = (λ view f. all_catch es old.inputs meant old.inputs.files old.marks changes.0 view fit changes.1 f);
-        follows = tt;
-      }
+      let all = changed old fit is.grep in
+      record { all = all; wrote = wrote all.es all.are_meant all.changes all.are_changes; answered = tt; leaves = left }

@@ -1,5 +1,5 @@
 -- Only what changed is reported.
-use Rattle.grep_live.proofs.Prelude.{◌≡◌, ℕ, zero, suc, ◌+◌, ◌-◌, ◌<◌, ◌≤◌, Bool, true, List, [], ◌∷◌, ◌++◌, length, map, take, drop, get_or, Result, Ok, Err, ◌⊎◌, refl, sym, ap, subst, ◌∙◌, inl, inr, arith, set, cases_eq, cases_lt, append-nil, length-append, length-map, length-set, length-take, get_or-take, get_or-set_same, get_or-set_other, get_or_append_left, slice_set, nat_eq, ◌&&◌, if◌then◌else◌, flat_map, IfOk, remove, splice, Text, Expression, Flag, Count, IgnoreCase, FilesWithMatches, LineNumber, OnlyMatching, Quiet, NoMessages, InvertMatch, LineRegexp, Options, File, Inputs, file_at, EditFault, Edit, AddFile, AddMissing, DropFile, Splice, AddPatterns, DropPattern, ChangePattern, SetFlag, SetSyntax, SetContext, Applies, EditGives, whole_file, missing_file, spliced, option_of, Attempt, Marked, Stretch, Fits, IsAfter, IsBefore, Keeps, Moves, Splices, AllThree, Hit, Watched, whole_mark, new_mark, mark_at, marks_by_flag, IsFit, AreFit, MarksAfter, MarksGiven, Change, AreChanges, ChangesFile, AreWithin, hit_row, change_row, change_rows, changes_rows, all_known, changes_at, AreBetween, OneSplice, LeavesHits, LeavesEnds, EachLeavesEnds, OnlyTouched}
+use Rattle.grep_live.proofs.Prelude.{◌≡◌, ℕ, zero, suc, ◌+◌, ◌-◌, ◌<◌, ◌≤◌, Bool, true, false, List, [], ◌∷◌, ◌++◌, length, map, take, drop, get_or, Result, Ok, Err, ◌⊎◌, refl, sym, ap, subst, ◌∙◌, inl, inr, arith, set, cases_eq, cases_lt, append-nil, length-append, length-map, length-set, length-take, get_or-take, get_or-set_same, get_or-set_other, get_or_append_left, slice_set, nat_eq, ◌&&◌, if◌then◌else◌, flat_map, IfOk, remove, splice, Text, Expression, Flag, Options, File, Inputs, file_at, EditFault, Edit, AddFile, AddMissing, DropFile, Splice, AddPatterns, DropPattern, ChangePattern, SetFlag, SetSyntax, SetContext, Applies, EditGives, whole_file, missing_file, spliced, option_of, Attempt, Marked, Stretch, Fits, IsAfter, IsBefore, Keeps, Moves, Splices, AllThree, Hit, Watched, whole_mark, new_mark, mark_at, lost, changes_hits, IsFit, AreFit, MarksAfter, MarksGiven, Change, AreChanges, ChangesFile, AreWithin, hit_row, change_row, change_rows, changes_rows, all_known, changes_at, AreBetween, OneSplice, LeavesAll, LeavesEnds, EachLeavesEnds, OnlyTouched}
 use Rattle.std.specs.Bool.{⊤}
 use Rattle.std.proofs.lemmas.List.{get_or-map}
 use Rattle.grep_session.proofs.lemmas.FitLemmas.{fit_at, known_fit}
@@ -264,22 +264,23 @@ kept_before xs k other d l h =
       get_or_append_left (take other xs) (drop (suc other) xs) d k long ∙ get_or-take other xs k d l,
     )
 
--- the marks after an option was set that changes no hit
-left_by_flag : (flag : Flag) (marks : List Marked) → LeavesHits flag → marks_by_flag flag marks ≡ marks
-left_by_flag Count marks h = refl
-left_by_flag IgnoreCase marks h = absurd h
-left_by_flag FilesWithMatches marks h = refl
-left_by_flag LineNumber marks h = refl
-left_by_flag OnlyMatching marks h = absurd h
-left_by_flag Quiet marks h = refl
-left_by_flag NoMessages marks h = refl
-left_by_flag InvertMatch marks h = absurd h
-left_by_flag LineRegexp marks h = absurd h
-
-pub flag_leaves : (flag : Flag) (on : Bool) (old : Watched) (marks : List Marked) → LeavesHits flag ⊎ (option_of flag old.inputs.options ≡ on) → MarksAfter (SetFlag flag on) old marks → marks ≡ old.marks
+pub flag_leaves : (flag : Flag) (on : Bool) (old : Watched) (marks : List Marked) → (changes_hits flag ≡ false) ⊎ (option_of flag old.inputs.options ≡ on) → MarksAfter (SetFlag flag on) old marks → marks ≡ old.marks
 flag_leaves flag on old marks h (inl (same, e)) = e
-flag_leaves flag on old marks (inl h) (inr (other, e)) = e ∙ left_by_flag flag old.marks h
+flag_leaves flag on old marks (inl h) (inr (other, e)) = subst (λ b. marks ≡ (if b then map lost old.marks else old.marks)) h e
 flag_leaves flag on old marks (inr h) (inr (other, e)) = absurd (other h)
+
+-- what leaves all leaves files and marks
+pub all_left : (edit : Edit) (old new : Watched) → LeavesAll edit old.inputs → Applies edit old.inputs (Ok new.inputs) → MarksAfter edit old new.marks → (new.inputs.files ≡ old.inputs.files) × (new.marks ≡ old.marks)
+all_left (ChangePattern p text) old new h a m = (ap (λ (i : Inputs). i.files) (changed_pattern p text old.inputs new.inputs a), elim m [ inl e ↦ e.1 | inr e ↦ absurd (e.0 h) ])
+all_left (SetFlag flag on) old new h a m = (ap (λ (i : Inputs). i.files) (option_set flag on old.inputs new.inputs a), flag_leaves flag on old new.marks h m)
+all_left (SetSyntax syntax) old new h a m = (ap (λ (i : Inputs). i.files) (syntax_set syntax old.inputs new.inputs a), elim m [ inl e ↦ e.1 | inr e ↦ absurd (e.0 h) ])
+all_left (SetContext context) old new h a m = (ap (λ (i : Inputs). i.files) (context_set context old.inputs new.inputs a), m)
+all_left (AddFile name lines) old new h a m = absurd h
+all_left (AddMissing name) old new h a m = absurd h
+all_left (DropFile k) old new h a m = absurd h
+all_left (Splice k start count lines) old new h a m = absurd h
+all_left (AddPatterns list) old new h a m = absurd h
+all_left (DropPattern p) old new h a m = absurd h
 
 module _ (k front back known : ℕ) where
   -- other lists with the same mark at this place
@@ -344,6 +345,11 @@ module _ (k front back known : ℕ) where
       by_file (inr p) (inr e) = apart e
       by_file (inr (first, last)) (inl e) = here other e first last s
 
+  ends_same : (edit : Edit) (old new : Watched) → LeavesAll edit old.inputs → Applies edit old.inputs (Ok new.inputs) → MarksAfter edit old new.marks → EndsUntouched k front back known old.inputs.files old.marks → EndsUntouched k front back known new.inputs.files new.marks
+  ends_same edit old new h a m u =
+      let e = all_left edit old new h a m in
+      as_these old.inputs.files new.inputs.files old.marks new.marks e.0 e.1 u
+
   ends_accepted : (edit : Edit) (old new : Watched) → AreFit old.inputs.files old.marks → LeavesEnds k front back edit old.inputs → Applies edit old.inputs (Ok new.inputs) → MarksAfter edit old new.marks → EndsUntouched k front back known old.inputs.files old.marks → EndsUntouched k front back known new.inputs.files new.marks
   ends_accepted (AddFile name lines) old new fit h a m u =
       let file = whole_file name lines in
@@ -360,19 +366,10 @@ module _ (k front back known : ℕ) where
   ends_accepted (Splice other start count lines) old new fit h a m u = ends_spliced other start count lines old new fit h a m u
   ends_accepted (AddPatterns list) old new fit h a m u = absurd h
   ends_accepted (DropPattern p) old new fit h a m u = absurd h
-  ends_accepted (ChangePattern p text) old new fit h a m u =
-      let is = changed_pattern p text old.inputs new.inputs a in
-      let same : new.marks ≡ old.marks = elim m [ inl e ↦ e.1 | inr e ↦ absurd (e.0 h) ] in
-      as_these old.inputs.files new.inputs.files old.marks new.marks (ap (λ (i : Inputs). i.files) is) same u
-  ends_accepted (SetFlag flag on) old new fit h a m u =
-      let is = option_set flag on old.inputs new.inputs a in
-      as_these old.inputs.files new.inputs.files old.marks new.marks (ap (λ (i : Inputs). i.files) is) (flag_leaves flag on old new.marks h m) u
-  ends_accepted (SetSyntax syntax) old new fit h a m u =
-      let is = syntax_set syntax old.inputs new.inputs a in
-      let same : new.marks ≡ old.marks = elim m [ inl e ↦ e.1 | inr e ↦ absurd (e.0 h) ] in
-      as_these old.inputs.files new.inputs.files old.marks new.marks (ap (λ (i : Inputs). i.files) is) same u
-  ends_accepted (SetContext context) old new fit h a m u =
-      as_these old.inputs.files new.inputs.files old.marks new.marks (ap (λ (i : Inputs). i.files) (context_set context old.inputs new.inputs a)) m u
+  ends_accepted (ChangePattern p text) old new fit h a m u = ends_same (ChangePattern p text) old new h a m u
+  ends_accepted (SetFlag flag on) old new fit h a m u = ends_same (SetFlag flag on) old new h a m u
+  ends_accepted (SetSyntax syntax) old new fit h a m u = ends_same (SetSyntax syntax) old new h a m u
+  ends_accepted (SetContext context) old new fit h a m u = ends_same (SetContext context) old new h a m u
 
   ends_given : (edit : Edit) (answer : Result (Unit {0}) EditFault) (old new : Watched) → AreFit old.inputs.files old.marks → EditGives edit old.inputs new.inputs answer → MarksGiven edit old new.marks answer → IfOk answer (λ _. LeavesEnds k front back edit old.inputs) →
       EndsUntouched k front back known old.inputs.files old.marks → EndsUntouched k front back known new.inputs.files new.marks

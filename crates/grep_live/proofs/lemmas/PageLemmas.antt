@@ -1,5 +1,5 @@
 -- A page of hits, by those that are left.
-use Rattle.grep_live.proofs.Prelude.{Bool, ◌≡◌, ℕ, zero, suc, ◌+◌, ◌-◌, ◌^◌, ◌<◌, ◌≤◌, List, [], ◌∷◌, ◌++◌, length, map, take, drop, get_or, min, Option, Result, Ok, Err, IfOk, refl, sym, ap, subst, ◌∙◌, arith, map-append, length-map, length-append, take_all, drop_all, Text, Expression, File, Inputs, Status, StatusOf, written, output_line, file_at, GoesOut, StopsWithin, Writes, IsStatusOfInputs, Hit, View, HitsFrom, AreHits, total_row, page_row, page_rows, all_hits, WritesPage, Mean, HitsBetween, IsFirst, IsPlaceAfter}
+use Rattle.grep_live.proofs.Prelude.{Bool, ◌≡◌, ℕ, zero, suc, ◌+◌, ◌-◌, ◌^◌, ◌<◌, ◌≤◌, List, [], ◌∷◌, ◌++◌, length, map, take, drop, get_or, min, Option, Result, Ok, Err, IfOk, refl, sym, ap, subst, ◌∙◌, arith, map-append, length-map, length-append, take_all, drop_all, Text, Expression, File, Inputs, Status, written, output_line, file_at, GoesOut, StopsWithin, Writes, IsStatusOfInputs, Hit, View, HitsFrom, AreHits, total_row, page_row, page_rows, all_hits, WritesPage, Mean, HitsBetween, IsFirst, IsPlaceAfter}
 use Rattle.grep_session.proofs.lemmas.Writing.{drop-next, WrittenUpTo, none_written, written_on, all_written, broken_off, one_went, one_stopped}
 use Rattle.grep_live.proofs.lemmas.ListingLemmas.{HitsFrom-exist, with_parts}
 use Rattle.grep_live.proofs.lemmas.NumberLemmas.{counted_before}
@@ -227,13 +227,15 @@ module _ (texts : Bool) {W : Type 0} (contents : W → Option Text) (failures : 
       ((es : List Expression) → Mean inputs es → (view : View) → AreHits es inputs.options inputs.files view →
       Writes contents failures begun ended (written margin (total_row (min (length (all_hits 0 view)) (2 ^ 64 - 1)) ∷ page_rows texts first count (all_hits 0 view))) result) →
       IfOk result (λ answer. answer ≡ status) → WritesPage contents failures margin texts begun ended inputs first count result
-  shows_page E (Ok answer) is wrote e =
-      let es = is.gives.es in
-      let meant = is.gives.are_meant in
-      let view = hits_exist es inputs inputs.files in
-      record { es = es; are_meant = meant; view = view.0; are_hits = view.1; wrote = wrote es meant view.0 view.1; is_status = subst (StatusOf es inputs.options inputs.files) (sym e) is.gives.is_status }
-  shows_page E (Err fault) is wrote e =
-      let es = is.gives.es in
-      let meant = is.gives.are_meant in
-      let view = hits_exist es inputs inputs.files in
-      record { es = es; are_meant = meant; view = view.0; are_hits = view.1; wrote = wrote es meant view.0 view.1; is_status = tt }
+  shows_page E result is wrote e =
+      let grep = is.grep in
+      let view = hits_exist grep.es inputs inputs.files in
+      record {
+        all = record { es = grep.es; are_meant = grep.are_meant; view = view.0; are_hits = view.1; status = grep.status; is_status = grep.is_status };
+        wrote = wrote grep.es grep.are_meant view.0 view.1;
+        answered = by_result result e;
+      }
+    where
+      by_result : (r : Result Status E) → IfOk r (λ answer. answer ≡ status) → IfOk r (λ answer. answer ≡ is.grep.status)
+      by_result (Ok answer) e = e ∙ is.answered
+      by_result (Err fault) e = tt

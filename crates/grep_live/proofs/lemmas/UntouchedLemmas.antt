@@ -1,8 +1,8 @@
 -- A line that edits leave is not reported.
-use Rattle.grep_live.proofs.Prelude.{◌≡◌, ℕ, zero, suc, ◌+◌, ◌<◌, ◌≤◌, List, [], ◌∷◌, ◌++◌, length, take, drop, get_or, Result, Ok, Err, ◌⊎◌, refl, sym, ap, subst, ◌∙◌, inl, inr, arith, set, length-append, length-drop, length-map, length-set, length-take, get_or-set_same, get_or-set_other, get_or_append_left, slice_set, MatchResult, IfHolds, remove, splice, Text, Expression, Options, File, Inputs, file_at, EditFault, Edit, AddFile, AddMissing, DropFile, Splice, AddPatterns, ChangePattern, DropPattern, SetFlag, SetSyntax, SetContext, Applies, EditGives, whole_file, missing_file, spliced, Attempt, accepted, with_accepted, Marked, Stretch, Keeps, Moves, Splices, most_stretches, Watched, whole_mark, new_mark, mark_at, MarksAfter, MarksGiven, Change, AreChanges, ChangesFile, all_known, changes_at, Stays, EachStays, LeaveLine, splices, UntouchedLines}
+use Rattle.grep_live.proofs.Prelude.{◌≡◌, ℕ, zero, suc, ◌+◌, ◌<◌, ◌≤◌, List, [], ◌∷◌, ◌++◌, length, take, drop, get_or, Result, Ok, Err, ◌⊎◌, refl, sym, ap, subst, ◌∙◌, inl, inr, arith, set, length-append, length-drop, length-map, length-set, length-take, get_or-set_same, get_or-set_other, get_or_append_left, slice_set, MatchResult, IfHolds, remove, splice, Text, Expression, Options, File, Inputs, file_at, EditFault, Edit, AddFile, AddMissing, DropFile, Splice, AddPatterns, ChangePattern, DropPattern, SetFlag, SetSyntax, SetContext, Applies, EditGives, whole_file, missing_file, spliced, Attempt, accepted, with_accepted, Marked, Stretch, Keeps, Moves, Splices, most_stretches, Watched, whole_mark, new_mark, mark_at, MarksAfter, MarksGiven, Change, AreChanges, ChangesFile, all_known, changes_at, LeavesAll, Stays, EachStays, LeaveLine, splices, UntouchedLines}
 use Rattle.grep_live.proofs.lemmas.ListLemmas.{three-at}
-use Rattle.grep_live.proofs.lemmas.CarryLemmas.{added_file, added_missing, changed_pattern, context_set, file_dropped, option_set, refused_same, splice_accepted, syntax_set}
-use Rattle.grep_live.proofs.lemmas.OnlyLemmas.{kept_before, flag_leaves, known_at}
+use Rattle.grep_live.proofs.lemmas.CarryLemmas.{added_file, added_missing, file_dropped, refused_same, splice_accepted}
+use Rattle.grep_live.proofs.lemmas.OnlyLemmas.{all_left, kept_before, known_at}
 
 -- ---- the changes of a file leave the lines that its mark keeps
 
@@ -115,6 +115,12 @@ module _ (first : ℕ) where
   abbrev Further : ℕ → ℕ → ℕ → Watched → Type 0
   Further j now left new = (most : ℕ) × (most + left ≤ most_stretches) × IsKept first j now most new.inputs.files new.marks
 
+  line_same : (edit : Edit) (later : List Edit) (k line j now most : ℕ) (old new : Watched) → most + splices later ≤ most_stretches → LeavesAll edit old.inputs × (j ≡ k) × (now ≡ line) → Applies edit old.inputs (Ok new.inputs) → MarksAfter edit old new.marks →
+      IsKept first k line most old.inputs.files old.marks → Further j now (splices later) new
+  line_same edit later k line j now most old new few (h, e, f) a m u =
+      let same = all_left edit old new h a m in
+      (most, few, at_these k j line now most old.inputs.files new.inputs.files old.marks new.marks e f same.0 same.1 u)
+
   line_accepted : (edit : Edit) (later : List Edit) (k line j now most : ℕ) (old new : Watched) → most + splices (edit ∷ later) ≤ most_stretches → Stays k line edit old.inputs j now → Applies edit old.inputs (Ok new.inputs) → MarksAfter edit old new.marks →
       IsKept first k line most old.inputs.files old.marks → Further j now (splices later) new
   line_accepted (AddFile name lines) later k line j now most old new few (e, f) a m u =
@@ -128,18 +134,12 @@ module _ (first : ℕ) where
       (most, few, at_these j j line now most (remove old.inputs.files other) new.inputs.files (remove old.marks other) new.marks refl f (ap (λ (i : Inputs). i.files) (file_dropped other old.inputs new.inputs a)) m (line_dropped k j line most other old.inputs.files old.marks e u))
   line_accepted (Splice other start count come) later k line j now most old new few h a m u =
       (most + 1, omega (arith, few), line_spliced k line j now most other start count come old new (omega (arith, few)) h a m u)
-  line_accepted (AddPatterns list) later k line j now most old new few h a m u = absurd h
-  line_accepted (DropPattern p) later k line j now most old new few h a m u = absurd h
-  line_accepted (ChangePattern p text) later k line j now most old new few (h, e, f) a m u =
-      let same : new.marks ≡ old.marks = elim m [ inl q ↦ q.1 | inr q ↦ absurd (q.0 h) ] in
-      (most, few, at_these k j line now most old.inputs.files new.inputs.files old.marks new.marks e f (ap (λ (i : Inputs). i.files) (changed_pattern p text old.inputs new.inputs a)) same u)
-  line_accepted (SetFlag flag on) later k line j now most old new few (h, e, f) a m u =
-      (most, few, at_these k j line now most old.inputs.files new.inputs.files old.marks new.marks e f (ap (λ (i : Inputs). i.files) (option_set flag on old.inputs new.inputs a)) (flag_leaves flag on old new.marks h m) u)
-  line_accepted (SetSyntax syntax) later k line j now most old new few (h, e, f) a m u =
-      let same : new.marks ≡ old.marks = elim m [ inl q ↦ q.1 | inr q ↦ absurd (q.0 h) ] in
-      (most, few, at_these k j line now most old.inputs.files new.inputs.files old.marks new.marks e f (ap (λ (i : Inputs). i.files) (syntax_set syntax old.inputs new.inputs a)) same u)
-  line_accepted (SetContext context) later k line j now most old new few (e, f) a m u =
-      (most, few, at_these k j line now most old.inputs.files new.inputs.files old.marks new.marks e f (ap (λ (i : Inputs). i.files) (context_set context old.inputs new.inputs a)) m u)
+  line_accepted (AddPatterns list) later k line j now most old new few h a m u = absurd h.0
+  line_accepted (DropPattern p) later k line j now most old new few h a m u = absurd h.0
+  line_accepted (ChangePattern p text) later k line j now most old new few h a m u = line_same (ChangePattern p text) later k line j now most old new few h a m u
+  line_accepted (SetFlag flag on) later k line j now most old new few h a m u = line_same (SetFlag flag on) later k line j now most old new few h a m u
+  line_accepted (SetSyntax syntax) later k line j now most old new few h a m u = line_same (SetSyntax syntax) later k line j now most old new few h a m u
+  line_accepted (SetContext context) later k line j now most old new few h a m u = line_same (SetContext context) later k line j now most old new few h a m u
 
   line_given : (edit : Edit) (answer : Result (Unit {0}) EditFault) (later : List Edit) (k line j now most : ℕ) (old new : Watched) → most + splices (with_accepted edit answer later) ≤ most_stretches → EditGives edit old.inputs new.inputs answer → MarksGiven edit old new.marks answer →
       MatchResult answer (λ _. Stays k line edit old.inputs j now) (λ _. (j ≡ k) × (now ≡ line)) → IsKept first k line most old.inputs.files old.marks → Further j now (splices later) new

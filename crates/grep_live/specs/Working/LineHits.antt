@@ -3,13 +3,9 @@ use Rattle.std.specs.Prelude.{◌≡◌, ℕ, ◌+◌, ◌<◌, List, ◌∷◌,
 use Rattle.re_syntax.specs.Bytes.{Text}
 use Rattle.re_syntax.specs.Expression.{Expression}
 use Rattle.re_search.specs.Working.Blocks.{HoldsOfMany}
-use Rattle.grep_core.specs.Files.{Inputs, AreMeant, Selected}
+use Rattle.grep_core.specs.Files.{Inputs, Selected}
 use Rattle.grep_core.specs.Run.{file_at}
 use Rattle.grep_live.specs.Hits.{Hit, HitsFrom}
-
--- the patterns of the inputs mean these
-abbrev pub Mean : Inputs → List Expression → Type 0
-Mean inputs es = AreMeant inputs.syntax inputs.options inputs.patterns es
 
 module _ (es : List Expression) (inputs : Inputs) (k : ℕ) where
   -- the hits among the lines of file k from place `from` to place `to`

@@ -1,5 +1,5 @@
 -- Marks that fit their files, and the marks that edits leave.
-use Rattle.grep_session.proofs.Prelude.{◌≡◌, ℕ, zero, suc, ◌+◌, ◌-◌, ◌<◌, ◌≤◌, List, [], ◌∷◌, ◌++◌, length, map, take, drop, get_or, Bool, Result, Ok, Err, refl, sym, ap, subst, ◌∙◌, inr, arith, set, length-take-le, length-append, length-drop, length-map, map-append, AllZip, remove, splice, slice_set, Text, File, file_at, KeptFile, kept_file, spliced, Marked, Splices, whole_mark, new_mark, mark_at, lost, known_marks, IsFit, AreFit, SplicesMark, Watched, MarksAfter, MarksGiven, Splice, LosesMarks, LosesAll, EditFault, Syntax, Flag, SetSyntax, SetFlag, option_of}
+use Rattle.grep_session.proofs.Prelude.{◌≡◌, ℕ, zero, suc, ◌+◌, ◌-◌, ◌<◌, ◌≤◌, List, [], ◌∷◌, ◌++◌, length, map, take, drop, get_or, Bool, Result, Ok, Err, refl, sym, ap, subst, ◌∙◌, inr, arith, set, length-take-le, length-append, length-drop, length-map, map-append, AllZip, remove, splice, slice_set, Text, File, file_at, KeptFile, kept_file, spliced, Marked, Splices, whole_mark, new_mark, mark_at, lost, known_marks, IsFit, AreFit, SplicesMark, Watched, MarksAfter, MarksGiven, Splice, LosesMarks, changes_hits, true, EditFault, Syntax, Flag, SetSyntax, SetFlag, option_of}
 use Rattle.std.proofs.lemmas.List.{get_or-map, get_or-set_same, length-set}
 use Rattle.grep_session.proofs.lemmas.DroppingLemmas.{AllZip-remove}
 
@@ -134,6 +134,6 @@ given_splice k start count lines come old new same s =
     let all = subst (λ (ls : List Text). SplicesMark k start count (length ls) old.marks new) same s in
     all
 
-pub given_flag : {T : Type 0} (flag : Flag) (on : Bool) (old : Watched) (new : List Marked) (result : Result T EditFault) → (option_of flag old.inputs.options ≡ on → ⊥) → LosesAll flag → LosesMarks old.marks new result → MarksGiven (SetFlag flag on) old new result
-given_flag flag on old new (Ok done) other all loses = inr (other, loses ∙ sym (all old.marks))
-given_flag flag on old new (Err fault) other all loses = loses
+pub given_flag : {T : Type 0} (flag : Flag) (on : Bool) (old : Watched) (new : List Marked) (result : Result T EditFault) → (option_of flag old.inputs.options ≡ on → ⊥) → changes_hits flag ≡ true → LosesMarks old.marks new result → MarksGiven (SetFlag flag on) old new result
+given_flag flag on old new (Ok done) other changes loses = inr (other, rw changes loses)
+given_flag flag on old new (Err fault) other changes loses = loses

@@ -8,30 +8,34 @@ use Rattle.grep_session.proofs.lemmas.EditLaws.{Applies-once}
 -- ---- the report, the messages and the status
 
 module _ (inputs : Inputs) (es : List Expression) (are_meant : AreMeant inputs.syntax inputs.options inputs.patterns es) where
-  gives_with : (out reported : List Text) (status : Status) → Out es inputs.options inputs.files out → Messages es inputs.options inputs.files reported → StatusOf es inputs.options inputs.files status → GrepGives inputs out reported status
-  gives_with out reported status is_output are_messages is_status = record { es = es; are_meant = are_meant; is_output = is_output; are_messages = are_messages; is_status = is_status }
+  gives_with : (out reported : List Text) (status : Status) → Out es inputs.options inputs.files out → Messages es inputs.options inputs.files reported → StatusOf es inputs.options inputs.files status → GrepGives inputs
+  gives_with out reported status is_output are_messages is_status =
+      record { out = out; reported = reported; status = status; es = es; are_meant = are_meant; is_output = is_output; are_messages = are_messages; is_status = is_status }
 
   module _ {W : Type 0} (contents : W → Option Text) (failures : W → ℕ) (margin : Text) (old new : W) where
     pub reports_inputs : {E : Type 0} (result : Result Status E) → Reports contents failures es inputs.options inputs.files margin old new result → ReportsInputs contents failures inputs margin old new result
+    unfolding gives_with
     reports_inputs (Ok status) r =
         let reported = Messages-exist es inputs.options inputs.files in
-        record { out = r.out; reported = reported.0; status = status; gives = gives_with r.out reported.0 status r.is_output reported.1 r.is_status; wrote = r.wrote; answered = refl }
+        record { grep = gives_with r.out reported.0 status r.is_output reported.1 r.is_status; wrote = r.wrote; answered = refl }
     reports_inputs (Err fault) r =
         let reported = Messages-exist es inputs.options inputs.files in
         let status = StatusOf-exist es inputs.options inputs.files in
-        record { out = r.out; reported = reported.0; status = status.0; gives = gives_with r.out reported.0 status.0 r.is_output reported.1 status.1; wrote = r.wrote; answered = tt }
+        record { grep = gives_with r.out reported.0 status.0 r.is_output reported.1 status.1; wrote = r.wrote; answered = tt }
 
     pub reports_all_inputs : {T E : Type 0} (result : Result T E) → ReportsMessages contents failures es inputs.options inputs.files margin old new result → ReportsAllInputs contents failures inputs margin old new result
+    unfolding gives_with
     reports_all_inputs result t =
         let out = Out-exist es inputs.options inputs.files in
         let status = StatusOf-exist es inputs.options inputs.files in
-        record { out = out.0; reported = t.reported; status = status.0; gives = gives_with out.0 t.reported status.0 out.1 t.are_messages status.1; wrote = t.wrote }
+        record { grep = gives_with out.0 t.reported status.0 out.1 t.are_messages status.1; wrote = t.wrote }
 
   pub status_of_inputs : (status : Status) → StatusOf es inputs.options inputs.files status → IsStatusOfInputs inputs status
+  unfolding gives_with
   status_of_inputs status is =
       let out = Out-exist es inputs.options inputs.files in
       let reported = Messages-exist es inputs.options inputs.files in
-      record { out = out.0; reported = reported.0; gives = gives_with out.0 reported.0 status out.1 reported.1 is }
+      record { grep = gives_with out.0 reported.0 status out.1 reported.1 is; answered = refl }
 
 -- ---- lists of edits
 
@@ -70,12 +74,12 @@ last_from (attempt ∷ more) last old new c =
     (rest.0, (c.0, c.1, rest.1), rest.2)
 
 -- for given inputs grep's output, messages and status are unique
-pub one_report : (inputs : Inputs) (out more reported reported_too : List Text) (status other : Status) → GrepGives inputs out reported status → GrepGives inputs more reported_too other → (more ≡ out) × (reported_too ≡ reported) × (other ≡ status)
-one_report inputs out more reported reported_too status other g h =
-    let same : h.es ≡ g.es = means_one inputs.syntax inputs.options inputs.patterns h.es g.es h.are_meant g.are_meant in (
-      Out-determined g.es inputs.options inputs.files more out (subst (λ es. Out es inputs.options inputs.files more) same h.is_output) g.is_output,
-      Messages-determined g.es inputs.options inputs.files reported_too reported (subst (λ es. Messages es inputs.options inputs.files reported_too) same h.are_messages) g.are_messages,
-      StatusOf-determined g.es inputs.options inputs.files other status (subst (λ es. StatusOf es inputs.options inputs.files other) same h.is_status) g.is_status,
+pub one_report : (inputs : Inputs) (a b : GrepGives inputs) → (b.out ≡ a.out) × (b.reported ≡ a.reported) × (b.status ≡ a.status)
+one_report inputs a b =
+    let same : b.es ≡ a.es = means_one inputs.syntax inputs.options inputs.patterns b.es a.es b.are_meant a.are_meant in (
+      Out-determined a.es inputs.options inputs.files b.out a.out (subst (λ es. Out es inputs.options inputs.files b.out) same b.is_output) a.is_output,
+      Messages-determined a.es inputs.options inputs.files b.reported a.reported (subst (λ es. Messages es inputs.options inputs.files b.reported) same b.are_messages) a.are_messages,
+      StatusOf-determined a.es inputs.options inputs.files b.status a.status (subst (λ es. StatusOf es inputs.options inputs.files b.status) same b.is_status) a.is_status,
     )
 
 pub accepted_edits_decide : AcceptedEditsDecide

@@ -1,5 +1,5 @@
 -- If what is kept is right, the verdicts from it, the messages and the status are those of grep.
-use Rattle.grep_session.proofs.Prelude.{◌≡◌, ℕ, ◌≤◌, Bool, true, false, ◌&&◌, not, IsTrue, ◌↔◌, Decides, List, [], ◌∷◌, ◌++◌, map, All, Any, Option, None, Some, MatchBool, IfSome, refl, sym, ap, ◌∙◌, inl, inr, arith, if◌then◌else◌, list_any, Text, Expression, ArePartsFrom, AreParts, Span, Options, Status, EachGives, File, Selected, HasSelected, message, FaultMet, Stops, Reached, Message, Messages, AnySelected, StatusOf, is_fault, ending_of, status_by, KeptLine, line_text, KeptFile, span_places, kept_lines, file_with, kept_file, IsKept, IsFileKept, matches_none, is_selected, has_selected_in, has_selected, end_with, end_of, OnLine, PartsFit, LinesFit, FileFits, is_faulty, any_selected, any_missing, status_by_files, status_given, false≢true, All-head, All-tail, All-nil, All-cons}
+use Rattle.grep_session.proofs.Prelude.{◌≡◌, ℕ, ◌≤◌, Bool, true, false, ◌&&◌, not, IsTrue, ◌↔◌, Decides, List, [], ◌∷◌, ◌++◌, map, All, Any, Option, None, Some, MatchBool, IfSome, refl, sym, ap, ◌∙◌, inl, inr, arith, if◌then◌else◌, list_any, Text, Expression, ArePartsFrom, AreParts, Span, Options, Status, EachGives, File, Selected, HasSelected, message, FaultMet, Stops, Reached, Message, Messages, AnySelected, StatusOf, is_fault, ending_of, status_by, KeptLine, line_text, KeptFile, span_places, kept_lines, file_with, kept_file, IsKept, IsFileKept, matches_none, is_selected, has_selected_in, has_selected, end_with, end_of, OnLine, PartsFit, FileFits, is_faulty, any_selected, any_missing, status_by_files, status_given, false≢true, All-head, All-tail, All-nil, All-cons}
 use Rattle.std.specs.Prelude.{⊤}
 use Rattle.re_syntax.proofs.lemmas.Decisions.{Any-none, Any-first, Any-later, Any-cases}
 use Rattle.grep_core.specs.declared.status.Status.TheVariants.{Selected as selected}
@@ -66,7 +66,7 @@ module _ (es : List Expression) (options : Options) where
   lines_fit (line ∷ text) k =
       All-cons (PartsFit options) line text (λ asked. parts_fit (line_text line) 0 line.found.spans (parts_asked line asked (All-head (IsKept es options) line text k))) (lines_fit text (All-tail (IsKept es options) line text k))
 
-  file_fits : (kept : Option (List KeptLine)) → IfSome kept (All (IsKept es options)) → LinesFit options kept
+  file_fits : (kept : Option (List KeptLine)) → IfSome kept (All (IsKept es options)) → IfSome kept (All (PartsFit options))
   file_fits None k = tt
   file_fits (Some text) k = lines_fit text k
 

@@ -15,8 +15,7 @@ use Rattle.line_chunks.specs.Working.Finds.{numbers_at}
 use Rattle.line_chunks.specs.Working.Chunks.{KeptLine, no_line, FitsColumn}
 use Rattle.grep_session.specs.declared.change.Change.{Change}
 use Rattle.grep_session.specs.Working.Changed.{HasChanged}
-use Rattle.grep_session.specs.Working.Found.{IsColumn}
-use Rattle.grep_session.specs.Working.Kept.{AddsMatching, ArePartsKept, IsKept}
+use Rattle.grep_session.specs.Working.Kept.{AddsMatching, ArePartsKept, IsColumn, IsKept}
 
 -- ---- the numbers of a line
 

@@ -1,22 +1,14 @@
 -- How an option affects what is kept.
-use Rattle.std.specs.Prelude.{◌≡◌, Bool, true, IsTrue, List, length, map}
+use Rattle.std.specs.Prelude.{◌≡◌, Bool, true, false, IsTrue, length}
 use Rattle.grep_core.specs.declared.options.Flag.{Flag}
 use Rattle.grep_core.specs.declared.options.Flag.TheVariants.{OnlyMatching}
 use Rattle.grep_core.specs.declared.options.Options.{Options}
 use Rattle.grep_core.specs.Files.{Inputs}
 use Rattle.grep_session.specs.declared.options.Effect.{Effect}
 use Rattle.grep_session.specs.declared.options.Effect.TheVariants.{Verdicts, Parts, Hits, Output}
-use Rattle.line_marks.specs.Stretches.{Marked, lost}
-use Rattle.grep_session.specs.Edits.{with_option}
-use Rattle.grep_session.specs.Marks.{marks_by_flag}
+use Rattle.grep_core.specs.Options.{with_option}
+use Rattle.grep_session.specs.Marks.{changes_hits}
 use Rattle.grep_session.specs.Touched.{touched_by_flag, searched_by, all_lines, is_of_output}
-
--- a new value of the option leaves no line untouched; or it touches none
-abbrev pub LosesAll : Flag → Type 0
-LosesAll flag = (marks : List Marked) → marks_by_flag flag marks ≡ map lost marks
-
-abbrev pub LosesNone : Flag → Type 0
-LosesNone flag = (marks : List Marked) → marks_by_flag flag marks ≡ marks
 
 -- a new value of the option may change which lines are matched
 pub record ChangesVerdicts (flag : Flag) : Type 0 where
@@ -24,7 +16,7 @@ pub record ChangesVerdicts (flag : Flag) : Type 0 where
       touched_by_flag flag old ≡ searched_by (length old.patterns) (all_lines old)
   pub no_output : is_of_output flag → ⊥
   pub no_parts : flag ≡ OnlyMatching → ⊥
-  pub loses : LosesAll flag
+  pub changes : changes_hits flag ≡ true
 
 -- what is kept stays valid when the option is set to this value
 pub record KeepsAll (flag : Flag) (on : Bool) : Type 0 where
@@ -38,5 +30,5 @@ pub record KeepsAll (flag : Flag) (on : Bool) : Type 0 where
 abbrev pub HasEffect : Flag → Bool → Effect → Type 0
 HasEffect flag on Verdicts = ChangesVerdicts flag
 HasEffect flag on Parts = (flag ≡ OnlyMatching) × (on ≡ true)
-HasEffect flag on Hits = KeepsAll flag on × LosesAll flag
-HasEffect flag on Output = KeepsAll flag on × LosesNone flag
+HasEffect flag on Hits = KeepsAll flag on × (changes_hits flag ≡ true)
+HasEffect flag on Output = KeepsAll flag on × (changes_hits flag ≡ false)

@@ -1,9 +1,9 @@
 -- What a session keeps of its patterns and files, and the inputs that it represents.
 use Rattle.std.specs.Prelude.{◌≡◌, ℕ, ◌+◌, ◌-◌, ◌<◌, ◌≤◌, Bool, List, [], ◌++◌, length, map, get_or}
-use Rattle.std.specs.Prelude.{Option, None, Some, IfSome, MatchBool, All, ⊤, nat_eq}
+use Rattle.std.specs.Prelude.{Option, None, Some, IfSome, MatchBool, All, ⊤, nat_eq, if◌then◌else◌}
 use Rattle.std.specs.Bool.{Decides}
-use Rattle.std.specs.List.{list_any}
-use Rattle.std.specs.Option.{option_map}
+use Rattle.std.specs.List.{flat_map, list_any}
+use Rattle.std.specs.Option.{option_map, unwrap_or}
 use Rattle.re_syntax.specs.Bytes.{Text}
 use Rattle.re_syntax.specs.Expression.{Expression}
 use Rattle.re_syntax.specs.Holds.{Matches}
@@ -11,8 +11,8 @@ use Rattle.re_syntax.specs.Parts.{AreParts}
 use Rattle.re_trees.specs.declared.span.Span.{Span}
 use Rattle.grep_core.specs.declared.options.Options.{Options}
 use Rattle.grep_core.specs.Files.{File, whole, missing}
-use Rattle.line_chunks.specs.Working.Chunks.{KeptLine, line_text, all_of}
-use Rattle.line_chunks.specs.Working.Finds.{no_finds}
+use Rattle.line_chunks.specs.Working.Chunks.{KeptLine, FitsColumn, all_of, line_text, with_column}
+use Rattle.line_chunks.specs.Working.Finds.{FoundIn, no_finds}
 use Rattle.grep_session.specs.declared.kept.KeptFile.{KeptFile}
 
 -- ---- what is found in a line
@@ -61,6 +61,10 @@ module _ (es : List Expression) (options : Options) where
   abbrev pub IsFileKept : KeptFile → Type 0
   IsFileKept file = IfSome (kept_lines file) (All IsKept)
 
+-- under `-o` the parts that are kept of a line are listed, and otherwise none
+abbrev pub listed_spans : Options → KeptLine → List Span
+listed_spans options line = if options.only_matching then line.found.spans else []
+
 -- ---- the inputs that it represents
 
 abbrev pub file_with : Text → Option (List KeptLine) → File
@@ -69,3 +73,22 @@ file_with name (Some lines) = record { name = name; lines = map line_text lines;
 
 abbrev pub kept_file : KeptFile → File
 kept_file file = file_with file.name.items (kept_lines file)
+
+-- ---- chunks
+
+-- what was found in a chunk is of as many lines, and once it replaces what is kept of these, that is
+-- what the expressions find in them
+abbrev pub IsColumn : List Expression → Options → List KeptLine → Option FoundIn → Type 0
+IsColumn es options lines found =
+    FitsColumn lines found × All (IsKept es options) (with_column lines found)
+
+-- the chunks of a file, and of all files
+abbrev pub chunks_of : KeptFile → List (List KeptLine)
+chunks_of file = unwrap_or file.lines []
+
+abbrev pub chunks_of_files : List KeptFile → List (List KeptLine)
+chunks_of_files files = flat_map chunks_of files
+
+-- the lines of all files
+abbrev pub lines_of_files : List File → List Text
+lines_of_files files = flat_map (λ file. file.lines) files

@@ -1,7 +1,7 @@
 -- What is written for the kept files, by what is kept.
 use Rattle.std.specs.Prelude.{◌≡◌, ◌==◌, ℕ, ◌+◌, ◌<◌, ◌≤◌, Bool, true, false, ◌&&◌, not, IsTrue, List, []}
 use Rattle.std.specs.Prelude.{◌∷◌, ◌++◌, All, map, length, slice_range, Option, None, Some}
-use Rattle.std.specs.Prelude.{if◌then◌else◌, Result, IfOk}
+use Rattle.std.specs.Prelude.{if◌then◌else◌, Result, IfOk, IfSome, get_or}
 use Rattle.std.specs.List.{list_any}
 use Rattle.re_syntax.specs.Bytes.{Text}
 use Rattle.re_syntax.specs.Expression.{Expression}
@@ -58,6 +58,14 @@ selected_count options [] = 0
 selected_count options (line ∷ more) =
     (if is_selected options line then 1 else 0) + selected_count options more
 
+-- the first selected line from a place on, or the number of lines
+pub record SelectedFrom (options : Options) (lines : List KeptLine) (place next : ℕ) : Type 0 where
+  pub after : place ≤ next
+  pub within : next ≤ length lines
+  pub passed : (i : ℕ) (d : KeptLine) → place ≤ i → i < next →
+      is_selected options (get_or lines i d) ≡ false
+  pub hit : (d : KeptLine) → next < length lines → is_selected options (get_or lines next d) ≡ true
+
 -- ---- rows
 
 -- the span is within a line of this text
@@ -69,12 +77,8 @@ abbrev pub PartsFit : Options → KeptLine → Type 0
 PartsFit options line =
     IsTrue options.only_matching → All (OnLine (line_text line)) line.found.spans
 
-abbrev pub LinesFit : Options → Option (List KeptLine) → Type 0
-LinesFit options None = Unit {0}
-LinesFit options (Some text) = All (PartsFit options) text
-
 abbrev pub FileFits : Options → KeptFile → Type 0
-FileFits options file = LinesFit options (kept_lines file)
+FileFits options file = IfSome (kept_lines file) (All (PartsFit options))
 
 module _ (options : Options) (many : Bool) (name : Text) where
   -- the rows of the parts of a line

@@ -8,8 +8,7 @@ use Rattle.re_syntax.specs.Profile.{most_patterns, most_states}
 use Rattle.line_marks.specs.Stretches.{Marked, Splices, lost}
 use Rattle.grep_session.specs.Marks.{Watched, AreFit, mark_at}
 use Rattle.grep_session.specs.Working.Kept.{IsFileKept, kept_file}
-use Rattle.grep_core.specs.Working.MatcherLists.{AreMatchers}
-use Rattle.grep_session.specs.Working.Rooms.{KeepAtMost}
+use Rattle.grep_core.specs.Working.MatcherLists.{AreMatchers, KeepAtMost}
 
 abbrev pub inputs_of : Inside → Inputs
 inputs_of s =

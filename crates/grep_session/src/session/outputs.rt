@@ -3,7 +3,7 @@
 ghost use Rattle.std.specs.Prelude.{List};
 ghost use Rattle.std.specs.Bool.{Decides};
 ghost use Rattle.re_syntax.specs.Expression.{Expression};
-ghost use Rattle.grep_core.specs.Files.{AreMeant};
+ghost use Rattle.grep_core.specs.Files.{Mean};
 ghost use Rattle.grep_core.specs.Messages.{AnySelected};
 ghost use Rattle.grep_session.specs.Headline.{ReportsInputs, ReportsAllInputs, IsStatusOfInputs};
 
@@ -49,8 +49,7 @@ impl Session {
     /// The exit status of grep for the session, where it is known whether some line is selected: no
     /// line is looked at.
     pub fn status_given(&self, some: bool) -> Status
-        requires { (es : List Expression) →
-            AreMeant self.now.inputs.syntax self.now.inputs.options self.now.inputs.patterns es →
+        requires { (es : List Expression) → Mean self.now.inputs es →
             Decides some (AnySelected es self.now.inputs.options self.now.inputs.files) }
         ensures { IsStatusOfInputs self.now.inputs result }
     {

@@ -5,7 +5,7 @@ ghost use Rattle.std.specs.Prelude.{MatchOption};
 ghost use Rattle.re_syntax.specs.Expression.{Expression};
 ghost use Rattle.re_syntax.specs.Profile.{most_states};
 ghost use Rattle.re_search.specs.Working.Blocks.{HoldsOfMany};
-ghost use Rattle.grep_core.specs.Files.{AreMeant, Selected};
+ghost use Rattle.grep_core.specs.Files.{Mean, Selected};
 ghost use Rattle.grep_core.specs.Run.{file_at};
 ghost use Rattle.grep_session.specs.Marks.{AreFit};
 ghost use Rattle.grep_session.specs.Working.Kept.{span_places};
@@ -38,8 +38,7 @@ impl Session {
     /// from 0. Its parts are listed under `-o`.
     pub fn hit(&self, k: usize, place: usize) -> Option<Hit<'_>>
         requires { place < length (file_at self.now.inputs.files k).lines }
-        ensures { (es : List Expression) →
-            AreMeant self.now.inputs.syntax self.now.inputs.options self.now.inputs.patterns es →
+        ensures { (es : List Expression) → Mean self.now.inputs es →
             let line = get_or (file_at self.now.inputs.files k).lines place [] in
             MatchOption result (Selected es self.now.inputs.options line → ⊥)
             (λ hit. Selected es self.now.inputs.options line × (hit.text.now ≡ line) ×
@@ -51,8 +50,7 @@ impl Session {
     /// The number of lines of file `k` before line `place` that grep selects.
     pub fn hits_before(&self, k: usize, place: usize) -> usize
         requires { place ≤ length (file_at self.now.inputs.files k).lines }
-        ensures { (es : List Expression) →
-            AreMeant self.now.inputs.syntax self.now.inputs.options self.now.inputs.patterns es →
+        ensures { (es : List Expression) → Mean self.now.inputs es →
             HoldsOfMany (Selected es self.now.inputs.options)
             (take place (file_at self.now.inputs.files k).lines) result }
     {
@@ -68,12 +66,10 @@ impl Session {
         requires { place ≤ length (file_at self.now.inputs.files k).lines }
         ensures after { place ≤ result }
         ensures within { result ≤ length (file_at self.now.inputs.files k).lines }
-        ensures passed { (es : List Expression) →
-            AreMeant self.now.inputs.syntax self.now.inputs.options self.now.inputs.patterns es →
+        ensures passed { (es : List Expression) → Mean self.now.inputs es →
             (i : ℕ) → place ≤ i → i < result →
             Selected es self.now.inputs.options (get_or (file_at self.now.inputs.files k).lines i []) → ⊥ }
-        ensures hit { (es : List Expression) →
-            AreMeant self.now.inputs.syntax self.now.inputs.options self.now.inputs.patterns es →
+        ensures hit { (es : List Expression) → Mean self.now.inputs es →
             result < length (file_at self.now.inputs.files k).lines →
             Selected es self.now.inputs.options (get_or (file_at self.now.inputs.files k).lines result []) }
     {

@@ -1,5 +1,5 @@
 -- A command on a file with a failed read, worked by hand.
-use Rattle.grep_utility.proofs.Prelude.{◌≡◌, ℕ, true, false, List, [], ◌∷◌, Option, None, Some, Ok, refl, sym, ap, ◌∙◌, subst, arith, ◌⊎◌, inl, inr, codes, false≢true, All-nil, All-cons, Basic, Text, byte, list_of, ended_lines_of, IsReadable, Options, Error, File, broken, HasSelected, FaultMet, Messages, StatusOf, Out, Source, Reading, fails_after, Steps, Writer, devices, Devices, files_of, Finishes, count_more, CommandGives, Folder, sources_named, FailuresAre, Wrote, ReportsMemory, HasReturned, list, read, word_of, meaning_of, broken_words, broken_text, broken_output, broken_messages, BrokenFollows}
+use Rattle.grep_utility.proofs.Prelude.{◌≡◌, ℕ, true, false, List, [], ◌∷◌, Option, Some, Ok, refl, sym, ap, ◌∙◌, subst, arith, ◌⊎◌, inl, inr, codes, false≢true, All-nil, All-cons, Basic, Text, byte, list_of, ended_lines_of, IsReadable, Options, no_options, Error, File, broken, HasSelected, FaultMet, Messages, StatusOf, Out, Source, Reading, fails_after, Steps, Writer, devices, Devices, files_of, Finishes, count_more, CommandGives, Folder, sources_named, FailuresAre, Wrote, ReportsMemory, HasReturned, list, read, word_of, meaning_of, broken_words, broken_text, broken_output, broken_messages, BrokenFollows}
 use Rattle.std.specs.Str.{chars}
 use Rattle.std.specs.Fmt.{digits}
 use Rattle.re_syntax.proofs.lemmas.Decisions.{Any-first}
@@ -8,18 +8,7 @@ use Rattle.grep_utility.proofs.lemmas.KnownLemmas.{one_broken}
 use Rattle.grep_utility.proofs.lemmas.WorkedLemmas.{es, a_meant, selected_a, not_selected, not_quiet}
 
 abbrev broken_options : Options
-broken_options = record {
-  count = false;
-  ignore_case = false;
-  files_with_matches = false;
-  line_number = true;
-  only_matching = false;
-  quiet = false;
-  no_messages = false;
-  invert_match = false;
-  line_regexp = false;
-  context = None;
-}
+broken_options = record no_options { line_number = true }
 
 broken_read : read broken_words ≡ Ok (record { syntax = Basic; options = broken_options; sources = list (codes "a") ∷ []; files = codes "f" ∷ [] })
 unfolding word_of meaning_of chars

@@ -1,5 +1,5 @@
 -- One command from its words to its bytes, worked by hand.
-use Rattle.grep_utility.proofs.Prelude.{◌≡◌, ℕ, zero, suc, ◌≤◌, nat_eq, true, false, List, [], ◌∷◌, Option, Some, Ok, All, refl, sym, ap, ◌∙◌, subst, arith, inl, inr, codes, ⊎_elim, ◌⊎◌, ⊤, false≢true, All-nil, All-cons, Basic, Text, Expression, byte, Matches, list_of, IsMeant, as_basic, IsReadable, Options, Error, IsShown, Groups, File, whole, missing, Selected, HasSelected, FaultMet, Messages, StatusOf, Out, Source, Writer, devices, Steps, CommandGives, Folder, sources_named, IsKnown, full_files, unopened, Predicts, FailuresAre, Wrote, ReportsMemory, Asked, list, read, word_of, meaning_of, row_words, row_text, row_output, row_messages, RowFollows}
+use Rattle.grep_utility.proofs.Prelude.{◌≡◌, ℕ, zero, suc, ◌≤◌, nat_eq, true, false, List, [], ◌∷◌, Option, Some, Ok, All, refl, sym, ap, ◌∙◌, subst, arith, inl, inr, codes, ⊎_elim, ◌⊎◌, ⊤, false≢true, All-nil, All-cons, Basic, Text, Expression, byte, Matches, list_of, IsMeant, as_basic, IsReadable, Options, no_options, Error, IsShown, Groups, File, whole, missing, Selected, HasSelected, FaultMet, Messages, StatusOf, Out, Source, Writer, devices, Steps, CommandGives, Folder, sources_named, IsKnown, full_files, unopened, Predicts, FailuresAre, Wrote, ReportsMemory, Asked, list, read, word_of, meaning_of, row_words, row_text, row_output, row_messages, RowFollows}
 use Rattle.std.specs.Str.{chars}
 use Rattle.std.specs.Fmt.{digits}
 use Rattle.re_syntax.specs.Lines.{lines_of}
@@ -10,18 +10,7 @@ use Rattle.grep_utility.proofs.lemmas.FullLemmas.{predicted}
 -- ---- what the words ask for
 
 abbrev pub row_options : Options
-row_options = record {
-  count = false;
-  ignore_case = false;
-  files_with_matches = false;
-  line_number = true;
-  only_matching = false;
-  quiet = false;
-  no_messages = false;
-  invert_match = false;
-  line_regexp = false;
-  context = Some (record { before = 2; after = 0 });
-}
+row_options = record no_options { line_number = true; context = Some (record { before = 2; after = 0 }) }
 
 abbrev row_asked : Asked
 row_asked = record { syntax = Basic; options = row_options; sources = list (codes "a") ∷ []; files = codes "h" ∷ codes "missing" ∷ [] }

@@ -1,6 +1,6 @@
 -- Sources about which all is known, and what they stand for where no read fails.
 use Rattle.std.specs.Prelude.{◌≡◌, ℕ, ◌+◌, ◌-◌, ◌^◌, ◌<◌, ◌≤◌, Bool, true, false, List, [], ◌∷◌}
-use Rattle.std.specs.Prelude.{◌++◌, ◌⊎◌, Option, Some, Ok, All, map, length, ⊤}
+use Rattle.std.specs.Prelude.{◌++◌, ◌⊎◌, min, Option, Some, Ok, All, Any, map, length, ⊤}
 use Rattle.re_syntax.specs.Bytes.{Text}
 use Rattle.re_syntax.specs.Expression.{Expression}
 use Rattle.re_syntax.specs.Lines.{list_of}
@@ -89,6 +89,13 @@ pub record Predicts (folder : Folder) (words : List Text) (missing : ℕ)
       (full_files (sources_named folder (searched asked.files))) messages
   pub is_status : StatusOf es asked.options
       (full_files (sources_named folder (searched asked.files))) found
+
+-- so many readers were returned, and so many of their reads failed: if any did, there is a reader
+-- that had given all its bytes
+abbrev pub HasReturned : ℕ → ℕ → List (Option Text) → Type 0
+HasReturned returned broken left =
+    (returned ≡ min (length left) (2 ^ 64 - 1))
+    × ((broken ≡ 0) ⊎ Any (λ rest. rest ≡ Some []) left)
 
 -- this many failures of files were counted, and no write failed
 pub record FailuresAre (failures : ℕ) (old new : Devices) : Type 0 where

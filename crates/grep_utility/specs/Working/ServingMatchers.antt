@@ -13,6 +13,7 @@ use Rattle.re_search.specs.declared.pattern.Pattern.{Pattern}
 use Rattle.re_search.specs.Working.Patterns.{meant_by, IsPattern}
 use Rattle.grep_core.specs.declared.options.Options.{Options}
 use Rattle.grep_core.specs.Files.{AreMeant}
+use Rattle.grep_core.specs.Working.MatcherLists.{KeepAtMost}
 use Rattle.grep_core.specs.Working.SameChoice.{IsSameChoice}
 
 -- how many entries the cache of a matcher may have at most
@@ -21,7 +22,7 @@ most_kept = 16384
 
 -- no cache may have more
 abbrev pub HaveRoom : List Matcher → Type 0
-HaveRoom matchers = All (λ room. room ≤ most_kept) (map room_of matchers)
+HaveRoom = KeepAtMost most_kept
 
 -- matchers of the same choice as what the patterns mean, and no more than these; each pattern is
 -- readable

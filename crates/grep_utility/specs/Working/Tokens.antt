@@ -1,18 +1,49 @@
--- How words are cut into pieces from the first one on.
+-- How words are cut into pieces from the first one on, and what is made of them.
 use Rattle.std.specs.Prelude.{◌≡◌, List, [], ◌∷◌, map, Option, Some, None, Result, Ok, Err}
+use Rattle.std.specs.String.{string_bytes}
 use Rattle.std.specs.Borrow.{Bor}
 use Rattle.std.specs.Str.{chars}
 use Rattle.re_syntax.specs.Bytes.{Text}
 use Rattle.grep_utility.specs.Words.{Token, flag, reads_as, source, list, file, around, operand, fault}
 use Rattle.grep_utility.specs.Words.{an_operand, ends_options, a_group, word_of, group, pieces}
-use Rattle.grep_utility.specs.Words.{texts_of, asked, Draft}
+use Rattle.grep_utility.specs.Words.{texts_of, read, Asked, PatternsFrom, Draft}
 use Rattle.grep_utility.specs.declared.words.UsageFault.{UsageFault}
+use Rattle.grep_utility.specs.declared.words.UsageFault.TheVariants.{Memory}
+use Rattle.grep_utility.specs.declared.words.PatternSource.{PatternSource}
+use Rattle.grep_utility.specs.declared.words.PatternSource.TheVariants as given
+use Rattle.grep_utility.specs.declared.words.Request.{Request}
 use Rattle.grep_utility.specs.declared.words.Draft as code_draft
 use Rattle.grep_utility.specs.declared.words.tokens.Token as code
 use Rattle.grep_utility.specs.declared.words.tokens.Token.TheVariants as piece
 use Rattle.grep_utility.specs.declared.words.tokens.Word as kind
 use Rattle.grep_utility.specs.declared.words.tokens.Word.TheVariants.{Operand, EndOfOptions, Group}
 use Rattle.grep_utility.specs.declared.words.tokens.WordTokens.{WordTokens}
+
+-- ---- requests by their texts
+
+abbrev pub given_source : PatternSource → PatternsFrom
+given_source (given.List text) = list (string_bytes text)
+given_source (given.File name) = file (string_bytes name)
+
+abbrev pub asked : Request → Asked
+asked request = record {
+  syntax = request.syntax;
+  options = request.options;
+  sources = map given_source request.sources.items;
+  files = texts_of request.files.items;
+}
+
+-- the fault is out of memory, or this holds
+abbrev pub OrMemory : UsageFault → Type 0 → Type 0
+OrMemory Memory P = Unit {0}
+OrMemory _ P = P
+
+-- a request is what its words ask for, and a fault is theirs or out of memory
+abbrev pub AreRead : List Text → Result Request UsageFault → Type 0
+AreRead words (Ok request) = read words ≡ Ok (asked request)
+AreRead words (Err f) = OrMemory f (read words ≡ Err f)
+
+-- ---- pieces
 
 abbrev pub token_of : Result code.Token UsageFault → Token
 token_of (Ok (piece.Flag f)) = flag f

@@ -5,8 +5,7 @@ use Rattle.grep_core.specs.declared.status.Status.TheVariants.{Error}
 use Rattle.grep_core.specs.Run.{Devices}
 use Rattle.grep_utility.specs.Command.{CommandGives}
 use Rattle.grep_utility.specs.Folder.{Folder}
-use Rattle.grep_utility.specs.Working.Known.{WritesJust}
-use Rattle.grep_utility.specs.Working.Returned.{HasReturned}
+use Rattle.grep_utility.specs.Working.Known.{HasReturned, WritesJust}
 
 -- `grep -n -B 2 a h missing`, where the file `h` has three lines and there is no file `missing`
 abbrev pub row_words : List Text

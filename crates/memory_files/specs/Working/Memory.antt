@@ -9,7 +9,7 @@ use Rattle.memory_files.specs.declared.files.MemoryFile.{MemoryFile}
 use Rattle.memory_files.specs.declared.files.MemoryFiles.{MemoryFiles}
 use Rattle.memory_files.specs.declared.files.MemoryReader.{MemoryReader}
 use Rattle.grep_utility.specs.Folder.{Folder}
-use Rattle.grep_utility.specs.Working.Returned.{HasReturned}
+use Rattle.grep_utility.specs.Working.Known.{HasReturned}
 
 -- the bytes that reads of the content give
 abbrev pub bytes_of : Content → Option Text

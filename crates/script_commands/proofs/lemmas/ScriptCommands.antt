@@ -1,5 +1,5 @@
 -- The command of some words, by the first of them.
-use Rattle.script_commands.proofs.Prelude.{◌≡◌, ℕ, true, false, List, [], ◌∷◌, bytes_eq, codes, Some, None, refl, ap, ◌∙◌, cond-true, cond-false, Text, Splice, number_of, counts, command_of, file_command, missing_command, splice_from, splice_command, unnamed_command, four_words}
+use Rattle.script_commands.proofs.Prelude.{◌≡◌, ℕ, true, false, List, [], ◌∷◌, bytes_eq, codes, Some, None, refl, ◌∙◌, cond-true, cond-false, Text, Splice, number_of, counts, command_of, file_command, missing_command, splice_command, unnamed_command, four_words}
 
 pub command_none : command_of [] ≡ None
 unfolding command_of
@@ -27,9 +27,7 @@ four_words-some (x ∷ y ∷ z ∷ u ∷ v ∷ ws) a b c d is = absurd (let no :
 
 pub splice_some : (a b c d : Text) (file start removed count : ℕ) → number_of a ≡ Some file → number_of b ≡ Some start → number_of c ≡ Some removed → number_of d ≡ Some count
     → splice_command (a ∷ b ∷ c ∷ d ∷ []) ≡ Some (counts count (Splice file start removed))
-splice_some a b c d file start removed count p q r s =
-    ap (λ x. splice_from x (number_of b) (number_of c) (number_of d)) p ∙ ap (λ x. splice_from (Some file) x (number_of c) (number_of d)) q
-    ∙ ap (λ x. splice_from (Some file) (Some start) x (number_of d)) r ∙ ap (λ x. splice_from (Some file) (Some start) (Some removed) x) s
+splice_some a b c d file start removed count p q r s = rw (p, q, r, s) refl
 
 pub splice_none : (a b c d : Text) → number_of a ≡ None → splice_command (a ∷ b ∷ c ∷ d ∷ []) ≡ None
-splice_none a b c d p = ap (λ x. splice_from x (number_of b) (number_of c) (number_of d)) p
+splice_none a b c d p = rw p refl

@@ -15,7 +15,7 @@ use Rattle.std.proofs.alloc.Global.TheSendSync as global
 use Rattle.gaxtrel.specs.declared.held.Held.{Held}
 use Rattle.gaxtrel.specs.contracts.held.Held as kind
 use Rattle.gaxtrel.proofs.HeldSend as held_send
-use Rattle.gaxtrel.specs.Held.{held_owns}
+use Rattle.gaxtrel.specs.Working.Owned.{held_owns}
 use Rattle.gaxtrel.specs.contracts.handle.Handle.{the_row, the_type}
 
 held_keyless : (alloc : (global_heap.the_row).Denot) (at : Ptr) (it : Option Held) → Keyless (held_owns kind.the_row alloc at it)

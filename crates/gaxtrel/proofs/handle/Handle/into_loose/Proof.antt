@@ -25,7 +25,7 @@ use Rattle.std.specs.contracts.impls.GlobalAllocator.TheImpl.{ghosts}
 use Rattle.std.specs.Box.Ownership.{box_owns}
 use Rattle.std.proofs.raw_atomic.Walks.{proved_at, leaves}
 use Rattle.gaxtrel.specs.declared.held.Held.{Held}
-use Rattle.gaxtrel.specs.Held.{held_owns}
+use Rattle.gaxtrel.specs.Working.Owned.{held_owns}
 use Rattle.gaxtrel.proofs.Values.{both, loose_good, loose_in}
 use Rattle.gaxtrel.proofs.HandleValues.{R, Z, L, g, Handle, handle_out}
 use Rattle.gaxtrel.specs.contracts.handle.Handle.into_loose.{ended, clauses}
