@@ -14,6 +14,7 @@ ghost use Rattle.re_auto.specs.Searches.{FindsPart};
 ghost use Rattle.re_meter.specs.Meters.{AddsAtMost};
 
 use crate::pattern::read_pattern;
+use crate::strings::string_of;
 use re_auto::Meter;
 use re_match::{Ahead, Cached, LineMatch, Strings, Window};
 use re_syntax::{FaultKind, PatternFault, Span, Syntax, Tree};
@@ -155,8 +156,8 @@ pub(crate) fn fixed_matcher(alloc: Global, text: &[u8], whole: bool) -> Result<M
     Ok(Matcher::Strings(strings))
 }
 
-/// The matcher that steps the automaton of a tree that is not too large.
-pub(crate) fn stepping_matcher(
+/// The matcher for a tree that is not too large: it looks for a string, or steps an automaton.
+pub(crate) fn tree_matcher(
     alloc: Global,
     tree: Tree,
     whole: bool,
@@ -164,11 +165,14 @@ pub(crate) fn stepping_matcher(
 ) -> Result<Matcher, AllocError>
     requires small { positions (expression_of tree) ≤ most_positions }
     requires some { 1 ≤ states }
-    ensures tree { IfOk result (λ m. matched_expression m ≡ expression_of tree) }
+    ensures expression { IfOk result (λ m. matched_expression m ≡ expression_of tree) }
     ensures whole { IfOk result (λ m. wants_whole m ≡ whole) }
     ensures room { IfOk result (λ m. room_of m ≤ states) }
     ensures empty { IfOk result (λ m. entries_of m ≡ []) }
 {
+    if let Some(string) = string_of(alloc, &tree) {
+        return fixed_matcher(alloc, &string, whole);
+    }
     let Some(most) = NonZeroUsize::new(states) else {
         unreachable!();
     };

@@ -2,7 +2,6 @@
 ghost use Rattle.std.specs.Prelude.{◌≡◌, ◌≤◌, ◌⊎◌, [], true, false, Bool};
 ghost use Rattle.std.specs.Prelude.{IsTrue, IfOk, IfErr, IfSome, length};
 ghost use Rattle.re_syntax.specs.Holds.{positions};
-ghost use Rattle.re_syntax.specs.Profile.{most_positions};
 ghost use Rattle.re_syntax.specs.Spelled.{has_limit};
 ghost use Rattle.re_syntax.specs.Working.Trees.{expression_of};
 ghost use Rattle.re_syntax.specs.declared.syntax.Syntax.TheVariants.{Fixed};
@@ -13,8 +12,8 @@ ghost use Rattle.re_search.specs.Working.Patterns.{pattern_expression, meaning, 
 ghost use Rattle.re_search.specs.Working.Patterns.{is_string, IsCounted, IsPattern};
 ghost use Rattle.re_search.specs.Working.Strings.{AddsStrings, string_expression};
 
-use crate::matcher::{Matcher, fault_at_first, fixed_matcher, stepping_matcher};
-use crate::strings::{add_each, add_string, add_tree, string_of};
+use crate::matcher::{Matcher, fault_at_first, fixed_matcher, tree_matcher};
+use crate::strings::{add_each, add_string, add_tree};
 use re_syntax::{FaultKind, MOST_POSITIONS, PatternFault, Syntax, Tree, count_positions, read};
 use std::alloc::{AllocError, Global};
 
@@ -117,26 +116,6 @@ fn string_tree(alloc: Global, text: &[u8], fold: bool) -> Result<Tree, AllocErro
         Ok((tree, _)) => Ok(meant(tree, fold)),
         Err(_) => Err(AllocError),
     }
-}
-
-// The matcher for a tree that is not too large.
-fn tree_matcher(
-    alloc: Global,
-    tree: Tree,
-    whole: bool,
-    states: usize,
-) -> Result<Matcher, AllocError>
-    requires small { positions (expression_of tree) ≤ most_positions }
-    requires some { 1 ≤ states }
-    ensures expression { IfOk result (λ m. matched_expression m ≡ expression_of tree) }
-    ensures whole { IfOk result (λ m. wants_whole m ≡ whole) }
-    ensures room { IfOk result (λ m. room_of m ≤ states) }
-    ensures empty { IfOk result (λ m. entries_of m ≡ []) }
-{
-    if let Some(string) = string_of(alloc, &tree) {
-        return fixed_matcher(alloc, &string, whole);
-    }
-    stepping_matcher(alloc, tree, whole, states)
 }
 
 /// Reads the text of a pattern.

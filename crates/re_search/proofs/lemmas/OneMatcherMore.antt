@@ -1,7 +1,7 @@
 -- One matcher more of a list: what is known of those that were asked, before it was and afterwards.
 use Rattle.re_search.proofs.Prelude.{◌≡◌, ℕ, ◌+◌, ◌*◌, ◌<◌, Bool, inl, inr, List, [], ◌∷◌, ◌++◌, length, map, take, get_or, sym, ap, ◌∙◌, arith, add-one, set, take-suc, map-set_same, get_or-map, length-map, Text, Expression, Matches, SomeMatches, Matcher, AreAlike, expressions_of, wants_whole}
 use Rattle.re_auto.specs.Meters.{Steps}
-use Rattle.re_match.proofs.lemmas.StepSums.{adds_up}
+use Rattle.re_match.proofs.lemmas.StepSums.{adds_on}
 use Rattle.re_auto.specs.Searches.{AddsAtMost}
 use Rattle.re_syntax.proofs.lemmas.SomeOfJoined.{Any-append-cases, Any-single}
 
@@ -46,4 +46,4 @@ module _ (ms : List Matcher) (whole : Bool) (alike : AreAlike whole ms) (line : 
 
 -- the steps of one search more
 pub steps_more : (i n : ℕ) (old middle new : Steps) → AddsAtMost (i * n) old middle → AddsAtMost n middle new → AddsAtMost ((i + 1) * n) old new
-steps_more i n old middle new a b = adds_up (i * n) n ((i + 1) * n) old middle new (omega arith) a b
+steps_more i n old middle new a b = adds_on a b (omega arith) (omega arith)
