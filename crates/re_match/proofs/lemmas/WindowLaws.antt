@@ -7,6 +7,7 @@ use Rattle.re_auto.specs.Working.Positions.{part_of}
 use Rattle.re_auto.proofs.lemmas.PositionsDecide.{each_byte_taken}
 use Rattle.re_runs.proofs.lemmas.RunLaws.{run_rest, run_whole}
 use Rattle.re_ends.specs.Working.GreatestEnds.{IsBorder, FindsIn}
+use Rattle.re_ends.proofs.lemmas.FoundEnds.{adds_alike}
 use Rattle.re_match.specs.declared.window.Edges.{Edges}
 use Rattle.re_match.specs.Working.Aheads.{AreEdgesFor, BeginsLater, past}
 
@@ -177,10 +178,6 @@ pub ends_of_window : (P : ℕ → ℕ → Type 0) (e : Expression) (line : Text)
     → ((i m : ℕ) → i < length (slice_range line start end) → P i m ↔ FoundPast (e ∷ []) line false (start + i) m) → AddsEnds P (slice_range line start end) old new → AddsEnds (λ i m. FoundPast (e ∷ []) line false (start + i) m) old old new
 ends_of_window P e line start end window old new room alike added =
     let within = border_within e line end window.1 in
-    let size : length (slice_range line start end) ≡ length old = omega (arith, length-take-le (end - start) (drop start line) (omega (arith, length-drop start line, within)), room) in (
-      omega (arith, added.0, size),
-      λ i m lt. (
-        λ h. elim ((added.1 i m (omega (arith, lt, size))).0 h) [ inl o ↦ inl o | inr p ↦ inr ((alike i m (omega (arith, lt, size))).0 p) ],
-        λ h. (added.1 i m (omega (arith, lt, size))).1 (elim h [ inl o ↦ inl o | inr f ↦ inr ((alike i m (omega (arith, lt, size))).1 f) ]),
-      ),
-    )
+    let size : length (slice_range line start end) ≡ length old = omega (arith, length-take-le (end - start) (drop start line) (omega (arith, length-drop start line, within)), room) in
+    let (long, at) = adds_alike _ _ (slice_range line start end) old new alike added in
+    (omega (arith, long, size), λ i m lt. at i m (omega (arith, lt, size)))
