@@ -9,7 +9,6 @@ ghost use Rattle.re_search.specs.Reading.{IsSmallFor, IsReadable, IsOutOfMemory}
 ghost use Rattle.re_search.specs.Reading.{IsRefusedFor};
 ghost use Rattle.re_search.specs.Working.Matchers.{matched_expression, wants_whole, is_fixed};
 ghost use Rattle.re_search.specs.Working.Matchers.{IsSame, room_of, entries_of, CountsSteps};
-ghost use Rattle.re_match.specs.declared.strings.Look.TheVariants.{One};
 ghost use Rattle.re_auto.specs.Searches.{FindsPart};
 ghost use Rattle.re_meter.specs.Meters.{AddsAtMost};
 
@@ -147,15 +146,6 @@ impl LineMatch for Matcher {
     }
 }
 
-/// The matcher that looks for the text as it is.
-pub(crate) fn fixed_matcher(alloc: Global, text: &[u8], whole: bool) -> Result<Matcher, AllocError>
-    ensures { IfOk result
-        (λ m. m ≡ Matcher.Strings (record { look = One text.now; whole = whole })) }
-{
-    let strings = Strings::one(alloc, text, whole)?;
-    Ok(Matcher::Strings(strings))
-}
-
 /// The matcher for a tree that is not too large: it looks for a string, or steps an automaton.
 pub(crate) fn tree_matcher(
     alloc: Global,
@@ -171,7 +161,7 @@ pub(crate) fn tree_matcher(
     ensures empty { IfOk result (λ m. entries_of m ≡ []) }
 {
     if let Some(string) = string_of(alloc, &tree) {
-        return fixed_matcher(alloc, &string, whole);
+        return Ok(Matcher::Strings(Strings::one(alloc, &string, whole)?));
     }
     let Some(most) = NonZeroUsize::new(states) else {
         unreachable!();

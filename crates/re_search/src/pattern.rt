@@ -10,10 +10,11 @@ ghost use Rattle.re_search.specs.Working.Matchers.{matched_expression, wants_who
 ghost use Rattle.re_search.specs.Working.Matchers.{room_of, entries_of};
 ghost use Rattle.re_search.specs.Working.Patterns.{pattern_expression, meaning, meant_by};
 ghost use Rattle.re_search.specs.Working.Patterns.{is_string, IsCounted, IsPattern};
-ghost use Rattle.re_search.specs.Working.Strings.{AddsStrings, string_expression};
+ghost use Rattle.re_search.specs.Working.Strings.{AddsStrings};
 
-use crate::matcher::{Matcher, fault_at_first, fixed_matcher, tree_matcher};
+use crate::matcher::{Matcher, fault_at_first, tree_matcher};
 use crate::strings::{add_each, add_string, add_tree};
+use re_match::Strings;
 use re_syntax::{FaultKind, MOST_POSITIONS, PatternFault, Syntax, Tree, count_positions, read};
 use std::alloc::{AllocError, Global};
 
@@ -63,7 +64,10 @@ impl<'a> Pattern<'a> {
         ensures { IfOk result (λ tree. expression_of tree ≡ meant_by fold self.entry) }
     {
         match self {
-            Pattern::String(text) => string_tree(alloc, text, fold),
+            Pattern::String(text) => match read(alloc, Syntax::Fixed, text) {
+                Ok((tree, _)) => Ok(meant(tree, fold)),
+                Err(_) => Err(AllocError),
+            },
             Pattern::Tree(tree, _) => Ok(meant(tree, fold)),
         }
     }
@@ -91,7 +95,9 @@ impl<'a> Pattern<'a> {
         ensures empty { IfOk result (λ m. entries_of m ≡ []) }
     {
         match self {
-            Pattern::String(text) if !fold => fixed_matcher(alloc, text, whole),
+            Pattern::String(text) if !fold => Ok(Matcher::Strings(Strings::one(
+                alloc, text, whole,
+            )?)),
             _ => tree_matcher(alloc, self.into_tree(alloc, fold)?, whole, states),
         }
     }
@@ -105,17 +111,6 @@ fn meant(tree: Tree, fold: bool) -> Tree
         return re_syntax::fold(tree);
     }
     tree
-}
-
-// The tree of a string's meaning.
-fn string_tree(alloc: Global, text: &[u8], fold: bool) -> Result<Tree, AllocError>
-    ensures { IfOk result
-        (λ tree. expression_of tree ≡ meaning fold (string_expression text.now)) }
-{
-    match read(alloc, Syntax::Fixed, text) {
-        Ok((tree, _)) => Ok(meant(tree, fold)),
-        Err(_) => Err(AllocError),
-    }
 }
 
 /// Reads the text of a pattern.

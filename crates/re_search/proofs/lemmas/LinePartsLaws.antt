@@ -139,8 +139,7 @@ module _ (e : Expression) (line : Text) (from : ℕ) (window : Window) (within :
         λ p. absurd (let first = are.first in let long = are.long in let none = get_or_past parts.ends (i - parts.first) 0 (omega (arith, first, long, beyond)) in omega (arith, p.1, none)),
         λ (j, past, f). absurd (
             let over = over_border e line 0 window.end i j is.1.1 f (omega (arith, lt, seen)) in
-            let some = f.not_empty in
-            omega (arith, over, some, beyond)),
+            omega (arith, over, f.not_empty, beyond)),
       )
     ]
   ]

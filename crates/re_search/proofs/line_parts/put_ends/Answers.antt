@@ -17,13 +17,12 @@ loop-matcher-init c = record {
 pub loop-matcher-preserved : goal.loop-matcher-preserved
 loop-matcher-preserved c =
     let old = c.args.matchers.now in
-    let now = c.loop-matcher.matchers in
     let i = c.loop-matcher.matcher-index in
     let d = c.matcher-item.result in
     let same = c.loop-matcher.invariant.same_matchers in
     record {
       right =
-          ends_more (expressions_of old) c.args.line.now i _ c.loop-matcher.ends c.add_ends.new.ends c.loop-matcher.invariant.room (one_more matched_expression old now same.same_expressions i d c.loop-matcher-test.true)
+          ends_more (expressions_of old) c.args.line.now i _ c.loop-matcher.ends c.add_ends.new.ends c.loop-matcher.invariant.room (one_more matched_expression old c.loop-matcher.matchers same.same_expressions i d c.loop-matcher-test.true)
           c.loop-matcher.invariant.right (rw c.rest_of.ensures at c.add_ends.ensures.added);
       same_matchers = one_kept same i d _ c.add_ends.ensures.same;
       room = c.add_ends.ensures.added.0 ∙ c.loop-matcher.invariant.room;

@@ -5,13 +5,11 @@ use Rattle.re_search.proofs.several.parts.Goals as goal
 
 pub loop-matcher-preserved : goal.loop-matcher-preserved
 loop-matcher-preserved c =
-    let old = c.args.matchers.now in
-    let now = c.loop-matcher.matchers in
     let i = c.loop-matcher.matcher-index in
     let d = c.matcher-item.result in
     let same = c.loop-matcher.invariant.same_matchers in
     record {
-      reported = rw (one_more matched_expression old now same.same_expressions i d c.loop-matcher-test.true) (c.better-best.ensures _ _ _ _ _ c.loop-matcher.invariant.reported c.find-found.ensures.reported);
+      reported = rw (one_more matched_expression c.args.matchers.now c.loop-matcher.matchers same.same_expressions i d c.loop-matcher-test.true) (c.better-best.ensures _ _ _ _ _ c.loop-matcher.invariant.reported c.find-found.ensures.reported);
       same_matchers = one_kept same i d _ c.find-found.ensures.same;
       steps = steps_more i _ _ _ _ c.loop-matcher.invariant.steps c.find-found.ensures.steps;
     }
