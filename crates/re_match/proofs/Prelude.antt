@@ -1,7 +1,7 @@
 -- The words of specs and of std that proofs of this crate use, passed on from one place. Declares nothing.
 pub use Rattle.memchr.specs.Find.{FindsNeedle, OccursAt}
 pub use Rattle.re_auto.specs.Searches.{FindsPart}
-pub use Rattle.re_ends.specs.Working.GreatestEnds.{AddsEnds, FoundPast, MatchesPast}
+pub use Rattle.re_ends.specs.Working.GreatestEnds.{AddsEnds, FoundPast}
 pub use Rattle.re_match.specs.Working.CachedMatchers.{CachedMatcher, SameCached, cache_in}
 pub use Rattle.re_match.specs.Working.Literals.{Literals, any_literal, literal_meaning}
 pub use Rattle.re_match.specs.Working.Strings.{IsPartOfLines, look_expression}

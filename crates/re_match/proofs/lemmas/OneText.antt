@@ -45,15 +45,12 @@ module _ (text line : Text) where
   first_part from k h finds =
       record {
         found = occurs-found from k h finds.1;
-        earliest = not_before;
+        earliest = λ i j f. elim (dec_le k (i - from)) [
+          | yes e ↦ omega (arith, e, f.begins)
+          | no e ↦ absurd (finds.0.before (i - from) (omega arith) (omega (arith, e)) (found-occurs from i j f).0)
+        ];
         longest = λ j f. let o = found-occurs from (from + k) j f in omega (arith, o.1);
       }
-    where
-      not_before : (i j : ℕ) → IsFound (sequence (map byte text) ∷ []) line false from i j → from + k ≤ i
-      not_before i j f = elim (dec_le k (i - from)) [
-        | yes e ↦ omega (arith, e, f.begins)
-        | no e ↦ absurd (finds.0.before (i - from) (omega arith) (omega (arith, e)) (found-occurs from i j f).0)
-      ]
 
   -- the occurrences of a text that is not empty are the stretches found
   pub past_found : 0 < length text → (start i m : ℕ) → i < length line → ((m < start + (i + length text)) × OccursAt line text i) ↔ ((j : ℕ) × (m < start + j) × IsFound (sequence (map byte text) ∷ []) line false 0 i j)

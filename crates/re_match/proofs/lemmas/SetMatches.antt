@@ -66,22 +66,16 @@ module _ (l : Literals) (line : Text) where
 
   -- where it is not, the line is matched if it has a string
   pub occurs_decides : (r : Bool) → (IsString (keyed l) [] → ⊥) → IsTrue r ↔ ((i j : ℕ) × Occurs (keyed l) 0 (keys l.fold line) i j) → IsTrue r ↔ Matches (any_literal l) line false
-  occurs_decides r none reported = ((λ h. matched (reported.0 h)), (λ m. reported.1 (stands m)))
-    where
-      matched : (i j : ℕ) × Occurs (keyed l) 0 (keys l.fold line) i j → Matches (any_literal l) line false
-      matched (i, j, o) =
-          let within : j ≤ length line = let w = o.2 in omega (arith, w, size) in
-          (i, j, within, stands_any i j (let h = o.1 in omega (arith, h)) within o.3)
-
-      stands : Matches (any_literal l) line false → (i j : ℕ) × Occurs (keyed l) 0 (keys l.fold line) i j
-      stands (i, j, within, h) =
-          let le : i ≤ j = Holds-le line (any_literal l) i j h in
-          let s = any_stands i j le within h in
-          let on_line : j ≤ length (keys l.fold line) = omega (arith, within, size) in
-          elim (cases_lt i j) [
-            | inl some ↦ (i, j, (omega arith, some, on_line, s))
-            | inr empty ↦ absurd (none (subst (IsString (keyed l)) (nothing_between (keys l.fold line) i j empty on_line) s))
-          ]
+  occurs_decides r none reported = (
+    λ h.
+        let (i, j, o) = reported.0 h in
+        let within : j ≤ length line = omega (arith, o.2, size) in
+        (i, j, within, stands_any i j (omega (arith, o.1)) within o.3),
+    λ (i, j, within, h). reported.1 (elim (cases_lt i j) [
+      | inl some ↦ (i, j, (omega arith, some, omega (arith, within, size), any_stands i j (omega (arith, some)) within h))
+      | inr empty ↦ absurd (none (subst (IsString (keyed l)) (nothing_between (keys l.fold line) i j empty (omega (arith, within, size))) (any_stands i j (Holds-le line (any_literal l) i j h) within h)))
+    ]),
+  )
 
   -- the line is matched as a whole where it is one of them
   pub line_decides : (r : Bool) → IsTrue r ↔ IsString (keyed l) (keys l.fold line) → IsTrue r ↔ Matches (any_literal l) line true

@@ -2,7 +2,7 @@
 use Rattle.re_match.proofs.Prelude.{sym, subst, ◌≡◌, ℕ, ◌+◌, ◌-◌, ◌≤◌, arith, length, Text, AddsUpTo, many_passed}
 use Rattle.re_auto.specs.Meters.{Steps}
 use Rattle.re_auto.specs.Searches.{AddsAtMost}
-use Rattle.re_meter.proofs.lemmas.Adding.{adds_both, adds_within, adds_passed, only_passed, built_adds, reused_adds}
+use Rattle.re_meter.proofs.lemmas.Adding.{adds_both, adds_within, only_passed, built_adds, reused_adds}
 use Rattle.re_meter.specs.Meters.{AddsJust, many_built, many_reused}
 use Rattle.re_match.specs.Working.Aheads.{CountsAhead, PassesAtLeast}
 use Rattle.re_match.specs.declared.ahead.Ahead.TheVariants.{Nothing}
@@ -16,10 +16,6 @@ adds_on a b few fits = adds_within _ _ _ _ _ _ few fits (adds_both _ _ _ _ _ _ _
 pub look_and_built : (cost looks most_steps most_bytes : ℕ) (old mid new : Steps) → looks ≤ most_steps → cost ≤ most_bytes → mid ≡ many_passed cost old → new ≡ many_built looks mid → AddsUpTo most_steps most_bytes old new
 look_and_built cost looks most_steps most_bytes old mid new few fits is counted =
     adds_on (only_passed most_bytes cost old mid fits is) (subst (AddsUpTo looks 0 mid) (sym counted) (built_adds looks 0 mid)) (omega (arith, few)) (omega arith)
-
--- two looks
-pub looks_twice : (cost more most : ℕ) (old mid new : Steps) → cost + more ≤ most → mid ≡ many_passed cost old → new ≡ many_passed more mid → AddsUpTo 0 most old new
-looks_twice cost more most old mid new fits is counted = adds_passed 0 cost most more old mid new fits (only_passed cost cost old mid (omega arith) is) counted
 
 -- steps of a pass back
 pub walked_adds : (n : ℕ) {old new : Steps} → (reused : ℕ) × (reused ≤ n) × (new ≡ many_built (n - reused) (many_reused reused old)) → AddsJust n 0 old new

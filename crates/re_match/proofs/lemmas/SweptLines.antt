@@ -103,9 +103,8 @@ stops_at_head e runs block swept at free begins wide place found low stops =
       line = λ end cut.
           let (n, run, lt, here, there) = finds.1 in
           let some : 1 ≤ length run = subst (λ r. 1 ≤ length r) here (wide n run lt) in
-          let fits = there.fits in
           let near = subst (λ p. look_cost block p ≤ end + 1) place (stops end cut) in
-          let high : at ≤ end = omega (arith, near, fits, some) in
+          let high : at ≤ end = omega (arith, near, there.fits, some) in
           record { high = high; near = omega (arith, stops end cut); same = from_head e runs block swept.start at end begins finds low cut free high; right = tt };
     }
 

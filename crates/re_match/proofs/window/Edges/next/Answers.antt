@@ -21,7 +21,6 @@ returns c = λ e right.
     let small : (x : ℕ) → slice_index line x < 256 = search rules in
     let start = c.next_in-start.result in
     let at = c.next_in-start.ensures in
-    let end = c.end-end.result in
     let high = c.end-end.ensures.low in (
       (later_by_run e line c.args.self.now right small from start at.on.0 at.passed, (high, c.end-end.ensures.border e right)),
       record {
