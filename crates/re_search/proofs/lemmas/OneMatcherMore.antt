@@ -1,5 +1,5 @@
 -- One matcher more of a list: what is known of those that were asked, before it was and afterwards.
-use Rattle.re_search.proofs.Prelude.{◌≡◌, ℕ, ◌+◌, ◌*◌, ◌<◌, Bool, inl, inr, List, [], ◌∷◌, ◌++◌, length, map, take, get_or, sym, ap, ◌∙◌, arith, add-one, set, take-suc, map-set_same, get_or-map, length-map, Text, Expression, Matches, SomeMatches, Matcher, AreAlike, AreSame, expressions_of, matched_expression, subst, wants_whole}
+use Rattle.re_search.proofs.Prelude.{◌≡◌, ℕ, ◌+◌, ◌*◌, ◌<◌, ◌≤◌, Bool, inl, inr, List, [], ◌∷◌, ◌++◌, length, map, take, get_or, sym, ap, ◌∙◌, arith, add-one, set, take-suc, take_all, map-set_same, get_or-map, length-map, Text, Expression, Matches, SomeMatches, Matcher, AreAlike, AreSame, expressions_of, matched_expression, subst, wants_whole}
 use Rattle.re_auto.specs.Meters.{Steps}
 use Rattle.re_match.proofs.lemmas.StepSums.{adds_on}
 use Rattle.re_auto.specs.Searches.{AddsAtMost}
@@ -43,6 +43,10 @@ module _ {whole : Bool} {old now : List Matcher} (same : AreSame old now) (alike
   -- where one matcher matches some do
   pub one_matches : Matches e line (wants_whole (get_or now i d)) → SomeMatches (expressions_of old) line whole
   one_matches m = (i, e, (within matched_expression old now same.same_expressions i d h).1, value_at matched_expression old now same.same_expressions i d h e, subst (Matches e line) answer m)
+
+-- all were asked
+pub all_asked : (ms : List Matcher) (i : ℕ) → length ms ≤ i → take i (expressions_of ms) ≡ expressions_of ms
+all_asked ms i le = take_all i (expressions_of ms) (omega (arith, le, length-map ms matched_expression))
 
 -- the steps of one search more
 pub steps_more : (i n : ℕ) (old middle new : Steps) → AddsAtMost (i * n) old middle → AddsAtMost n middle new → AddsAtMost ((i + 1) * n) old new

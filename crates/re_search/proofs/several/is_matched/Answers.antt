@@ -1,5 +1,5 @@
-use Rattle.re_search.proofs.Prelude.{◌≡◌, take, arith, refl, take_all, false≢true, length-map, matched_expression, expressions_of}
-use Rattle.re_search.proofs.lemmas.OneMatcherMore.{none_more, one_matches, steps_more}
+use Rattle.re_search.proofs.Prelude.{arith, refl, false≢true}
+use Rattle.re_search.proofs.lemmas.OneMatcherMore.{none_more, one_matches, all_asked, steps_more}
 use Rattle.re_search.proofs.lemmas.KeptMatchers.{one_kept}
 use Rattle.re_search.proofs.several.is_matched.Goals as goal
 
@@ -22,7 +22,4 @@ pub returns-then-is_match-clause-same_matchers : goal.returns-then-is_match-clau
 returns-then-is_match-clause-same_matchers c = one_kept c.loop-matcher.invariant.same_matchers _ c.matcher-item.result _ c.is_match.ensures.same
 
 pub returns-clause-reported : goal.returns-clause-reported
-returns-clause-reported c =
-    let es = expressions_of c.args.matchers.now in
-    let all : take c.loop-matcher.matcher-index es ≡ es = take_all _ _ (omega (arith, length-map c.args.matchers.now matched_expression)) in
-    (λ no. absurd (false≢true no), λ some. absurd ((rw all at c.loop-matcher.invariant.none) some))
+returns-clause-reported c = (λ no. absurd (false≢true no), λ some. absurd ((rw (all_asked c.args.matchers.now c.loop-matcher.matcher-index (omega arith)) at c.loop-matcher.invariant.none) some))

@@ -1,5 +1,5 @@
-use Rattle.re_search.proofs.Prelude.{◌≡◌, take, arith, take_all, length-map, matched_expression, expressions_of}
-use Rattle.re_search.proofs.lemmas.OneMatcherMore.{one_more, steps_more}
+use Rattle.re_search.proofs.Prelude.{arith, matched_expression}
+use Rattle.re_search.proofs.lemmas.OneMatcherMore.{one_more, all_asked, steps_more}
 use Rattle.re_search.proofs.lemmas.KeptMatchers.{one_kept}
 use Rattle.re_search.proofs.several.parts.Goals as goal
 
@@ -15,7 +15,4 @@ loop-matcher-preserved c =
     }
 
 pub returns-clause-reported : goal.returns-clause-reported
-returns-clause-reported c =
-    let es = expressions_of c.args.matchers.now in
-    let all : take c.loop-matcher.matcher-index es ≡ es = take_all _ _ (omega (arith, length-map c.args.matchers.now matched_expression)) in
-    rw c.if-whole.false (rw all at c.loop-matcher.invariant.reported)
+returns-clause-reported c = rw c.if-whole.false (rw (all_asked c.args.matchers.now c.loop-matcher.matcher-index (omega arith)) at c.loop-matcher.invariant.reported)
