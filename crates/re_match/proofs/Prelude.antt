@@ -1,7 +1,7 @@
 -- The words of specs and of std that proofs of this crate use, passed on from one place. Declares nothing.
 pub use Rattle.memchr.specs.Find.{FindsNeedle, OccursAt}
 pub use Rattle.re_auto.specs.Searches.{FindsPart}
-pub use Rattle.re_ends.specs.Working.GreatestEnds.{AddsEnds, FoundPast, MatchesPast}
+pub use Rattle.re_ends.specs.Working.GreatestEnds.{AddsEnds, FoundPast}
 pub use Rattle.re_match.specs.Working.CachedMatchers.{CachedMatcher, SameCached, cache_in}
 pub use Rattle.re_match.specs.Working.Literals.{Literals, any_literal, literal_meaning}
 pub use Rattle.re_match.specs.Working.Strings.{IsPartOfLines, look_expression}
@@ -37,12 +37,11 @@ unfoldable pub use Rattle.re_trees.specs.Lines.{lines_of}
 pub use Rattle.re_trees.specs.Parts.{IsFound, IsPart}
 pub use Rattle.re_trees.specs.Working.Trees.{expression_of}
 pub use Rattle.re_trees.specs.declared.span.Span.{Span}
-pub use Rattle.std.proofs.Common.{All, Bool, Decides, IfSome, IsTrue, List, None, Option, Some, [], ap, append-nil, arith, bytes_eq, drop, drop-drop, drop_of_length-le, eq-eqb, eqb-true, false, get_or, get_or-append-add, get_or-drop, get_or-take, inl, inr, is_some, length, length-append, length-drop, length-take, length-take-le, map, min, option_map, refl, rules, slice_get, slice_index, slice_range, subst, suc, sym, take, take-append-drop, true, zero, zero-add, ℕ, ◌++◌, ◌+◌, ◌-◌, ◌<◌, ◌↔◌, ◌∙◌, ◌∷◌, ◌≡◌, ◌≢◌, ◌≤◌}
+pub use Rattle.std.proofs.Common.{All, Bool, IfSome, IsTrue, List, None, Option, Some, [], ap, append-nil, arith, bytes_eq, drop, drop-drop, drop_of_length-le, eqb-true, false, get_or, get_or-append-add, get_or-drop, get_or-take, inl, inr, is_some, length, length-append, length-drop, length-take, length-take-le, map, min, option_map, refl, rules, slice_get, slice_index, slice_range, subst, suc, sym, take, take-append-drop, true, zero, zero-add, ℕ, ◌++◌, ◌+◌, ◌-◌, ◌<◌, ◌↔◌, ◌∙◌, ◌∷◌, ◌≡◌, ◌≤◌}
 pub use Rattle.std.proofs.Math.Decide.{dec_le}
 pub use Rattle.std.proofs.Math.Seq.{drop-length}
 pub use Rattle.std.proofs.lemmas.Bool.{cases_lt, eqb-false, false≢true}
 pub use Rattle.std.proofs.lemmas.List.{drop-append-le, get_or-map, get_or_append_left, length-map, map-append, take-append-le, take_rest}
-pub use Rattle.std.proofs.lemmas.List.Elements.{All-head}
 pub use Rattle.std.proofs.lemmas.Option.{slice_get-map}
 pub use Rattle.std.proofs.lemmas.Slice.Eq.{bytes_eq-Decides}
 pub use Rattle.std.specs.Prelude.{⊤}

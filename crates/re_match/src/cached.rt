@@ -240,13 +240,13 @@ impl Cached {
         ensures steps { CountsSweep result meter.old meter.new }
     {
         let Some(table) = &mut self.table else {
-            return Sweep::none();
+            return Sweep::to(0, 0, Stop::Unseen);
         };
         if block.is_empty() {
-            return Sweep::none();
+            return Sweep::to(0, 0, Stop::Unseen);
         }
         if !table.walks() {
-            return Sweep::none();
+            return Sweep::to(0, 0, Stop::Unseen);
         }
         let asked = LineSearch {
             alloc: self.alloc,
@@ -255,7 +255,7 @@ impl Cached {
             line: block,
         };
         if table.is_matched_at_once(&asked) {
-            return Sweep::none();
+            return Sweep::to(0, 0, Stop::Unseen);
         }
         let lines = table.walk_lines(&asked, most.min(block.len() - 1), meter);
         let Some(end) = line_end(block, lines.place) else {
@@ -449,7 +449,7 @@ impl LineMatch for Cached {
     }
 
     fn next_matched(&mut self, block: &[u8], meter: &mut Meter) -> Option<Span> {
-        self.prefilter.begin();
+        self.prefilter.backoff.begin();
         next_by_sweeps(self, block, meter)
     }
 }
@@ -468,7 +468,7 @@ impl Sweeps for Cached {
         let most = self.prefilter.walk(self.whole);
         if most > 0 {
             let sweep = self.walk(block, most, meter);
-            self.prefilter.note_walk(sweep.reached);
+            self.prefilter.backoff.note_walk(sweep.reached);
             return sweep;
         }
         self.prefilter.sweep(block, self.whole, meter)

@@ -40,7 +40,8 @@ pub struct Prefilter {
     strings: Option<StringSet>,
     // Whether the expression has a `^`.
     has_begin: bool,
-    backoff: ScanBackoff,
+    /// When such looks pay.
+    pub backoff: ScanBackoff,
 }
 
 impl Prefilter {
@@ -59,7 +60,8 @@ impl Prefilter {
     }
 
     /// Whether the line is matched, if one look over it says so. A run that is common is looked for
-    /// over blocks alone, and so is one that most lines had of late, unless it is all there is.
+    /// over blocks alone, and so is one that most lines had of late, unless it is all there is, and
+    /// so are strings that most lines had.
     #[inline(always)]
     pub fn settled(&self, line: &[u8], whole: bool, meter: &mut Meter) -> Option<bool>
         ensures settled { (e : Expression) → IsPrefilterFor e self.now →
@@ -68,7 +70,13 @@ impl Prefilter {
             LooksOver e line.now result meter.old meter.new }
     {
         if let Some(strings) = &self.strings {
-            return self.settled_by(strings, line, meter);
+            if self.backoff.rests() {
+                return None;
+            }
+            if strings.stands_in(line, meter) {
+                return None;
+            }
+            return Some(false);
         }
         let Some(needle) = &self.needle else {
             return None;
@@ -91,58 +99,19 @@ impl Prefilter {
         None
     }
 
-    // The same by strings. They are looked for over blocks alone while most lines have one.
-    fn settled_by(&self, strings: &StringSet, line: &[u8], meter: &mut Meter) -> Option<bool>
-        ensures settled { (e : Expression) (whole : Bool) → AreNeeded strings.now e →
-            IfSome result (λ reported. IsSaidAtOnce e whole line.now reported) }
-        ensures looked { (e : Expression) → AreNeeded strings.now e →
-            LooksOver e line.now result meter.old meter.new }
-    {
-        if self.backoff.rests() {
-            return None;
-        }
-        if strings.stands_in(line, meter) {
-            return None;
-        }
-        Some(false)
-    }
-
-    /// A block begins.
-    #[inline(always)]
-    pub fn begin(&self) {
-        self.backoff.begin();
-    }
-
-    // Whether lines of blocks are walked over. They are not where a look decides each line, or the first
-    // bytes of most lines do.
-    #[inline(always)]
-    fn walks(&self, whole: bool) -> bool
-        ensures { IsTrue result → whole ≡ false }
-    {
-        if whole {
-            return false;
-        }
-        match &self.needle {
-            Some(needle) => !needle.is_all,
-            None => true,
-        }
-    }
-
-    /// How many bytes of a block are walked over before the next look.
+    /// How many bytes of a block are walked over before the next look. None are where a look decides
+    /// each line, or the first bytes of most lines do.
     #[inline(always)]
     pub fn walk(&self, whole: bool) -> usize
         ensures { 0 < result → whole ≡ false }
     {
-        if !self.walks(whole) {
+        if whole {
             return 0;
         }
-        self.backoff.walk()
-    }
-
-    /// Notes a walk over so many bytes.
-    #[inline(always)]
-    pub fn note_walk(&self, bytes: usize) {
-        self.backoff.note_walk(bytes);
+        match &self.needle {
+            Some(needle) if needle.is_all => 0,
+            _ => self.backoff.walk(),
+        }
     }
 
     // Looks for the first line of a block of whole lines that may be matched. No line before it is.
@@ -158,7 +127,7 @@ impl Prefilter {
             return strings.first_line(block, meter);
         }
         let Some(needle) = &self.needle else {
-            return Sweep::none();
+            return Sweep::to(0, 0, Stop::Unseen);
         };
         let swept = first_line_with_run(&needle.finder, block, meter);
         let reached = bytes_over(block, swept.place);
@@ -227,7 +196,7 @@ impl Prefilter {
         ensures steps { AddsJust result.start result.reached meter.old meter.new }
     {
         if block.is_empty() || !self.backoff.should_scan() {
-            return Sweep::none();
+            return Sweep::to(0, 0, Stop::Unseen);
         }
         let sweep = self.first_line(block, whole, meter);
         self.backoff.note(sweep.first);

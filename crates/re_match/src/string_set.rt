@@ -121,7 +121,7 @@ impl StringSet {
         ensures steps { AddsUpTo 0 result.reached meter.old meter.new }
     {
         if self.has_empty {
-            return Sweep::none();
+            return Sweep::to(0, 0, Stop::Unseen);
         }
         let Some(end) = self.table.first_end(block, meter) else {
             return Sweep::to(block.len(), block.len(), Stop::Seen);

@@ -386,7 +386,7 @@ impl Sweeps for Strings {
 
     fn sweep(&mut self, block: &[u8], meter: &mut Meter) -> Sweep {
         if !self.should_scan() {
-            return Sweep::none();
+            return Sweep::to(0, 0, Stop::Unseen);
         }
         let sweep = self.look.first_line(block, meter);
         self.backoff.note(sweep.start);

@@ -5,7 +5,7 @@ ghost use Rattle.re_trees.specs.Expression.{Expression};
 ghost use Rattle.re_trees.specs.Holds.{Matches};
 ghost use Rattle.re_trees.specs.Lines.{lines_of};
 ghost use Rattle.re_meter.specs.Meters.{AddsAtMost, AddsUpTo};
-ghost use Rattle.re_match.specs.declared.sweeps.Stop.TheVariants.{Unseen, Seen, Decided};
+ghost use Rattle.re_match.specs.declared.sweeps.Stop.TheVariants.{Decided};
 ghost use Rattle.re_match.specs.Working.Same.{SameMatcher};
 ghost use Rattle.re_match.specs.Working.Sweeps.{CountsSweep, StopsAt, left_for, steps_left};
 ghost use Rattle.re_runs.specs.Working.Blocks.{IsBlock, PassesUnmatched};
@@ -41,18 +41,6 @@ pub struct Sweep {
 }
 
 impl Sweep {
-    /// No line was passed, and none looked over.
-    pub fn none() -> Sweep
-        ensures { result ≡ record { start = 0; first = 0; reached = 0; stop = Unseen } }
-    {
-        Sweep {
-            start: 0,
-            first: 0,
-            reached: 0,
-            stop: Stop::Unseen,
-        }
-    }
-
     /// A sweep stopped at `reached`, and says this of the line there, which begins at `start`.
     pub fn to(start: usize, reached: usize, stop: Stop) -> Sweep
         ensures { result ≡ record { start = start; first = start; reached = reached; stop = stop } }

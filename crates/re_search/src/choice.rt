@@ -8,7 +8,7 @@ ghost use Rattle.re_search.specs.Working.Matchers.{matched_expression, wants_who
 ghost use Rattle.re_search.specs.Working.Matchers.{room_of, entries_of};
 ghost use Rattle.re_search.specs.Working.Patterns.{pattern_expression, meant_by, IsCounted};
 
-use crate::matcher::{Matcher, stepping_matcher};
+use crate::matcher::{Matcher, tree_matcher};
 use crate::pattern::Pattern;
 use re_syntax::{MOST_POSITIONS, Tree};
 use std::alloc::{AllocError, Global};
@@ -100,6 +100,6 @@ impl Choice {
         ensures room { IfOk result (λ m. room_of m ≤ states) }
         ensures empty { IfOk result (λ m. entries_of m ≡ []) }
     {
-        stepping_matcher(alloc, Tree::Alt(self.trees), whole, states)
+        tree_matcher(alloc, Tree::Alt(self.trees), whole, states)
     }
 }

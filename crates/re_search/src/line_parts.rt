@@ -1,7 +1,7 @@
 //! All parts of one line, from the first to the last. Each byte of the line is one step of each
 //! matcher, however many parts there are.
 ghost use Rattle.std.specs.Prelude.{◌≡◌, ℕ, ◌+◌, ◌-◌, ◌*◌, ◌^◌, ◌<◌, ◌≤◌, [], ◌∷◌, false, IfOk, IfSome, length};
-ghost use Rattle.std.specs.Prelude.{replicate, true, vec_capacity};
+ghost use Rattle.std.specs.Prelude.{replicate, vec_capacity};
 ghost use Rattle.re_syntax.specs.Bytes.{Text};
 ghost use Rattle.re_auto.specs.Meters.{Steps};
 ghost use Rattle.re_auto.specs.Searches.{AddsAtMost, FindsPart};
@@ -193,7 +193,14 @@ pub fn next_part(
         → AddsAtMost (length matchers.old * spent parts.new.seen) first meter.new }
 {
     if whole {
-        return next_whole(matchers, line, from, parts, meter);
+        if parts.seen() > 0 {
+            return parts.known_part(from);
+        }
+        if from == line.len() {
+            return None;
+        }
+        parts.pass(line.len());
+        return line_part(matchers, line, from, meter);
     }
     if matchers.len() == 1 {
         return next_of_one(&mut matchers[0], line, from, parts, meter);
@@ -203,37 +210,6 @@ pub fn next_part(
     }
     parts.look_over(matchers, line, meter);
     parts.known_part(from)
-}
-
-// The next part where the whole line has to be matched.
-fn next_whole(
-    matchers: &mut [Matcher],
-    line: &[u8],
-    from: usize,
-    parts: &mut LineParts,
-    meter: &mut Meter,
-) -> Option<Span>
-    requires within { from ≤ length line.now }
-    requires alike { AreAlike true matchers.old }
-    requires right { ArePartsOf (sought_of true matchers.old) line.now from parts.old }
-    ensures reported { FindsPart (expressions_of matchers.old) line.now true from result }
-    ensures same_matchers { AreSame matchers.old matchers.new }
-    ensures right { IfSome result
-        (λ part. ArePartsOf (sought_of true matchers.old) line.now part.end parts.new) }
-    ensures room { parts.new.room ≡ parts.old.room }
-    ensures seen { parts.new.seen ≤ length line.now }
-    ensures steps { (first : Steps) →
-        AddsAtMost (length matchers.old * spent parts.old.seen) first meter.old
-        → AddsAtMost (length matchers.old * spent parts.new.seen) first meter.new }
-{
-    if parts.seen() > 0 {
-        return parts.known_part(from);
-    }
-    if from == line.len() {
-        return None;
-    }
-    parts.pass(line.len());
-    line_part(matchers, line, from, meter)
 }
 
 // The next part of the line, by one matcher, which looks at the line window by window.

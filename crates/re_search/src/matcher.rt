@@ -9,11 +9,11 @@ ghost use Rattle.re_search.specs.Reading.{IsSmallFor, IsReadable, IsOutOfMemory}
 ghost use Rattle.re_search.specs.Reading.{IsRefusedFor};
 ghost use Rattle.re_search.specs.Working.Matchers.{matched_expression, wants_whole, is_fixed};
 ghost use Rattle.re_search.specs.Working.Matchers.{IsSame, room_of, entries_of, CountsSteps};
-ghost use Rattle.re_match.specs.declared.strings.Look.TheVariants.{One};
 ghost use Rattle.re_auto.specs.Searches.{FindsPart};
 ghost use Rattle.re_meter.specs.Meters.{AddsAtMost};
 
 use crate::pattern::read_pattern;
+use crate::strings::string_of;
 use re_auto::Meter;
 use re_match::{Ahead, Cached, LineMatch, Strings, Window};
 use re_syntax::{FaultKind, PatternFault, Span, Syntax, Tree};
@@ -146,17 +146,8 @@ impl LineMatch for Matcher {
     }
 }
 
-/// The matcher that looks for the text as it is.
-pub(crate) fn fixed_matcher(alloc: Global, text: &[u8], whole: bool) -> Result<Matcher, AllocError>
-    ensures { IfOk result
-        (λ m. m ≡ Matcher.Strings (record { look = One text.now; whole = whole })) }
-{
-    let strings = Strings::one(alloc, text, whole)?;
-    Ok(Matcher::Strings(strings))
-}
-
-/// The matcher that steps the automaton of a tree that is not too large.
-pub(crate) fn stepping_matcher(
+/// The matcher for a tree that is not too large: it looks for a string, or steps an automaton.
+pub(crate) fn tree_matcher(
     alloc: Global,
     tree: Tree,
     whole: bool,
@@ -164,11 +155,14 @@ pub(crate) fn stepping_matcher(
 ) -> Result<Matcher, AllocError>
     requires small { positions (expression_of tree) ≤ most_positions }
     requires some { 1 ≤ states }
-    ensures tree { IfOk result (λ m. matched_expression m ≡ expression_of tree) }
+    ensures expression { IfOk result (λ m. matched_expression m ≡ expression_of tree) }
     ensures whole { IfOk result (λ m. wants_whole m ≡ whole) }
     ensures room { IfOk result (λ m. room_of m ≤ states) }
     ensures empty { IfOk result (λ m. entries_of m ≡ []) }
 {
+    if let Some(string) = string_of(alloc, &tree) {
+        return Ok(Matcher::Strings(Strings::one(alloc, &string, whole)?));
+    }
     let Some(most) = NonZeroUsize::new(states) else {
         unreachable!();
     };

@@ -2,7 +2,6 @@
 ghost use Rattle.std.specs.Prelude.{◌≡◌, ◌≤◌, ◌⊎◌, [], true, false, Bool};
 ghost use Rattle.std.specs.Prelude.{IsTrue, IfOk, IfErr, IfSome, length};
 ghost use Rattle.re_syntax.specs.Holds.{positions};
-ghost use Rattle.re_syntax.specs.Profile.{most_positions};
 ghost use Rattle.re_syntax.specs.Spelled.{has_limit};
 ghost use Rattle.re_syntax.specs.Working.Trees.{expression_of};
 ghost use Rattle.re_syntax.specs.declared.syntax.Syntax.TheVariants.{Fixed};
@@ -11,10 +10,11 @@ ghost use Rattle.re_search.specs.Working.Matchers.{matched_expression, wants_who
 ghost use Rattle.re_search.specs.Working.Matchers.{room_of, entries_of};
 ghost use Rattle.re_search.specs.Working.Patterns.{pattern_expression, meaning, meant_by};
 ghost use Rattle.re_search.specs.Working.Patterns.{is_string, IsCounted, IsPattern};
-ghost use Rattle.re_search.specs.Working.Strings.{AddsStrings, string_expression};
+ghost use Rattle.re_search.specs.Working.Strings.{AddsStrings};
 
-use crate::matcher::{Matcher, fault_at_first, fixed_matcher, stepping_matcher};
-use crate::strings::{add_each, add_string, add_tree, string_of};
+use crate::matcher::{Matcher, fault_at_first, tree_matcher};
+use crate::strings::{add_each, add_string, add_tree};
+use re_match::Strings;
 use re_syntax::{FaultKind, MOST_POSITIONS, PatternFault, Syntax, Tree, count_positions, read};
 use std::alloc::{AllocError, Global};
 
@@ -64,7 +64,10 @@ impl<'a> Pattern<'a> {
         ensures { IfOk result (λ tree. expression_of tree ≡ meant_by fold self.entry) }
     {
         match self {
-            Pattern::String(text) => string_tree(alloc, text, fold),
+            Pattern::String(text) => match read(alloc, Syntax::Fixed, text) {
+                Ok((tree, _)) => Ok(meant(tree, fold)),
+                Err(_) => Err(AllocError),
+            },
             Pattern::Tree(tree, _) => Ok(meant(tree, fold)),
         }
     }
@@ -92,7 +95,9 @@ impl<'a> Pattern<'a> {
         ensures empty { IfOk result (λ m. entries_of m ≡ []) }
     {
         match self {
-            Pattern::String(text) if !fold => fixed_matcher(alloc, text, whole),
+            Pattern::String(text) if !fold => Ok(Matcher::Strings(Strings::one(
+                alloc, text, whole,
+            )?)),
             _ => tree_matcher(alloc, self.into_tree(alloc, fold)?, whole, states),
         }
     }
@@ -106,37 +111,6 @@ fn meant(tree: Tree, fold: bool) -> Tree
         return re_syntax::fold(tree);
     }
     tree
-}
-
-// The tree of a string's meaning.
-fn string_tree(alloc: Global, text: &[u8], fold: bool) -> Result<Tree, AllocError>
-    ensures { IfOk result
-        (λ tree. expression_of tree ≡ meaning fold (string_expression text.now)) }
-{
-    match read(alloc, Syntax::Fixed, text) {
-        Ok((tree, _)) => Ok(meant(tree, fold)),
-        Err(_) => Err(AllocError),
-    }
-}
-
-// The matcher for a tree that is not too large.
-fn tree_matcher(
-    alloc: Global,
-    tree: Tree,
-    whole: bool,
-    states: usize,
-) -> Result<Matcher, AllocError>
-    requires small { positions (expression_of tree) ≤ most_positions }
-    requires some { 1 ≤ states }
-    ensures expression { IfOk result (λ m. matched_expression m ≡ expression_of tree) }
-    ensures whole { IfOk result (λ m. wants_whole m ≡ whole) }
-    ensures room { IfOk result (λ m. room_of m ≤ states) }
-    ensures empty { IfOk result (λ m. entries_of m ≡ []) }
-{
-    if let Some(string) = string_of(alloc, &tree) {
-        return fixed_matcher(alloc, &string, whole);
-    }
-    stepping_matcher(alloc, tree, whole, states)
 }
 
 /// Reads the text of a pattern.

@@ -133,7 +133,16 @@ pub fn next_matched(
     if matchers.len() == 1 {
         return matchers[0].next_matched(block, meter);
     }
-    next_by_lines(matchers, whole, block, meter)
+    let mut start = 0;
+    'lines: loop {
+        let Some(end) = line_end(block, start) else {
+            return None;
+        };
+        if is_matched(matchers, whole, &block[start..end], meter) {
+            return Some(Span { start, end });
+        }
+        start = end + 1;
+    }
 }
 
 /// How many lines of a block of whole lines some matcher matches. `whole` is what all matchers
@@ -158,32 +167,5 @@ pub fn count_matched(matchers: &mut [Matcher], whole: bool, block: &[u8], meter:
         };
         count += 1;
         rest = &rest[at.end + 1..];
-    }
-}
-
-// The first line of a block that some matcher matches. Each line is searched by itself.
-fn next_by_lines(
-    matchers: &mut [Matcher],
-    whole: bool,
-    block: &[u8],
-    meter: &mut Meter,
-) -> Option<Span>
-    requires alike { AreAlike whole matchers.old }
-    requires block { IsBlock block.now }
-    ensures reported { FindsSought (sought_of whole matchers.old) (lines_of block.now) result }
-    ensures within { IfSome result (λ at. (at.start ≤ at.end) × (at.end < length block.now)) }
-    ensures same_matchers { AreSame matchers.old matchers.new }
-    ensures steps { AddsAtMost (length (expressions_of matchers.old) * next_cost block.now result)
-        meter.old meter.new }
-{
-    let mut start = 0;
-    'lines: loop {
-        let Some(end) = line_end(block, start) else {
-            return None;
-        };
-        if is_matched(matchers, whole, &block[start..end], meter) {
-            return Some(Span { start, end });
-        }
-        start = end + 1;
     }
 }

@@ -1,5 +1,5 @@
 -- What is matched of a line by one text, by where a search for the text finds it.
-use Rattle.re_match.proofs.Prelude.{◌≡◌, ℕ, ◌+◌, ◌-◌, ◌<◌, ◌≤◌, true, false, IsTrue, [], ◌∷◌, ◌++◌, length, map, drop, Option, None, Some, ◌↔◌, refl, sym, ap, subst, ◌∙◌, arith, zero-add, length-append, length-drop, Decides, is_some, bytes_eq, Text, byte, sequence, Holds, Matches, IsFound, IsPart, OccursAt, FindsNeedle, false≢true, bytes_eq-Decides, dec_le, drop-length, drop-drop, append-nil}
+use Rattle.re_match.proofs.Prelude.{◌≡◌, ℕ, ◌+◌, ◌-◌, ◌<◌, ◌≤◌, true, false, IsTrue, [], ◌∷◌, ◌++◌, length, map, drop, Option, None, Some, ◌↔◌, refl, sym, ap, subst, ◌∙◌, arith, zero-add, length-append, length-drop, is_some, bytes_eq, Text, byte, sequence, Holds, Matches, IsFound, IsPart, OccursAt, FindsNeedle, false≢true, bytes_eq-Decides, dec_le, drop-length, drop-drop, append-nil}
 use Rattle.re_trees.proofs.lemmas.Decisions.{Any-first}
 use Rattle.re_trees.proofs.lemmas.FixedStrings.{stands-holds, holds-stands, stands-matches, matches-stands}
 use Rattle.re_trees.proofs.lemmas.SomeOfJoined.{Any-single}
@@ -15,15 +15,10 @@ module _ (text line : Text) where
   -- a stretch found from a place on is an occurrence in what is left from there
   found-occurs : (from i j : ℕ) → IsFound (sequence (map byte text) ∷ []) line false from i j → OccursAt (drop from line) text (i - from) × (j ≡ i + length text)
   found-occurs from i j f =
-      let a : from ≤ i = f.begins in
-      let b : i < j = f.not_empty in
-      let c : j ≤ length line = f.on_line in
-      let holds : Holds line (sequence (map byte text)) i j = Any-single (λ e. Holds line e i j) _ f.holds in
-      let stands : drop i line ≡ text ++ drop j line = holds-stands line text i j holds in
-      let same_place : from + (i - from) ≡ i = omega arith in
+      let stands : drop i line ≡ text ++ drop j line = holds-stands line text i j (Any-single (λ e. Holds line e i j) _ f.holds) in
+      let same_place : from + (i - from) ≡ i = omega (arith, f.begins) in
       let left : drop (i - from) (drop from line) ≡ text ++ drop j line = drop-drop (i - from) from line ∙ ap (λ n. drop n line) same_place ∙ stands in
-      let near : i - from ≤ length (drop from line) = omega (arith, length-drop from line) in
-      (stands-occurs (drop from line) text (drop j line) (i - from) near left, place_after line text i j b c stands)
+      (stands-occurs (drop from line) text (drop j line) (i - from) (omega (arith, length-drop from line, f.begins, f.not_empty, f.on_line)) left, place_after line text i j f.not_empty f.on_line stands)
 
   -- an occurrence of a text that is not empty, in what is left from a place on, is a stretch found
   occurs-found : (from k : ℕ) → 0 < length text → OccursAt (drop from line) text k → IsFound (sequence (map byte text) ∷ []) line false from (from + k) (from + k + length text)
@@ -43,25 +38,19 @@ module _ (text line : Text) where
   pub no_part : (from : ℕ) → FindsNeedle (drop from line) text 0 None → (i j : ℕ) → IsFound (sequence (map byte text) ∷ []) line false from i j → ⊥
   no_part from none i j f =
       let o = found-occurs from i j f in
-      let fits : i - from + length text ≤ length (drop from line) = o.0.fits in
-      none (i - from) (omega arith) (omega arith) o.0
+      none (i - from) (omega arith) (omega (arith, o.0.fits)) o.0
 
   -- the first occurrence from a place on of a text that is not empty is the part
   pub first_part : (from k : ℕ) → 0 < length text → FindsNeedle (drop from line) text 0 (Some k) → IsPart (sequence (map byte text) ∷ []) line false from (from + k) (from + k + length text)
   first_part from k h finds =
       record {
         found = occurs-found from k h finds.1;
-        earliest = λ i j f. not_before i j f;
+        earliest = λ i j f. elim (dec_le k (i - from)) [
+          | yes e ↦ omega (arith, e, f.begins)
+          | no e ↦ absurd (finds.0.before (i - from) (omega arith) (omega (arith, e)) (found-occurs from i j f).0)
+        ];
         longest = λ j f. let o = found-occurs from (from + k) j f in omega (arith, o.1);
       }
-    where
-      not_before : (i j : ℕ) → IsFound (sequence (map byte text) ∷ []) line false from i j → from + k ≤ i
-      not_before i j f =
-          let begins : from ≤ i = f.begins in
-          elim (dec_le k (i - from)) [
-            | yes e ↦ omega arith
-            | no e ↦ absurd (finds.0.before (i - from) (omega arith) (omega arith) (found-occurs from i j f).0)
-          ]
 
   -- the occurrences of a text that is not empty are the stretches found
   pub past_found : 0 < length text → (start i m : ℕ) → i < length line → ((m < start + (i + length text)) × OccursAt line text i) ↔ ((j : ℕ) × (m < start + j) × IsFound (sequence (map byte text) ∷ []) line false 0 i j)
@@ -72,31 +61,18 @@ module _ (text line : Text) where
 
   -- a text matches the line where a search for it finds it
   pub finds-decides : (r : Option ℕ) → FindsNeedle line text 0 r → IsTrue (is_some r) ↔ Matches (sequence (map byte text)) line false
-  finds-decides None none = (λ h. absurd (false≢true h), λ m. absurd (nowhere none m))
-    where
-      nowhere : FindsNeedle line text 0 None → Matches (sequence (map byte text)) line false → ⊥
-      nowhere none m =
-          let stands = matches-stands line text m in
-          let k : ℕ = stands.0 in
-          let near : k ≤ length line = stands.1 in
-          none k (omega arith) (omega arith) (stands-occurs line text stands.2 k near stands.3)
-  finds-decides (Some k) finds = (λ _. matched finds.1, λ _. refl)
-    where
-      matched : OccursAt line text k → Matches (sequence (map byte text)) line false
-      matched o = let fits : k + length text ≤ length line = o.fits in stands-matches line text k _ (omega arith) (occurs-stands line text k o)
+  finds-decides None none = (
+    λ h. absurd (false≢true h),
+    λ m. let (k, near, rest, stands) = matches-stands line text m in absurd (none k (omega arith) (omega (arith, near)) (stands-occurs line text rest k near stands)),
+  )
+  finds-decides (Some k) finds = (λ _. stands-matches line text k _ (omega (arith, finds.1.fits)) (occurs-stands line text k finds.1), λ _. refl)
 
   -- it matches the line as a whole where it is the line
   pub equals-decides : IsTrue (bytes_eq line text) ↔ Matches (sequence (map byte text)) line true
-  equals-decides = (λ h. matched (reported_too.0 h), λ m. reported_too.1 (same m))
-    where
-      reported_too : Decides (bytes_eq line text) (line ≡ text)
-      reported_too = bytes_eq-Decides line text
-
-      matched : line ≡ text → Matches (sequence (map byte text)) line true
-      matched e =
-          let stands : drop 0 line ≡ text ++ [] = e ∙ sym (append-nil text) in
-          let end : 0 + length text ≡ length line = zero-add (length text) ∙ sym (ap length e) in
-          rw end at (stands-holds line text 0 [] stands)
-
-      same : Matches (sequence (map byte text)) line true → line ≡ text
-      same m = holds-stands line text 0 (length line) m ∙ ap (λ rest. text ++ rest) (drop-length line) ∙ append-nil text
+  equals-decides =
+      let same = bytes_eq-Decides line text in (
+        λ h.
+            let end : 0 + length text ≡ length line = zero-add (length text) ∙ sym (ap length (same.0 h)) in
+            rw end at (stands-holds line text 0 [] (same.0 h ∙ sym (append-nil text))),
+        λ m. same.1 (holds-stands line text 0 (length line) m ∙ ap (λ rest. text ++ rest) (drop-length line) ∙ append-nil text),
+      )

@@ -1,23 +1,9 @@
 -- Lines of a block that have none of many strings.
-use Rattle.re_match.proofs.Prelude.{ℕ, Bool, true, false, length, get_or, arith, ◌≡◌, suc, ◌+◌, ◌≤◌, List, [], ◌∷◌, ◌++◌, map, take, drop, Some, None, sym, ap, ◌∙◌, subst, length-append, Text, Expression, PassesUnmatched, IsBlock, PassesAll, ⊤, Matches, IsString, Occurs, EndsFirst, Literals, any_literal, key, keys, false≢true, length-map, map-append, take-append-le}
+use Rattle.re_match.proofs.Prelude.{ℕ, Bool, true, false, length, get_or, arith, ◌≡◌, ◌+◌, ◌≤◌, List, [], ◌++◌, take, drop, Some, None, ap, ◌∙◌, length-append, Text, Expression, PassesUnmatched, IsBlock, PassesAll, ⊤, Matches, IsString, Occurs, EndsFirst, Literals, any_literal, key, keys, false≢true, length-map, map-append, take-append-le}
+use Rattle.std.proofs.Math.Seq.{drop-append-add, take-append-add}
+use Rattle.re_match.specs.Working.Literals.{keyed}
 use Rattle.re_runs.proofs.lemmas.BlockLemmas.{passes_free_block, passes_free_front}
 use Rattle.re_match.proofs.lemmas.SetMatches.{occurs_decides}
-
--- ---- parts of longer texts
-
-pub piece_before : (line after : Text) (i j : ℕ) → j ≤ length line → drop i (take j (line ++ after)) ≡ drop i (take j line)
-piece_before line after i j within = ap (drop i) (take-append-le j line after within)
-
-pub piece_after : (front line : Text) (i j : ℕ) → drop (length front + i) (take (length front + j) (front ++ line)) ≡ drop i (take j line)
-piece_after [] line i j =
-    let from : 0 + i ≡ i = omega arith in
-    let to : 0 + j ≡ j = omega arith in
-    ap (λ n. drop n (take (0 + j) line)) from ∙ ap (λ n. drop i (take n line)) to
-piece_after (x ∷ front) line i j =
-    let from : suc (length front) + i ≡ suc (length front + i) = omega arith in
-    let to : suc (length front) + j ≡ suc (length front + j) = omega arith in
-    ap (λ n. drop n (take (suc (length front) + j) (x ∷ (front ++ line)))) from
-    ∙ ap (λ n. drop (suc (length front + i)) (take n (x ∷ (front ++ line)))) to ∙ piece_after front line i j
 
 -- ---- where a string ends
 
@@ -33,40 +19,22 @@ module _ (strings : List Text) (fold : Bool) where
 
   pub ends_before : (line after : Text) (k : ℕ) → StringEnds line k → StringEnds (line ++ after) k
   ends_before line after k (i, (low, some, within, is)) =
-      let joined : keys fold (line ++ after) ≡ keys fold line ++ keys fold after = map-append (key fold) line after in (
-        i,
-        (
-          low,
-          some,
-          omega (arith, within, ap length joined, length-append (keys fold line) (keys fold after)),
-          subst (IsString strings) (sym (ap (λ l. drop i (take k l)) joined ∙ piece_before (keys fold line) (keys fold after) i k within)) is,
-        ),
-      )
+      let joined : keys fold (line ++ after) ≡ keys fold line ++ keys fold after = map-append (key fold) line after in
+      let same : take k (keys fold (line ++ after)) ≡ take k (keys fold line) = ap (take k) joined ∙ take-append-le k (keys fold line) (keys fold after) within in
+      (i, (low, some, omega (arith, within, ap length joined, length-append (keys fold line) (keys fold after)), rw same is))
 
   pub ends_after : (front line : Text) (k : ℕ) → StringEnds line k → StringEnds (front ++ line) (length front + k)
   ends_after front line k (i, (low, some, within, is)) =
       let joined : keys fold (front ++ line) ≡ keys fold front ++ keys fold line = map-append (key fold) front line in
-      let from : length front + i ≡ length (keys fold front) + i = ap (λ n. n + i) (sym (size front)) in
-      let to : length front + k ≡ length (keys fold front) + k = ap (λ n. n + k) (sym (size front)) in
       let piece : drop (length front + i) (take (length front + k) (keys fold (front ++ line))) ≡ drop i (take k (keys fold line)) =
-      ap (λ l. drop (length front + i) (take (length front + k) l)) joined
-      ∙ ap (λ n. drop n (take (length front + k) (keys fold front ++ keys fold line))) from
-      ∙ ap (λ n. drop (length (keys fold front) + i) (take n (keys fold front ++ keys fold line))) to
-      ∙ piece_after (keys fold front) (keys fold line) i k in (
-        length front + i,
-        (
-          omega arith,
-          omega (arith, some),
-          omega (arith, within, ap length joined, length-append (keys fold front) (keys fold line), size front),
-          subst (IsString strings) (sym piece) is,
-        ),
-      )
+      rw (joined, ← size front) (ap (drop (length (keys fold front) + i)) (take-append-add (keys fold front) (keys fold line) k) ∙ drop-append-add (keys fold front) (take k (keys fold line)) i) in
+      (length front + i, (omega arith, omega (arith, some), omega (arith, within, ap length joined, length-append (keys fold front) (keys fold line), size front), rw piece is))
 
 -- ---- lines that are passed
 
-module _ (l : Literals) (none_empty : IsString (map (keys l.fold) l.texts) [] → ⊥) where
+module _ (l : Literals) (none_empty : IsString (keyed l) [] → ⊥) where
   abbrev strings : List Text
-  strings = map (keys l.fold) l.texts
+  strings = keyed l
 
   -- a line in which none ends is not matched
   unmatched : (line : Text) → ((k : ℕ) → ¬ StringEnds strings l.fold line k) → ¬ Matches (any_literal l) line false

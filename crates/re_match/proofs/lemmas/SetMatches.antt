@@ -5,6 +5,7 @@ use Rattle.re_trees.proofs.lemmas.FixedStrings.{stands-holds, holds-stands}
 use Rattle.re_trees.proofs.lemmas.HoldsDecided.{Holds-le}
 use Rattle.re_trees.proofs.lemmas.SomeOfJoined.{Any-single}
 use Rattle.re_strings.proofs.lemmas.SetBranches.{begins_take}
+use Rattle.re_match.specs.Working.Literals.{keyed}
 use Rattle.re_match.proofs.lemmas.SetFolded.{choice_keys}
 use Rattle.re_strings.proofs.lemmas.SetSearch.{all_read}
 
@@ -53,80 +54,69 @@ module _ (l : Literals) (line : Text) where
   size = length-map line (key l.fold)
 
   -- where the choice holds there is a string in the line as it is compared
-  pub any_stands : (i j : ℕ) → i ≤ j → j ≤ length line → Holds line (any_literal l) i j → IsString (map (keys l.fold) l.texts) (drop i (take j (keys l.fold line)))
-  any_stands i j le within h = choice_stands (keys l.fold line) i j (map (keys l.fold) l.texts) le (omega (arith, within, size)) ((choice_keys line l.fold l.texts i j).0 h)
+  pub any_stands : (i j : ℕ) → i ≤ j → j ≤ length line → Holds line (any_literal l) i j → IsString (keyed l) (drop i (take j (keys l.fold line)))
+  any_stands i j le within h = choice_stands (keys l.fold line) i j (keyed l) le (omega (arith, within, size)) ((choice_keys line l.fold l.texts i j).0 h)
 
-  pub stands_any : (i j : ℕ) → i ≤ j → j ≤ length line → IsString (map (keys l.fold) l.texts) (drop i (take j (keys l.fold line))) → Holds line (any_literal l) i j
-  stands_any i j le within s = (choice_keys line l.fold l.texts i j).1 (stands_choice (keys l.fold line) i j (map (keys l.fold) l.texts) le (omega (arith, within, size)) s)
+  pub stands_any : (i j : ℕ) → i ≤ j → j ≤ length line → IsString (keyed l) (drop i (take j (keys l.fold line))) → Holds line (any_literal l) i j
+  stands_any i j le within s = (choice_keys line l.fold l.texts i j).1 (stands_choice (keys l.fold line) i j (keyed l) le (omega (arith, within, size)) s)
 
   -- where the empty string is one of them each line is matched
-  pub empty_matches : IsString (map (keys l.fold) l.texts) [] → Matches (any_literal l) line false
-  empty_matches s = (0, 0, omega arith, stands_any 0 0 (omega arith) (omega arith) (subst (IsString (map (keys l.fold) l.texts)) (sym (nothing_between (keys l.fold line) 0 0 (omega arith) (omega arith))) s))
+  pub empty_matches : IsString (keyed l) [] → Matches (any_literal l) line false
+  empty_matches s = (0, 0, omega arith, stands_any 0 0 (omega arith) (omega arith) (subst (IsString (keyed l)) (sym (nothing_between (keys l.fold line) 0 0 (omega arith) (omega arith))) s))
 
   -- where it is not, the line is matched if it has a string
-  pub occurs_decides : (r : Bool) → (IsString (map (keys l.fold) l.texts) [] → ⊥) → IsTrue r ↔ ((i j : ℕ) × Occurs (map (keys l.fold) l.texts) 0 (keys l.fold line) i j) → IsTrue r ↔ Matches (any_literal l) line false
-  occurs_decides r none reported = ((λ h. matched (reported.0 h)), (λ m. reported.1 (stands m)))
-    where
-      matched : (i j : ℕ) × Occurs (map (keys l.fold) l.texts) 0 (keys l.fold line) i j → Matches (any_literal l) line false
-      matched (i, j, o) =
-          let within : j ≤ length line = let w = o.2 in omega (arith, w, size) in
-          (i, j, within, stands_any i j (let h = o.1 in omega (arith, h)) within o.3)
-
-      stands : Matches (any_literal l) line false → (i j : ℕ) × Occurs (map (keys l.fold) l.texts) 0 (keys l.fold line) i j
-      stands (i, j, within, h) =
-          let le : i ≤ j = Holds-le line (any_literal l) i j h in
-          let s = any_stands i j le within h in
-          let on_line : j ≤ length (keys l.fold line) = omega (arith, within, size) in
-          elim (cases_lt i j) [
-            | inl some ↦ (i, j, (omega arith, some, on_line, s))
-            | inr empty ↦ absurd (none (subst (IsString (map (keys l.fold) l.texts)) (nothing_between (keys l.fold line) i j empty on_line) s))
-          ]
+  pub occurs_decides : (r : Bool) → (IsString (keyed l) [] → ⊥) → IsTrue r ↔ ((i j : ℕ) × Occurs (keyed l) 0 (keys l.fold line) i j) → IsTrue r ↔ Matches (any_literal l) line false
+  occurs_decides r none reported = (
+    λ h.
+        let (i, j, o) = reported.0 h in
+        let within : j ≤ length line = omega (arith, o.2, size) in
+        (i, j, within, stands_any i j (omega (arith, o.1)) within o.3),
+    λ (i, j, within, h). reported.1 (elim (cases_lt i j) [
+      | inl some ↦ (i, j, (omega arith, some, omega (arith, within, size), any_stands i j (omega (arith, some)) within h))
+      | inr empty ↦ absurd (none (subst (IsString (keyed l)) (nothing_between (keys l.fold line) i j empty (omega (arith, within, size))) (any_stands i j (Holds-le line (any_literal l) i j h) within h)))
+    ]),
+  )
 
   -- the line is matched as a whole where it is one of them
-  pub line_decides : (r : Bool) → IsTrue r ↔ IsString (map (keys l.fold) l.texts) (keys l.fold line) → IsTrue r ↔ Matches (any_literal l) line true
+  pub line_decides : (r : Bool) → IsTrue r ↔ IsString (keyed l) (keys l.fold line) → IsTrue r ↔ Matches (any_literal l) line true
   line_decides r reported =
       let whole : drop 0 (take (length line) (keys l.fold line)) ≡ keys l.fold line = all_read (keys l.fold line) (length line) (omega (arith, size)) in (
-        (λ h. stands_any 0 (length line) (omega arith) (omega arith) (subst (IsString (map (keys l.fold) l.texts)) (sym whole) (reported.0 h))),
-        (λ m. reported.1 (subst (IsString (map (keys l.fold) l.texts)) whole (any_stands 0 (length line) (omega arith) (omega arith) m))),
+        (λ h. stands_any 0 (length line) (omega arith) (omega arith) (subst (IsString (keyed l)) (sym whole) (reported.0 h))),
+        (λ m. reported.1 (subst (IsString (keyed l)) whole (any_stands 0 (length line) (omega arith) (omega arith) m))),
       )
 
   -- the place where one ends first says so
-  pub ends_decide : (end : Option ℕ) → (IsString (map (keys l.fold) l.texts) [] → ⊥) → EndsFirst (map (keys l.fold) l.texts) (keys l.fold line) end → IsTrue (is_some end) ↔ Matches (any_literal l) line false
+  pub ends_decide : (end : Option ℕ) → (IsString (keyed l) [] → ⊥) → EndsFirst (keyed l) (keys l.fold line) end → IsTrue (is_some end) ↔ Matches (any_literal l) line false
   ends_decide None none free = occurs_decides false none ((λ h. absurd (false≢true h)), (λ (i, j, o). absurd (free i j o)))
   ends_decide (Some k) none ((i, o), first) = occurs_decides true none ((λ _. (i, k, o)), (λ _. refl))
 
   -- a stretch that is found is a string
-  occurs_there : (from i j : ℕ) → IsFound (any_literal l ∷ []) line false from i j → Occurs (map (keys l.fold) l.texts) from (keys l.fold line) i j
+  occurs_there : (from i j : ℕ) → IsFound (any_literal l ∷ []) line false from i j → Occurs (keyed l) from (keys l.fold line) i j
   occurs_there from i j f =
       let some = f.not_empty in
       let within = f.on_line in
       (f.begins, some, omega (arith, within, size), any_stands i j (omega (arith, some)) within (Any-single (λ e. Holds line e i j) (any_literal l) f.holds))
 
   -- and a string is found
-  found_there : (from i j : ℕ) → Occurs (map (keys l.fold) l.texts) from (keys l.fold line) i j → IsFound (any_literal l ∷ []) line false from i j
+  found_there : (from i j : ℕ) → Occurs (keyed l) from (keys l.fold line) i j → IsFound (any_literal l ∷ []) line false from i j
   found_there from i j o =
       let some = o.1 in
       let within : j ≤ length line = let w = o.2 in omega (arith, w, size) in
       record { begins = o.0; not_empty = some; on_line = within; is_whole = tt; holds = Any-first (λ e. Holds line e i j) (any_literal l) [] (stands_any i j (omega (arith, some)) within o.3) }
 
   -- the strings of the line are the stretches found
-  pub strings_found : (start i m : ℕ) → i < length line → ((j : ℕ) × (m < start + j) × Occurs (map (keys l.fold) l.texts) 0 (keys l.fold line) i j) ↔ ((j : ℕ) × (m < start + j) × IsFound (any_literal l ∷ []) line false 0 i j)
+  pub strings_found : (start i m : ℕ) → i < length line → ((j : ℕ) × (m < start + j) × Occurs (keyed l) 0 (keys l.fold line) i j) ↔ ((j : ℕ) × (m < start + j) × IsFound (any_literal l ∷ []) line false 0 i j)
   strings_found start i m lt = (λ (j, past, o). (j, past, found_there 0 i j o), λ (j, past, f). (j, past, occurs_there 0 i j f))
 
   -- the best of the strings in the line is the part
-  pub best_is_part : (from : ℕ) (best : Option Span) → IsBestOccurrence (map (keys l.fold) l.texts) from (keys l.fold line) (length line) best → FindsPart (any_literal l ∷ []) line false from best
+  pub best_is_part : (from : ℕ) (best : Option Span) → IsBestOccurrence (keyed l) from (keys l.fold line) (length line) best → FindsPart (any_literal l ∷ []) line false from best
   unfolding IsBestOccurrence
   best_is_part from best b = go best b
     where
-      go : (best : Option Span) → IsBestOccurrence (map (keys l.fold) l.texts) from (keys l.fold line) (length line) best → FindsPart (any_literal l ∷ []) line false from best
+      go : (best : Option Span) → IsBestOccurrence (keyed l) from (keys l.fold line) (length line) best → FindsPart (any_literal l ∷ []) line false from best
       go None none = λ i j f. none i j f.on_line (occurs_there from i j f)
       go (Some span) (o, within, early, long) = record {
         found = found_there from span.start span.end o;
         earliest = λ k m f. early k m f.on_line (occurs_there from k m f);
         longest = λ m f. long m f.on_line (occurs_there from span.start m f);
       }
-
--- a text of no length is empty
-pub no_bytes : (t : Text) → length t ≡ 0 → t ≡ []
-no_bytes [] e = refl
-no_bytes (c ∷ t) e = absurd (omega (arith, e))

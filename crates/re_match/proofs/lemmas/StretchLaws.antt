@@ -1,9 +1,9 @@
 -- Strings in a stretch of a line are those of the line.
-use Rattle.re_match.proofs.Prelude.{◌≡◌, ◌∙◌, ◌↔◌, ℕ, ◌+◌, ◌-◌, ◌<◌, ◌≤◌, inl, inr, [], ◌∷◌, length, map, take, drop, slice_range, sym, ap, subst, arith, length-drop, length-take-le, drop-drop, Text, byte, sequence, Holds, Literals, any_literal, key, keys, IsString, Look, One, Many, look_expression}
+use Rattle.re_match.proofs.Prelude.{false, ◌≡◌, ◌∙◌, ◌↔◌, ℕ, ◌+◌, ◌-◌, ◌<◌, ◌≤◌, inl, inr, [], ◌∷◌, length, take, drop, slice_range, sym, ap, arith, length-drop, length-take-le, drop-drop, Text, Holds, Literals, any_literal, key, keys, Look, One, Many, look_expression}
 use Rattle.std.proofs.Math.Seq.{take-take}
 use Rattle.std.specs.List.{take-map}
 use Rattle.std.proofs.lemmas.List.{drop-take, drop-map}
-use Rattle.re_match.proofs.lemmas.SetMatches.{choice_stands, stands_choice, any_stands, stands_any}
+use Rattle.re_match.proofs.lemmas.SetMatches.{any_stands, stands_any}
 
 -- the bytes between two places
 between : (line : Text) (a n i j : ℕ) → j ≤ n → drop i (take j (take n (drop a line))) ≡ drop (a + i) (take (a + j) line)
@@ -17,29 +17,16 @@ module _ (line : Text) (start end i j : ℕ) (within : end ≤ length line) (lt 
   long : length (slice_range line start end) ≡ end - start
   long = length-take-le (end - start) (drop start line) (omega (arith, length-drop start line, within))
 
-  one_shift : (t : Text) → Holds (slice_range line start end) (sequence (map byte t)) i j ↔ Holds line (sequence (map byte t)) (start + i) (start + j)
-  one_shift t =
-      let same = between line start (end - start) i j (omega (arith, high)) in (
-        λ h.
-            elim (stands_choice line (start + i) (start + j) (t ∷ []) (omega (arith, lt)) (omega (arith, high, within))
-            (subst (IsString (t ∷ [])) same (choice_stands (slice_range line start end) i j (t ∷ []) (omega (arith, lt)) (omega (arith, long, high)) (inl h)))) [ inl is ↦ is | inr o ↦ absurd o ],
-        λ h.
-            elim (stands_choice (slice_range line start end) i j (t ∷ []) (omega (arith, lt)) (omega (arith, long, high))
-            (subst (IsString (t ∷ [])) (sym same) (choice_stands line (start + i) (start + j) (t ∷ []) (omega (arith, lt)) (omega (arith, high, within)) (inl h)))) [ inl is ↦ is | inr o ↦ absurd o ],
-      )
-
-  any_shift : (l : Literals) → Holds (slice_range line start end) (any_literal l) i j ↔ Holds line (any_literal l) (start + i) (start + j)
+  pub any_shift : (l : Literals) → Holds (slice_range line start end) (any_literal l) i j ↔ Holds line (any_literal l) (start + i) (start + j)
   any_shift l =
       let same = between_keys l.fold line start (end - start) i j (omega (arith, high)) in (
-        λ h.
-            stands_any l line (start + i) (start + j) (omega (arith, lt)) (omega (arith, high, within))
-            (subst (IsString (map (keys l.fold) l.texts)) same (any_stands l (slice_range line start end) i j (omega (arith, lt)) (omega (arith, long, high)) h)),
-        λ h.
-            stands_any l (slice_range line start end) i j (omega (arith, lt)) (omega (arith, long, high))
-            (subst (IsString (map (keys l.fold) l.texts)) (sym same) (any_stands l line (start + i) (start + j) (omega (arith, lt)) (omega (arith, high, within)) h)),
+        λ h. stands_any l line (start + i) (start + j) (omega (arith, lt)) (omega (arith, high, within)) (rw (← same) (any_stands l (slice_range line start end) i j (omega (arith, lt)) (omega (arith, long, high)) h)),
+        λ h. stands_any l (slice_range line start end) i j (omega (arith, lt)) (omega (arith, long, high)) (rw same (any_stands l line (start + i) (start + j) (omega (arith, lt)) (omega (arith, high, within)) h)),
       )
 
   -- where strings are in it
   pub look_shift : (look : Look) → Holds (slice_range line start end) (look_expression look) i j ↔ Holds line (look_expression look) (start + i) (start + j)
-  look_shift (One t) = one_shift t
+  look_shift (One t) =
+      let (on, back) = any_shift (record { texts = t ∷ []; fold = false }) in
+      (λ h. elim (on (inl h)) [ inl is ↦ is | inr o ↦ absurd o ], λ h. elim (back (inl h)) [ inl is ↦ is | inr o ↦ absurd o ])
   look_shift (Many set) = any_shift set.value

@@ -14,13 +14,18 @@ use Rattle.re_needle.specs.Working.Needles.{HasNoBegin, RunBegins}
 use Rattle.re_needle.proofs.lemmas.NeedleLaws.{settled_says}
 use Rattle.re_needle.proofs.lemmas.LaterStarts.{rest_matched}
 
--- a look that stopped in a line says that it may be matched
-pub stops_seen : (e : Expression) (whole : Bool) (block : Text) (start reached : ℕ) → reached ≤ length block → ((end : ℕ) → IsLineFrom block start end → reached ≤ end + 1) → StopsAt e whole block (record { start = start; first = start; reached = reached; stop = Seen })
-stops_seen e whole block start reached within near = record {
+-- what a look says of the line in which it stopped, after which no byte is passed
+pub stops_saying : (e : Expression) (whole : Bool) (block : Text) (start reached : ℕ) (stop : Stop) → ((n : ℕ) → left_for stop n ≡ 0) → reached ≤ length block
+    → ((end : ℕ) → IsLineFrom block start end → (reached ≤ end + 1) × Says stop (Matches e (slice_range block start end) whole)) → StopsAt e whole block (record { start = start; first = start; reached = reached; stop = stop })
+stops_saying e whole block start reached stop last within says = record {
   within = within;
   low = omega arith;
-  line = λ end cut. record { high = cut.0; near = omega (arith, near end cut); same = (λ m. m, λ m. m); right = tt };
+  line = λ end cut. let (near, right) = says end cut in record { high = cut.0; near = omega (arith, near, last (end + 1 - start)); same = (λ m. m, λ m. m); right = right };
 }
+
+-- that it may be matched
+pub stops_seen : (e : Expression) (whole : Bool) (block : Text) (start reached : ℕ) → reached ≤ length block → ((end : ℕ) → IsLineFrom block start end → reached ≤ end + 1) → StopsAt e whole block (record { start = start; first = start; reached = reached; stop = Seen })
+stops_seen e whole block start reached within near = stops_saying e whole block start reached Seen (λ n. refl) within (λ end cut. (near end cut, tt))
 
 -- so does one up to a place of the last line that begins before it
 pub stops_before : (e : Expression) (whole : Bool) (block : Text) (start stop : ℕ) → stop ≤ length block → PassesAll (λ _. ⊤) (take stop block) start → HasNoNewline (drop start (take stop block)) → StopsAt e whole block (record { start = start; first = start; reached = stop; stop = Seen })
@@ -55,21 +60,14 @@ module _ (block : Text) (run : List Bytes) (start at end : ℕ) (there : RunIsAt
 -- a look that stopped in a line says that it is matched, if the expression holds where one of the runs is
 pub stops_matched : (e : Expression) (runs : Runs) (block : Text) (swept : Swept) (at last : ℕ) → IsJustRun runs e → IsNoWider 1 runs → swept.place ≡ Some at → IsLongestRun block runs at last → swept.start ≤ at
     → HasNoNewline (slice_range block at last) → StopsInLine block swept → StopsAt e false block (record { start = swept.start; first = swept.start; reached = look_cost block swept.place; stop = Decided true })
-stops_matched e runs block swept at last is wide place longest low free stops = record {
-  within = look_within block swept.place;
-  low = omega arith;
-  line = λ end cut.
-      let (n, run, lt, here, (there, same)) = longest.ends in
-      let some : 1 ≤ length run = subst (λ r. 1 ≤ length r) here (wide n run lt) in
-      let near = subst (λ p. look_cost block p ≤ end + 1) place (stops end cut) in
-      let in_line = is_in_line block run swept.start at end there some low near (subst (λ l. HasNoNewline (slice_range block at l)) same free) cut in
-      record {
-        high = cut.0;
-        near = omega (arith, stops end cut);
-        same = (λ m. m, λ m. m);
-        right = settled_says e (slice_range block swept.start end) false true (inr (inr (record { runs = runs; is = is; any = refl; place = at - swept.start; stands = (n, run, lt, here, in_line); yes = refl })));
-      };
-}
+stops_matched e runs block swept at last is wide place longest low free stops = stops_saying e false block swept.start _ (Decided true) (λ n. refl) (look_within block swept.place) (λ end cut.
+    let (n, run, lt, here, (there, same)) = longest.ends in
+    let some : 1 ≤ length run = subst (λ r. 1 ≤ length r) here (wide n run lt) in
+    let near = subst (λ p. look_cost block p ≤ end + 1) place (stops end cut) in
+    let in_line = is_in_line block run swept.start at end there some low near (subst (λ l. HasNoNewline (slice_range block at l)) same free) cut in (
+      stops end cut,
+      settled_says e (slice_range block swept.start end) false true (inr (inr (record { runs = runs; is = is; any = refl; place = at - swept.start; stands = (n, run, lt, here, in_line); yes = refl }))),
+    ))
 
 -- ---- a line and the first run in it, with one of which each match begins
 
@@ -105,27 +103,16 @@ stops_at_head e runs block swept at free begins wide place found low stops =
       line = λ end cut.
           let (n, run, lt, here, there) = finds.1 in
           let some : 1 ≤ length run = subst (λ r. 1 ≤ length r) here (wide n run lt) in
-          let fits = there.fits in
           let near = subst (λ p. look_cost block p ≤ end + 1) place (stops end cut) in
-          let high : at ≤ end = omega (arith, near, fits, some) in
+          let high : at ≤ end = omega (arith, near, there.fits, some) in
           record { high = high; near = omega (arith, stops end cut); same = from_head e runs block swept.start at end begins finds low cut free high; right = tt };
     }
 
 -- a look that stopped inside a line says that it is not matched as a whole
 pub stops_inside : (e : Expression) (runs : Runs) (block : Text) (swept : Swept) (at : ℕ) → RunBegins runs e → swept.place ≡ Some at → FindsRun block runs swept.place → swept.start < at
     → StopsInLine block swept → StopsAt e true block (record { start = swept.start; first = swept.start; reached = look_cost block swept.place; stop = Decided false })
-stops_inside e runs block swept at begins place found before stops =
-    let finds = subst (FindsRun block runs) place found in
-    record {
-      within = look_within block swept.place;
-      low = omega arith;
-      line = λ end cut. record {
-        high = cut.0;
-        near = omega (arith, stops end cut);
-        same = (λ m. m, λ m. m);
-        right = (λ yes. absurd (false≢true yes), λ m. absurd (inside e runs block swept.start at end begins finds (omega (arith, before)) cut before m));
-      };
-    }
+stops_inside e runs block swept at begins place found before stops = stops_saying e true block swept.start _ (Decided false) (λ n. refl) (look_within block swept.place) (λ end cut.
+    (stops end cut, (λ yes. absurd (false≢true yes), λ m. absurd (inside e runs block swept.start at end begins (subst (FindsRun block runs) place found) (omega (arith, before)) cut before m))))
 
 module _ {e : Expression} {whole : Bool} (block : Text) (start : ℕ) {end : ℕ} {sweep : Sweep} (stops : StopsAt e whole (drop start block) sweep) (cut : IsLineFrom block (start + sweep.start) end) where
   stops_in : StopsIn e whole (drop start block) sweep (end - start)

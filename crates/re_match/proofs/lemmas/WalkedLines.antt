@@ -10,7 +10,8 @@ use Rattle.re_steps.specs.Working.Stages.{Stage, Finishes}
 use Rattle.re_steps.specs.Working.Rows.{IsRight, IsRightFor, ComesTo, expression_in, walked}
 use Rattle.re_steps.specs.Working.Walks.{GoesOverLines, IsAtOf}
 use Rattle.re_match.specs.Working.CachedMatchers.{IsTableFor}
-use Rattle.re_match.specs.Working.Sweeps.{CountsSweep, StopsIn}
+use Rattle.re_match.specs.Working.Sweeps.{CountsSweep}
+use Rattle.re_match.proofs.lemmas.SweptLines.{stops_saying}
 use Rattle.re_steps.proofs.lemmas.StageLaws.{searches_say, searches_steps}
 use Rattle.re_steps.proofs.lemmas.WalkLaws.{walked_on, adds_walked}
 
@@ -55,16 +56,8 @@ module _ {asked : LineSearch} {t : StepTable} {lines : Lines} {end : ℕ} (goes 
 
     -- the line is decided
     pub walk_stops : StopsAt (expression_in asked) false block (record { start = lines.start; first = lines.start; reached = end + 1; stop = Decided answer })
-    walk_stops = record {
-      within = omega (arith, rest.1);
-      low = omega arith;
-      line = λ other there. subst (StopsIn (expression_in asked) false block (record { start = lines.start; first = lines.start; reached = end + 1; stop = Decided answer })) (same_end block lines.start end other cut there) (record {
-        high = cut.0;
-        near = omega arith;
-        same = (λ m. m, λ m. m);
-        right = searches_say false (subst (λ m. Searches (expression_in asked) m line (cache_of t) last (walked lines.start old) after answer) search searched);
-      });
-    }
+    walk_stops = stops_saying (expression_in asked) false block lines.start (end + 1) (Decided answer) (λ n. refl) (omega (arith, rest.1)) (λ other there.
+        (omega (arith, same_end block lines.start end other cut there), rw (same_end block lines.start end other cut there) at (searches_say false (subst (λ m. Searches (expression_in asked) m line (cache_of t) last (walked lines.start old) after answer) search searched))))
 
     pub walk_adds : CountsSweep (record { start = lines.start; first = lines.start; reached = end + 1; stop = Decided answer }) old after
     walk_adds =

@@ -1,5 +1,5 @@
 -- The stretch of a line in which the next match is.
-use Rattle.re_match.proofs.Prelude.{RunStandsAt, ◌≡◌, sym, slice_index, slice_range, ℕ, ◌+◌, ◌-◌, ◌<◌, ◌≤◌, ◌↔◌, inl, inr, subst, false, None, IsTrue, List, Bool, [], ◌∷◌, length, drop, Some, arith, length-drop, length-take-le, cases_lt, dec_le, Text, Expression, Holds, IsFound, IsPart, Span, Needle, FindsRun, IsNeedleOf, runs_of, AddsEnds, FoundPast, MatchesPast}
+use Rattle.re_match.proofs.Prelude.{RunStandsAt, ◌≡◌, sym, slice_index, slice_range, ℕ, ◌+◌, ◌-◌, ◌<◌, ◌≤◌, ◌↔◌, inl, inr, subst, false, None, IsTrue, List, Bool, [], ◌∷◌, length, drop, Some, arith, length-drop, length-take-le, cases_lt, dec_le, Text, Expression, Holds, IsFound, IsPart, Span, Needle, FindsRun, IsNeedleOf, runs_of, AddsEnds, FoundPast}
 use Rattle.re_trees.proofs.lemmas.Decisions.{Any-first}
 use Rattle.re_trees.proofs.lemmas.SomeOfJoined.{Any-single}
 use Rattle.re_auto.specs.Working.Beginnings.{IsMarked}
@@ -7,6 +7,7 @@ use Rattle.re_auto.specs.Working.Positions.{part_of}
 use Rattle.re_auto.proofs.lemmas.PositionsDecide.{each_byte_taken}
 use Rattle.re_runs.proofs.lemmas.RunLaws.{run_rest, run_whole}
 use Rattle.re_ends.specs.Working.GreatestEnds.{IsBorder, FindsIn}
+use Rattle.re_ends.proofs.lemmas.FoundEnds.{adds_alike}
 use Rattle.re_match.specs.declared.window.Edges.{Edges}
 use Rattle.re_match.specs.Working.Aheads.{AreEdgesFor, BeginsLater, past}
 
@@ -69,18 +70,17 @@ module _ (e : Expression) (line : Text) where
 
     -- else none begins before the bytes of matches that come directly before it
     pub later_by_bytes : (edges : Edges) → AreEdgesFor e edges → ((x : ℕ) → slice_index line x < 256) → (start : ℕ) → from ≤ start → start ≤ near → (from < start → ¬ IsMarked edges.bytes (slice_index line (start - 1))) → BeginsLater e line from start
-    later_by_bytes edges right small start after high outside = (after, not_before)
-      where
-        not_before : (i j : ℕ) → IsFound (e ∷ []) line false from i j → start ≤ i
-        not_before i j f =
-            let begins : from ≤ i = f.begins in
-            let (m, at_or_after, (n, run, lt, at, (there, inside))) = of.needed line i j f.on_line (Any-single (λ x. Holds line x i j) e f.holds) in
-            let some : 1 ≤ length run = subst (λ r. 1 ≤ length r) at (of.some n run lt) in
-            let far = none_before m (omega (arith, begins, at_or_after)) (n, run, lt, at, there) in
-            elim (dec_le start i) [
-              | yes h ↦ h
-              | no h ↦ absurd (outside (omega (arith, h, begins)) ((right.1 (slice_index line (start - 1)) (small (start - 1))).1 (taken from i j (start - 1) f (omega (arith, h)) (omega (arith, far, inside, some, high, h, begins)))))
-            ]
+    later_by_bytes edges right small start after high outside = (
+      after,
+      λ i j f.
+          let (m, at_or_after, (n, run, lt, at, (there, inside))) = of.needed line i j f.on_line (Any-single (λ x. Holds line x i j) e f.holds) in
+          let some : 1 ≤ length run = subst (λ r. 1 ≤ length r) at (of.some n run lt) in
+          let far = none_before m (omega (arith, f.begins, at_or_after)) (n, run, lt, at, there) in
+          elim (dec_le start i) [
+            | yes h ↦ h
+            | no h ↦ absurd (outside (omega (arith, h, f.begins)) ((right.1 (slice_index line (start - 1)) (small (start - 1))).1 (taken from i j (start - 1) f (omega (arith, h)) (omega (arith, far, inside, some, high, h, f.begins)))))
+          ],
+    )
 
   module _ (from place start end : ℕ) (later : BeginsLater e line from place) (next : BeginsLater e line place start) (border : IsBorder e line end) where
     begins_on : (i j : ℕ) → IsFound (e ∷ []) line false from i j → start ≤ i
@@ -88,49 +88,36 @@ module _ (e : Expression) (line : Text) where
 
     -- where none begins in the window, each begins after the byte that ends it
     pub later_on : FindsIn e line start end None → start ≤ end → end ≤ length line → BeginsLater e line from (past line end)
-    later_on none low within = (omega (arith, later.0, next.0, low, within), λ i j f. let beyond = after i j f in omega (arith, beyond))
-      where
-        after : (i j : ℕ) → IsFound (e ∷ []) line false from i j → end < i
-        after i j f =
-            let lt = f.not_empty in
-            let on_end : i ≤ end → j ≤ end = over_border from end i j border f in
-            elim (dec_le i end) [
-              | yes h ↦ absurd (let over = on_end h in none i 0 (begins_on i j f) (omega (arith, lt, over)) (j, omega (arith, lt), lt, f.on_line, Any-single (λ x. Holds line x i j) e f.holds))
-              | no h ↦ omega (arith, h)
-            ]
+    later_on none low within = (
+      omega (arith, later.0, next.0, low, within),
+      λ i j f. elim (dec_le i end) [
+        | yes h ↦ absurd (none i 0 (begins_on i j f) (omega (arith, f.not_empty, over_border from end i j border f h)) (j, omega (arith, f.not_empty), f.not_empty, f.on_line, Any-single (λ x. Holds line x i j) e f.holds))
+        | no h ↦ omega (arith, h)
+      ],
+    )
 
     -- the first in the window is the next part
     pub first_part : (part : Span) → FindsIn e line start end (Some part) → IsPart (e ∷ []) line false from part.start part.end
-    first_part part (low, inside, some, is, none) = found_at (at_end.0) (at_end.1) (at_end.3) (at_end.4)
+    first_part part (low, inside, some, is, none) =
+        let (j, past, lt, on, h) = (is (part.end - 1)).0 (omega (arith, some)) in
+        let same : j ≡ part.end = omega (arith, past, some, to_end j lt on h) in
+        record {
+          found = record {
+            begins = omega (arith, later.0, next.0, low);
+            not_empty = some;
+            on_line = omega (arith, on, same);
+            is_whole = tt;
+            holds = Any-first (λ x. Holds line x part.start part.end) e [] (subst (Holds line e part.start) same h);
+          };
+          earliest = λ k l f. elim (dec_le part.start k) [
+            | yes h ↦ h
+            | no h ↦ absurd (none k 0 (begins_on k l f) (omega (arith, h)) (l, omega (arith, f.not_empty), f.not_empty, f.on_line, Any-single (λ x. Holds line x k l) e f.holds))
+          ];
+          longest = λ l f. to_end l f.not_empty f.on_line (Any-single (λ x. Holds line x part.start l) e f.holds);
+        }
       where
-        at_end : MatchesPast e line part.start (part.end - 1)
-        at_end = (is (part.end - 1)).0 (omega (arith, some))
-
         to_end : (l : ℕ) → part.start < l → l ≤ length line → Holds line e part.start l → l ≤ part.end
         to_end l lt on h = let past = (is (l - 1)).1 (l, omega (arith, lt), lt, on, h) in omega (arith, past, lt)
-
-        not_before : (k l : ℕ) → IsFound (e ∷ []) line false from k l → part.start ≤ k
-        not_before k l f =
-            let lt = f.not_empty in
-            elim (dec_le part.start k) [
-              | yes h ↦ h
-              | no h ↦ absurd (none k 0 (begins_on k l f) (omega (arith, h)) (l, omega (arith, lt), lt, f.on_line, Any-single (λ x. Holds line x k l) e f.holds))
-            ]
-
-        found_at : (j : ℕ) → part.end - 1 < j → j ≤ length line → Holds line e part.start j → IsPart (e ∷ []) line false from part.start part.end
-        found_at j past on h =
-            let same : j ≡ part.end = let le = to_end j (omega (arith, past, some)) on h in omega (arith, le, past, some) in
-            record {
-              found = record {
-                begins = omega (arith, later.0, next.0, low);
-                not_empty = some;
-                on_line = omega (arith, on, same);
-                is_whole = tt;
-                holds = Any-first (λ x. Holds line x part.start part.end) e [] (subst (Holds line e part.start) same h);
-              };
-              earliest = not_before;
-              longest = λ l f. to_end l f.not_empty f.on_line (Any-single (λ x. Holds line x part.start l) e f.holds);
-            }
 
 -- a stretch of the window is found in it
 module _ (e : Expression) (line : Text) (start end : ℕ) (low : start ≤ end) (border : IsBorder e line end)
@@ -177,10 +164,6 @@ pub ends_of_window : (P : ℕ → ℕ → Type 0) (e : Expression) (line : Text)
     → ((i m : ℕ) → i < length (slice_range line start end) → P i m ↔ FoundPast (e ∷ []) line false (start + i) m) → AddsEnds P (slice_range line start end) old new → AddsEnds (λ i m. FoundPast (e ∷ []) line false (start + i) m) old old new
 ends_of_window P e line start end window old new room alike added =
     let within = border_within e line end window.1 in
-    let size : length (slice_range line start end) ≡ length old = omega (arith, length-take-le (end - start) (drop start line) (omega (arith, length-drop start line, within)), room) in (
-      omega (arith, added.0, size),
-      λ i m lt. (
-        λ h. elim ((added.1 i m (omega (arith, lt, size))).0 h) [ inl o ↦ inl o | inr p ↦ inr ((alike i m (omega (arith, lt, size))).0 p) ],
-        λ h. (added.1 i m (omega (arith, lt, size))).1 (elim h [ inl o ↦ inl o | inr f ↦ inr ((alike i m (omega (arith, lt, size))).1 f) ]),
-      ),
-    )
+    let size : length (slice_range line start end) ≡ length old = omega (arith, length-take-le (end - start) (drop start line) (omega (arith, length-drop start line, within)), room) in
+    let (long, at) = adds_alike _ _ (slice_range line start end) old new alike added in
+    (omega (arith, long, size), λ i m lt. at i m (omega (arith, lt, size)))

@@ -1,7 +1,8 @@
 -- The search for the parts of one line: the ends of its parts, and the steps.
 use Rattle.re_search.proofs.Prelude.{◌≡◌, ℕ, zero, suc, ◌+◌, ◌-◌, ◌*◌, ◌<◌, ◌≤◌, ◌⊎◌, ◌∙◌, ap, replicate, length-replicate, get_or-replicate, inl, inr, Bool, List, [], ◌∷◌, ◌++◌, length, max, take, get_or, sym, subst, arith, ◌↔◌, slice_index, mul-le-mul_left, Text, Expression, IsFound, IsPart, FoundPast, AddsEnds, Sought, LineEnds, AreAllEnds, AreEnds, AreEndsIn, ArePartsOf, AddsUpTo, spent, FindsBefore, FindsPart, Span, Option, Some, None, IfSome, In, IsAhead, Window, false, true, past, cases_lt, dec_le, get_or_past}
 use Rattle.re_meter.specs.Meters.{Steps, AddsAtMost}
-use Rattle.re_meter.proofs.lemmas.Adding.{adds_within, adds_both}
+use Rattle.re_meter.proofs.lemmas.Adding.{adds_within}
+use Rattle.re_match.proofs.lemmas.StepSums.{adds_on}
 use Rattle.re_ends.proofs.lemmas.FoundEnds.{both_past}
 use Rattle.re_match.proofs.lemmas.WindowLaws.{border_within, from_place, over_border}
 
@@ -139,8 +140,7 @@ module _ (e : Expression) (line : Text) (from : ℕ) (window : Window) (within :
         λ p. absurd (let first = are.first in let long = are.long in let none = get_or_past parts.ends (i - parts.first) 0 (omega (arith, first, long, beyond)) in omega (arith, p.1, none)),
         λ (j, past, f). absurd (
             let over = over_border e line 0 window.end i j is.1.1 f (omega (arith, lt, seen)) in
-            let some = f.not_empty in
-            omega (arith, over, some, beyond)),
+            omega (arith, over, f.not_empty, beyond)),
       )
     ]
   ]
@@ -154,7 +154,7 @@ spent_more (suc seen) from (suc to) le lt = omega (arith, le, lt)
 pub stretch_steps : (seen from to : ℕ) (first old new : Steps) → seen ≤ from → from < to → AddsAtMost (spent seen) first old → AddsAtMost (to - from) old new → AddsAtMost (spent to) first new
 stretch_steps seen from to first old new le lt before next =
     let few = spent_more seen from to le lt in
-    adds_within (spent seen + (to - from)) (spent to) (spent seen + (to - from)) (spent to) first new few few (adds_both (spent seen) (to - from) (spent seen) (to - from) first old new before next)
+    adds_on before next few few
 
 -- all parts of a line take no more than one search of it
 few_spent : (seen long : ℕ) → seen ≤ long → spent seen ≤ long + 1
@@ -171,7 +171,7 @@ pub window_steps : (seen from start end to : ℕ) (first old mid new : Steps) �
     → AddsAtMost (spent seen) first old → AddsUpTo (start - from) (to - from) old mid → AddsUpTo (end - start) 0 mid new → AddsAtMost (spent to) first new
 window_steps seen from start end to first old mid new le lt low order high before look more =
     stretch_steps seen from to first old new le lt before
-    (adds_within (start - from + (end - start)) (to - from) (to - from + 0) (to - from) old new (omega (arith, low, order, high)) (omega arith) (adds_both (start - from) (end - start) (to - from) 0 old mid new look more))
+    (adds_on look more (omega (arith, low, order, high)) (omega arith))
 
 -- ---- whole lines
 

@@ -1,7 +1,7 @@
 -- One matcher more of a list: what is known of those that were asked, before it was and afterwards.
-use Rattle.re_search.proofs.Prelude.{◌≡◌, ℕ, ◌+◌, ◌*◌, ◌<◌, Bool, inl, inr, List, [], ◌∷◌, ◌++◌, length, map, take, get_or, sym, ap, ◌∙◌, arith, add-one, set, take-suc, map-set_same, get_or-map, length-map, Text, Expression, Matches, SomeMatches, Matcher, AreAlike, expressions_of, wants_whole}
+use Rattle.re_search.proofs.Prelude.{◌≡◌, ℕ, ◌+◌, ◌*◌, ◌<◌, ◌≤◌, Bool, inl, inr, List, [], ◌∷◌, ◌++◌, length, map, take, get_or, sym, ap, ◌∙◌, arith, add-one, set, take-suc, take_all, map-set_same, get_or-map, length-map, Text, Expression, Matches, SomeMatches, Matcher, AreAlike, AreSame, expressions_of, matched_expression, subst, wants_whole}
 use Rattle.re_auto.specs.Meters.{Steps}
-use Rattle.re_match.proofs.lemmas.StepSums.{adds_up}
+use Rattle.re_match.proofs.lemmas.StepSums.{adds_on}
 use Rattle.re_auto.specs.Searches.{AddsAtMost}
 use Rattle.re_syntax.proofs.lemmas.SomeOfJoined.{Any-append-cases, Any-single}
 
@@ -25,25 +25,29 @@ module _ {A B : Type 0} (f : A → B) (old now : List A) (same : map f now ≡ m
       let value = f (get_or now i d) in
       ap (λ n. take n (map f old)) (add-one i) ∙ take-suc (map f old) i value (within h).1 ∙ ap (λ v. take i (map f old) ++ v ∷ []) (value_at h value)
 
-module _ (ms : List Matcher) (whole : Bool) (alike : AreAlike whole ms) (line : Text) (i : ℕ) (e : Expression) (w : Bool) (h : i < length (map wants_whole ms)) (at : get_or (map wants_whole ms) i w ≡ w) where
+module _ {whole : Bool} {old now : List Matcher} (same : AreSame old now) (alike : AreAlike whole old) (line : Text) (i : ℕ) (d : Matcher) (h : i < length old) where
+  abbrev e : Expression
+  e = matched_expression (get_or now i d)
+
   -- the matcher at place i answers as all do to whether the whole line has to be matched
-  answer : w ≡ whole
-  answer = sym at ∙ alike i w h
+  answer : wants_whole (get_or now i d) ≡ whole
+  answer = sym (value_at wants_whole old now same.same_wholes i d h (wants_whole (get_or now i d))) ∙ alike i (wants_whole (get_or now i d)) (within wants_whole old now same.same_wholes i d h).1
 
-  abbrev es : List Expression
-  es = expressions_of ms
-
-  -- nor does one matcher more match
-  pub none_more : take (i + 1) es ≡ take i es ++ e ∷ [] → ¬ SomeMatches (take i es) line whole → ¬ Matches e line w → ¬ SomeMatches (take (i + 1) es) line whole
-  none_more next none not some = elim (Any-append-cases (λ e. Matches e line whole) (take i es) (e ∷ []) (rw (← next) some)) [
+  -- where one matcher more does not match
+  pub none_more : ¬ SomeMatches (take i (expressions_of old)) line whole → ¬ Matches e line (wants_whole (get_or now i d)) → ¬ SomeMatches (take (i + 1) (expressions_of old)) line whole
+  none_more none not some = elim (Any-append-cases (λ x. Matches x line whole) (take i (expressions_of old)) (e ∷ []) (rw (← one_more matched_expression old now same.same_expressions i d h) some)) [
     | inl a ↦ none a
-    | inr b ↦ not (rw answer (Any-single (λ e. Matches e line whole) e b))
+    | inr b ↦ not (subst (Matches e line) (sym answer) (Any-single (λ x. Matches x line whole) e b))
   ]
 
   -- where one matcher matches some do
-  pub one_matches : i < length es → get_or es i e ≡ e → Matches e line w → SomeMatches es line whole
-  one_matches within same m = (i, e, within, same, rw answer at m)
+  pub one_matches : Matches e line (wants_whole (get_or now i d)) → SomeMatches (expressions_of old) line whole
+  one_matches m = (i, e, (within matched_expression old now same.same_expressions i d h).1, value_at matched_expression old now same.same_expressions i d h e, subst (Matches e line) answer m)
+
+-- all were asked
+pub all_asked : (ms : List Matcher) (i : ℕ) → length ms ≤ i → take i (expressions_of ms) ≡ expressions_of ms
+all_asked ms i le = take_all i (expressions_of ms) (omega (arith, le, length-map ms matched_expression))
 
 -- the steps of one search more
 pub steps_more : (i n : ℕ) (old middle new : Steps) → AddsAtMost (i * n) old middle → AddsAtMost n middle new → AddsAtMost ((i + 1) * n) old new
-steps_more i n old middle new a b = adds_up (i * n) n ((i + 1) * n) old middle new (omega arith) a b
+steps_more i n old middle new a b = adds_on a b (omega arith) (omega arith)

@@ -50,10 +50,7 @@ module _ (es fs : List Expression) (line : Text) (whole : Bool) (from : ℕ) whe
   -- where nothing is found for the first list the part for the second is that for both
   pub second_alone : (found : Option Span) → ((i j : ℕ) → IsFound es line whole from i j → ⊥) → FindsPart fs line whole from found → FindsPart (es ++ fs) line whole from found
   second_alone None none others = λ i j f. elim (found-cases i j f) [ inl h ↦ none i j h | inr h ↦ others i j h ]
-  second_alone (Some span) none p =
-      let i : ℕ = span.start in
-      let j : ℕ = span.end in
-      part-together i j (found-right i j p.found) (λ k l f. absurd (none k l f)) (part-leads fs line whole from i j p)
+  second_alone (Some span) none p = part-together span.start span.end (found-right span.start span.end p.found) (λ k l f. absurd (none k l f)) (part-leads fs line whole from span.start span.end p)
 
   -- and the other way round
   pub first_alone : (i j : ℕ) → IsPart es line whole from i j → ((k l : ℕ) → IsFound fs line whole from k l → ⊥) → IsPart (es ++ fs) line whole from i j

@@ -1,25 +1,17 @@
-use Rattle.re_match.proofs.Prelude.{rules, ℕ, ◌+◌, ◌-◌, ◌<◌, inl, refl, length, slice_index, arith}
+use Rattle.re_match.proofs.Prelude.{rules, ℕ, ◌+◌, ◌-◌, ◌<◌, inl, refl, slice_index, arith}
 use Rattle.re_match.proofs.lemmas.StepSums.{adds_on}
 use Rattle.re_match.proofs.lemmas.WindowLaws.{later_by_needle, later_by_bytes}
 use Rattle.re_match.proofs.prefilter.window_at.Goals as goal
 
 pub returns-then-needle : goal.returns-then-needle
 returns-then-needle c = λ e before of right looked over.
-    let line = c.args.line.now in
-    let from = c.args.from in
-    let near = c.args.near in
-    let end = c.end-end.result in
     let high = c.end-end.ensures.low in (
-      (later_by_needle e line from near c.args.needle.now of c.requires.low (omega (arith, c.requires.low, c.requires.within)) c.requires.next c.if-needle.true, (high, c.end-end.ensures.border e right)),
+      (later_by_needle e c.args.line.now c.args.from c.args.near c.args.needle.now of c.requires.low (omega (arith, c.requires.low, c.requires.within)) c.requires.next c.if-needle.true, (high, c.end-end.ensures.border e right)),
       record { few = adds_on looked c.end-end.ensures.passed (omega arith) (omega (arith, c.requires.low, c.requires.within, high)); all = omega (arith, over, c.end-end.ensures.passed.passed) },
     )
 
 pub returns-in_default : goal.returns-in_default
 returns-in_default c = λ e before of right looked over.
-    let line = c.args.line.now in
-    let from = c.args.from in
-    let near = c.args.near in
-    let long = length line in
     rw c.rest_of.ensures (
       ((omega arith, λ i j f. f.begins), (omega (arith, c.requires.low, c.requires.within), inl refl)),
       record { few = adds_on looked c.in_default.ensures.none (omega arith) (omega (arith, c.requires.low, c.requires.within)); all = omega (arith, over, c.in_default.ensures.none.passed) },
@@ -31,7 +23,6 @@ returns c = λ e before of right looked over.
     let from = c.args.from in
     let near = c.args.near in
     let start = c.in-Some.start in
-    let end = c.end-end-2.result in
     let high = c.end-end-2.ensures.low in
     let small : (x : ℕ) → slice_index line x < 256 = search rules in (
       (later_by_bytes e line from near c.args.needle.now of c.requires.low (omega (arith, c.requires.low, c.requires.within)) c.requires.next c.args.edges.now right small start c.in-Some.ensures.low c.in-Some.ensures.high c.in-Some.ensures.outside, (omega (arith, high, c.in-Some.ensures.high), c.end-end-2.ensures.border e right)),

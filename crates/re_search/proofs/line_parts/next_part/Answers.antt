@@ -1,7 +1,13 @@
 use Rattle.re_search.proofs.Prelude.{subst, sym, arith, IfSome, FindsPart, Sought, ArePartsOf}
 use Rattle.re_search.proofs.lemmas.OneMatcher.{alone}
-use Rattle.re_search.proofs.lemmas.LinePartsLaws.{known_of_all, known_after}
+use Rattle.re_search.proofs.lemmas.LinePartsLaws.{known_of_all, known_after, known_whole}
 use Rattle.re_search.proofs.line_parts.next_part.Goals as goal
+
+pub returns-then-seen-gt0-clause-reported : goal.returns-then-seen-gt0-clause-reported
+returns-then-seen-gt0-clause-reported c = rw c.if-whole.true (known_whole _ _ _ _ _ (omega (arith, c.if-seen-gt0.true, c.seen.ensures)) (rw c.if-whole.true at (c.known_part.ensures _ _ c.requires.right)))
+
+pub returns-then-seen-gt0-clause-right : goal.returns-then-seen-gt0-clause-right
+returns-then-seen-gt0-clause-right c = known_after _ _ _ _ _ c.requires.right (c.known_part.ensures _ _ c.requires.right)
 
 pub next_of_one-requires-clause-right : goal.next_of_one-requires-clause-right
 next_of_one-requires-clause-right c =
@@ -18,10 +24,10 @@ returns-then-matchers-eq1-clause-right c =
     (sym (alone c.args.matchers.now c.index-matchers-0.result c.args.whole c.if-matchers-eq1.true c.if-whole.false)) c.next_of_one.ensures.right
 
 pub returns-then-seen-line-clause-reported : goal.returns-then-seen-line-clause-reported
-returns-then-seen-line-clause-reported c = known_of_all _ _ _ _ _ (omega (arith, c.seen.ensures, c.if-seen-line.true)) (c.known_part.ensures _ _ c.requires.right)
+returns-then-seen-line-clause-reported c = known_of_all _ _ _ _ _ (omega (arith, c.seen-2.ensures, c.if-seen-line.true)) (c.known_part-then-seen-line.ensures _ _ c.requires.right)
 
 pub returns-then-seen-line-clause-right : goal.returns-then-seen-line-clause-right
-returns-then-seen-line-clause-right c = known_after _ _ _ _ _ c.requires.right (c.known_part.ensures _ _ c.requires.right)
+returns-then-seen-line-clause-right c = known_after _ _ _ _ _ c.requires.right (c.known_part-then-seen-line.ensures _ _ c.requires.right)
 
 pub returns-clause-reported : goal.returns-clause-reported
 returns-clause-reported c = rw c.if-whole.false (known_of_all _ _ _ _ _ c.look_over.ensures.seen (c.known_part-2.ensures _ _ (c.look_over.ensures.right c.args.from)))

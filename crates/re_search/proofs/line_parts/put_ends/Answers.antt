@@ -1,5 +1,5 @@
-use Rattle.re_search.proofs.Prelude.{◌≡◌, ◌∙◌, ◌+◌, ◌-◌, take, arith, length, take_all, length-map, length-replicate, get_or-replicate, ap, get_or, matched_expression, expressions_of}
-use Rattle.re_search.proofs.lemmas.OneMatcherMore.{one_more, steps_more}
+use Rattle.re_search.proofs.Prelude.{◌∙◌, ◌+◌, ◌-◌, arith, length, length-replicate, get_or-replicate, ap, get_or, matched_expression, expressions_of}
+use Rattle.re_search.proofs.lemmas.OneMatcherMore.{one_more, all_asked, steps_more}
 use Rattle.re_search.proofs.lemmas.KeptMatchers.{none_asked, one_kept}
 use Rattle.re_search.proofs.lemmas.LinePartsLaws.{no_ends, ends_more}
 use Rattle.re_meter.proofs.lemmas.Adding.{adds_none, adds_within}
@@ -17,13 +17,12 @@ loop-matcher-init c = record {
 pub loop-matcher-preserved : goal.loop-matcher-preserved
 loop-matcher-preserved c =
     let old = c.args.matchers.now in
-    let now = c.loop-matcher.matchers in
     let i = c.loop-matcher.matcher-index in
     let d = c.matcher-item.result in
     let same = c.loop-matcher.invariant.same_matchers in
     record {
       right =
-          ends_more (expressions_of old) c.args.line.now i _ c.loop-matcher.ends c.add_ends.new.ends c.loop-matcher.invariant.room (one_more matched_expression old now same.same_expressions i d c.loop-matcher-test.true)
+          ends_more (expressions_of old) c.args.line.now i _ c.loop-matcher.ends c.add_ends.new.ends c.loop-matcher.invariant.room (one_more matched_expression old c.loop-matcher.matchers same.same_expressions i d c.loop-matcher-test.true)
           c.loop-matcher.invariant.right (rw c.rest_of.ensures at c.add_ends.ensures.added);
       same_matchers = one_kept same i d _ c.add_ends.ensures.same;
       room = c.add_ends.ensures.added.0 ∙ c.loop-matcher.invariant.room;
@@ -33,7 +32,4 @@ loop-matcher-preserved c =
     }
 
 pub returns-clause-right : goal.returns-clause-right
-returns-clause-right c =
-    let es = expressions_of c.args.matchers.now in
-    let all : take c.loop-matcher.matcher-index es ≡ es = take_all _ _ (omega (arith, length-map c.args.matchers.now matched_expression)) in
-    rw all at (c.loop-matcher.invariant.right)
+returns-clause-right c = rw (all_asked c.args.matchers.now c.loop-matcher.matcher-index (omega arith)) at (c.loop-matcher.invariant.right)

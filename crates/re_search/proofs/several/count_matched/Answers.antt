@@ -1,9 +1,9 @@
-use Rattle.re_search.proofs.Prelude.{◌≡◌, ◌+◌, None, Some, length, drop, ap, subst, arith, length-drop, take_rest, lines_of, expressions_of, sought_of, Sought, IsSought, FindsSought}
+use Rattle.re_search.proofs.Prelude.{◌-◌, ◌≡◌, ◌+◌, None, Some, length, drop, ap, subst, arith, length-drop, take_rest, lines_of, expressions_of, sought_of, Sought, IsSought, FindsSought}
 use Rattle.re_search.proofs.lemmas.KeptMatchers.{same_over, same_sought}
 use Rattle.re_search.proofs.lemmas.OneMatcher.{sought_alone}
 use Rattle.re_runs.proofs.lemmas.CountedBlocks.{counts_same}
 use Rattle.re_runs.proofs.lemmas.NextLines.{CountsTo, counts_next, counts_all}
-use Rattle.re_search.proofs.lemmas.SearchedBlocks.{adds_on_by}
+use Rattle.re_search.proofs.lemmas.SearchedBlocks.{times_more}
 use Rattle.re_search.proofs.several.count_matched.Goals as goal
 
 pub returns-in_default-clause-reported : goal.returns-in_default-clause-reported
@@ -29,7 +29,7 @@ lines-preserved c =
     record {
       counts = next;
       same = same_over c.next_matched.ensures.same_matchers i.same;
-      steps = adds_on_by n (length block) (length rest) (length (drop (at.end + 1) rest)) at.end _ _ _ (omega (arith, i.counts.few)) within.1 (length-drop (at.end + 1) rest) i.steps (rw many at c.in-Some.ensures.steps);
+      steps = times_more n (length block - length rest) (at.end + 1) _ i.steps (rw many at c.in-Some.ensures.steps) (omega (arith, i.counts.few, within.1, length-drop (at.end + 1) rest));
     }
 
 pub returns-then-matchers-eq1-clause-reported : goal.returns-then-matchers-eq1-clause-reported

@@ -1,44 +1,25 @@
-use Rattle.re_search.proofs.Prelude.{◌≡◌, take, arith, refl, take_all, false≢true, length-map, matched_expression, expressions_of, wants_whole}
-use Rattle.re_search.proofs.lemmas.OneMatcherMore.{one_more, value_at, within, none_more, one_matches, steps_more}
+use Rattle.re_search.proofs.Prelude.{arith, refl, false≢true}
+use Rattle.re_search.proofs.lemmas.OneMatcherMore.{none_more, one_matches, all_asked, steps_more}
 use Rattle.re_search.proofs.lemmas.KeptMatchers.{one_kept}
 use Rattle.re_search.proofs.several.is_matched.Goals as goal
 
 pub loop-matcher-preserved : goal.loop-matcher-preserved
 loop-matcher-preserved c =
-    let old = c.args.matchers.now in
-    let now = c.loop-matcher.matchers in
     let i = c.loop-matcher.matcher-index in
     let d = c.matcher-item.result in
     let same = c.loop-matcher.invariant.same_matchers in
-    let es = same.same_expressions in
-    let ws = same.same_wholes in
-    let h = c.loop-matcher-test.true in
     record {
-      none = none_more old _ c.requires.alike _ i _ _ (within wants_whole old now ws i d h).1 (value_at wants_whole old now ws i d h _) (one_more matched_expression old now es i d h)
-          c.loop-matcher.invariant.none (λ m. false≢true (c.if-is_match.ensures.reported.1 m));
+      none = none_more same c.requires.alike c.args.line.now i d c.loop-matcher-test.true c.loop-matcher.invariant.none (λ m. false≢true (c.if-is_match.ensures.reported.1 m));
       same_matchers = one_kept same i d _ c.is_match.ensures.same;
       steps = steps_more i _ _ _ _ c.loop-matcher.invariant.steps c.is_match.ensures.steps;
     }
 
 pub returns-then-is_match-clause-reported : goal.returns-then-is_match-clause-reported
 returns-then-is_match-clause-reported c =
-    let old = c.args.matchers.now in
-    let now = c.loop-matcher.matchers in
-    let i = c.loop-matcher.matcher-index in
-    let d = c.matcher-item.result in
-    let es = c.loop-matcher.invariant.same_matchers.same_expressions in
-    let ws = c.loop-matcher.invariant.same_matchers.same_wholes in
-    let h = c.loop-matcher-test.true in (
-      λ _. one_matches old _ c.requires.alike _ i _ _ (within wants_whole old now ws i d h).1 (value_at wants_whole old now ws i d h _) (within matched_expression old now es i d h).1 (value_at matched_expression old now es i d h _)
-          (c.if-is_match.ensures.reported.0 refl),
-      λ _. refl,
-    )
+    (λ _. one_matches c.loop-matcher.invariant.same_matchers c.requires.alike c.args.line.now _ c.matcher-item.result c.loop-matcher-test.true (c.if-is_match.ensures.reported.0 refl), λ _. refl)
 
 pub returns-then-is_match-clause-same_matchers : goal.returns-then-is_match-clause-same_matchers
 returns-then-is_match-clause-same_matchers c = one_kept c.loop-matcher.invariant.same_matchers _ c.matcher-item.result _ c.is_match.ensures.same
 
 pub returns-clause-reported : goal.returns-clause-reported
-returns-clause-reported c =
-    let es = expressions_of c.args.matchers.now in
-    let all : take c.loop-matcher.matcher-index es ≡ es = take_all _ _ (omega (arith, length-map c.args.matchers.now matched_expression)) in
-    (λ no. absurd (false≢true no), λ some. absurd ((rw all at c.loop-matcher.invariant.none) some))
+returns-clause-reported c = (λ no. absurd (false≢true no), λ some. absurd ((rw (all_asked c.args.matchers.now c.loop-matcher.matcher-index (omega arith)) at c.loop-matcher.invariant.none) some))

@@ -1,23 +1,18 @@
-use Rattle.re_search.proofs.Prelude.{◌≡◌, take, arith, take_all, length-map, matched_expression, expressions_of}
-use Rattle.re_search.proofs.lemmas.OneMatcherMore.{one_more, steps_more}
+use Rattle.re_search.proofs.Prelude.{arith, matched_expression}
+use Rattle.re_search.proofs.lemmas.OneMatcherMore.{one_more, all_asked, steps_more}
 use Rattle.re_search.proofs.lemmas.KeptMatchers.{one_kept}
 use Rattle.re_search.proofs.several.parts.Goals as goal
 
 pub loop-matcher-preserved : goal.loop-matcher-preserved
 loop-matcher-preserved c =
-    let old = c.args.matchers.now in
-    let now = c.loop-matcher.matchers in
     let i = c.loop-matcher.matcher-index in
     let d = c.matcher-item.result in
     let same = c.loop-matcher.invariant.same_matchers in
     record {
-      reported = rw (one_more matched_expression old now same.same_expressions i d c.loop-matcher-test.true) (c.better-best.ensures _ _ _ _ _ c.loop-matcher.invariant.reported c.find-found.ensures.reported);
+      reported = rw (one_more matched_expression c.args.matchers.now c.loop-matcher.matchers same.same_expressions i d c.loop-matcher-test.true) (c.better-best.ensures _ _ _ _ _ c.loop-matcher.invariant.reported c.find-found.ensures.reported);
       same_matchers = one_kept same i d _ c.find-found.ensures.same;
       steps = steps_more i _ _ _ _ c.loop-matcher.invariant.steps c.find-found.ensures.steps;
     }
 
 pub returns-clause-reported : goal.returns-clause-reported
-returns-clause-reported c =
-    let es = expressions_of c.args.matchers.now in
-    let all : take c.loop-matcher.matcher-index es ≡ es = take_all _ _ (omega (arith, length-map c.args.matchers.now matched_expression)) in
-    rw c.if-whole.false (rw all at c.loop-matcher.invariant.reported)
+returns-clause-reported c = rw c.if-whole.false (rw (all_asked c.args.matchers.now c.loop-matcher.matcher-index (omega arith)) at c.loop-matcher.invariant.reported)

@@ -9,6 +9,5 @@ pub trees-preserved : goal.trees-preserved
 trees-preserved c =
     let old = c.trees.strings.items in
     let new = c.add_tree.new.strings.items in
-    let tree = c.index-trees-place.result in
-    next_string expression_of c.args.trees.now c.trees.place tree c.args.strings.now.items old new c.trees-test.true c.trees.invariant
+    next_string expression_of c.args.trees.now c.trees.place c.index-trees-place.result c.args.strings.now.items old new c.trees-test.true c.trees.invariant
     (subst (λ t. AddsEach (expression_of t ∷ []) old new) c.index-trees-place.is c.in_ok-add_tree.ensures)

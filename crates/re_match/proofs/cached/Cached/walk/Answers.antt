@@ -15,14 +15,14 @@ pub search_on-answer-requires-clause-within : goal.search_on-answer-requires-cla
 search_on-answer-requires-clause-within c = within_line c.walk_lines-lines.ensures.goes c.in-Some-line_end.ensures
 
 pub returns-clause-passes : goal.returns-clause-passes
-returns-clause-passes c = rw (c.to.ensures, c.requires.search, ← c.self.view_is) c.walk_lines-lines.ensures.goes.passed
+returns-clause-passes c = rw (c.to-2.ensures, c.requires.search, ← c.self.view_is) c.walk_lines-lines.ensures.goes.passed
 
 pub returns-clause-stops : goal.returns-clause-stops
 returns-clause-stops c =
     let lines = c.walk_lines-lines.ensures in
-    rw (c.to.ensures, c.requires.search, ← c.self.view_is) (walk_stops lines.goes c.in-Some-line_end.ensures lines.ready.0 refl c.args.meter.now (rw lines.counted at c.search_on-answer.ensures.finishes))
+    rw (c.to-2.ensures, c.requires.search, ← c.self.view_is) (walk_stops lines.goes c.in-Some-line_end.ensures lines.ready.0 refl c.args.meter.now (rw lines.counted at c.search_on-answer.ensures.finishes))
 
 pub returns-clause-steps : goal.returns-clause-steps
 returns-clause-steps c =
     let lines = c.walk_lines-lines.ensures in
-    rw c.to.ensures (walk_adds lines.goes c.in-Some-line_end.ensures lines.ready.0 refl c.args.meter.now (rw lines.counted at c.search_on-answer.ensures.finishes))
+    rw c.to-2.ensures (walk_adds lines.goes c.in-Some-line_end.ensures lines.ready.0 refl c.args.meter.now (rw lines.counted at c.search_on-answer.ensures.finishes))

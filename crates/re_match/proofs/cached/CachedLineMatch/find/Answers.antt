@@ -8,7 +8,6 @@ windows-preserved c =
     let e = expression_of c.args.self.now.tree in
     let line = c.args.line.now in
     let from = c.args.from in
-    let place = c.windows.place in
     let held = c.windows.invariant in
     let window = c.in-In.window in
     let said = rw held.same at c.in-In.ensures in
@@ -18,7 +17,7 @@ windows-preserved c =
     record {
       high = omega (arith, c.place_after-place.ensures);
       same = c.find_in.ensures.same ∙ held.same;
-      later = subst (BeginsLater e line from) (sym c.place_after-place.ensures) (later_on e line from place window.start window.end held.later said.0.0 said.0.1.1 (rw held.same at c.in_default.ensures.found) said.0.1.0 within);
+      later = subst (BeginsLater e line from) (sym c.place_after-place.ensures) (later_on e line from c.windows.place window.start window.end held.later said.0.0 said.0.1.1 (rw held.same at c.in_default.ensures.found) said.0.1.0 within);
       steps = adds_on {first = window.start - from} {first_bytes = past line window.end - from}
           (adds_on held.steps said.1.few (omega (arith, low, next)) (omega (arith, low, next, within, said.0.1.0, held.high))) c.find_in.ensures.steps.few
           (omega (arith, c.place_after-place.ensures, within, said.0.1.0, low, next)) (omega (arith, c.place_after-place.ensures));

@@ -13,22 +13,18 @@ pub returns-in-Some-clause-stops : goal.returns-in-Some-clause-stops
 returns-in-Some-clause-stops c = λ e is. c.first_line.ensures.stops e c.args.whole
 
 pub returns-then-is_inside-clause-passes : goal.returns-then-is_inside-clause-passes
-returns-then-is_inside-clause-passes c = λ e is.
-    let needle = rw c.in-Some-needle.is at is.needle in
-    rw c.to.ensures (passes_unmatched_run e (runs_of c.in-Some-needle.needle.finder) c.args.whole needle.needed c.args.block.now c.first_line_with_run-swept.result.start c.first_line_with_run-swept.ensures.passes)
+returns-then-is_inside-clause-passes c = λ e is. rw c.to-then-is_inside.ensures (passes_unmatched_run e _ c.args.whole (rw c.in-Some-needle.is at is.needle).needed c.args.block.now _ c.first_line_with_run-swept.ensures.passes)
 
 pub returns-then-is_inside-clause-stops : goal.returns-then-is_inside-clause-stops
 returns-then-is_inside-clause-stops c = λ e is.
     let needle = rw c.in-Some-needle.is at is.needle in
     let of = c.first_line_with_run-swept.ensures in
     let (at, place, before) = c.is_inside.ensures c.if-is_inside.true in
-    rw (c.to.ensures, c.bytes_over-reached.ensures, c.if-whole.true)
+    rw (c.to-then-is_inside.ensures, c.bytes_over-reached.ensures, c.if-whole.true)
     (stops_inside e (runs_of c.in-Some-needle.needle.finder) c.args.block.now c.first_line_with_run-swept.result at (needle.first c.if-needle.true) place of.found before of.stops)
 
 pub returns-then-has_run-clause-passes : goal.returns-then-has_run-clause-passes
-returns-then-has_run-clause-passes c = λ e is.
-    let needle = rw c.in-Some-needle.is at is.needle in
-    rw c.to-then-has_run.ensures (passes_unmatched_run e (runs_of c.in-Some-needle.needle.finder) c.args.whole needle.needed c.args.block.now c.first_line_with_run-swept.result.start c.first_line_with_run-swept.ensures.passes)
+returns-then-has_run-clause-passes c = λ e is. rw c.to-then-has_run.ensures (passes_unmatched_run e _ c.args.whole (rw c.in-Some-needle.is at is.needle).needed c.args.block.now _ c.first_line_with_run-swept.ensures.passes)
 
 pub returns-then-has_run-clause-stops : goal.returns-then-has_run-clause-stops
 returns-then-has_run-clause-stops c = λ e is.
@@ -40,9 +36,7 @@ returns-then-has_run-clause-stops c = λ e is.
     rw (c.to-then-has_run.ensures, c.bytes_over-reached.ensures, c.if-not-whole.true) (stops_matched e run c.args.block.now swept at last (needle.all c.if-needle-2.true) needle.some place longest low free c.first_line_with_run-swept.ensures.stops)
 
 pub returns-clause-passes : goal.returns-clause-passes
-returns-clause-passes c = λ e is.
-    let needle = rw c.in-Some-needle.is at is.needle in
-    rw c.to-2.ensures (passes_unmatched_run e (runs_of c.in-Some-needle.needle.finder) c.args.whole needle.needed c.args.block.now c.first_line_with_run-swept.result.start c.first_line_with_run-swept.ensures.passes)
+returns-clause-passes c = λ e is. rw c.to-2.ensures (passes_unmatched_run e _ c.args.whole (rw c.in-Some-needle.is at is.needle).needed c.args.block.now _ c.first_line_with_run-swept.ensures.passes)
 
 pub returns-clause-stops : goal.returns-clause-stops
 returns-clause-stops c = λ e is.

@@ -1,8 +1,8 @@
-use Rattle.re_match.proofs.Prelude.{false, ◌+◌, ◌-◌, ◌≡◌, length, drop, None, Some, arith, length-drop, subst, take_rest, look_cost, FindsRun, runs_of}
+use Rattle.re_match.proofs.Prelude.{false, ◌+◌, ◌-◌, ◌≡◌, drop, None, Some, arith, length-drop, subst, take_rest, look_cost, FindsRun, runs_of}
 use Rattle.re_needle.proofs.lemmas.NeedleLaws.{lacks_part, all_is_part}
 use Rattle.re_meter.proofs.lemmas.Adding.{only_passed}
 use Rattle.re_runs.proofs.lemmas.RunLaws.{run_whole}
-use Rattle.re_match.proofs.lemmas.StepSums.{passes, passes_all}
+use Rattle.re_match.proofs.lemmas.StepSums.{passes, passes_all, passes_rest}
 use Rattle.re_match.proofs.prefilter.Prefilter.next_match.Goals as goal
 
 pub returns-in_default : goal.returns-in_default
@@ -11,12 +11,7 @@ returns-in_default c = λ e right edges. c.next.ensures e edges
 pub returns-in_default-find : goal.returns-in_default-find
 returns-in_default-find c = λ e right edges. (
   lacks_part e c.in-Some.needle (rw c.in-Some.is at right.needle) c.args.line.now false c.args.from (rw take_rest at c.in_default-find.ensures.found),
-  (let counted = rw take_rest at c.in_default-find.ensures.counted in
-      let rest = length-drop c.args.from c.args.line.now in
-      record {
-        few = passes (length c.args.line.now - c.args.from) (look_cost (drop c.args.from c.args.line.now) None) _ _ (omega (arith, rest)) counted;
-        all = passes_all (length c.args.line.now - c.args.from) (look_cost (drop c.args.from c.args.line.now) None) _ _ (omega (arith, rest)) counted;
-      }),
+  passes_rest c.args.line.now c.args.from (look_cost (drop c.args.from c.args.line.now) None) _ _ (length-drop c.args.from c.args.line.now) (rw take_rest at c.in_default-find.ensures.counted),
 )
 
 pub window_at-requires-clause-next : goal.window_at-requires-clause-next
@@ -40,12 +35,11 @@ returns c = λ e right edges.
     let line = c.args.line.now in
     let from = c.args.from in
     let part = all_is_part e c.in-Some.needle (rw c.in-Some.is at right.needle) line c.if-not-needle.false from c.in-Some-find.place c.in-Some-longest_end.end (omega (arith, c.requires)) (rw take_rest at c.in-Some-find.ensures.found) c.in-Some-longest_end.ensures in
-    let some = part.found.not_empty in
     let counted = rw take_rest at c.in-Some-find.ensures.counted in
     let high = (rw take_rest at c.in-Some-find.ensures.found).0.high in (
       part,
       record {
-        few = passes (c.in-Some-longest_end.end - from) (look_cost (drop from line) (Some c.in-Some-find.place)) _ _ (omega (arith, some)) counted;
+        few = passes (c.in-Some-longest_end.end - from) (look_cost (drop from line) (Some c.in-Some-find.place)) _ _ (omega (arith, part.found.not_empty)) counted;
         all = passes_all (from + c.in-Some-find.place - from) (look_cost (drop from line) (Some c.in-Some-find.place)) _ _ (omega (arith, high)) counted;
       },
     )

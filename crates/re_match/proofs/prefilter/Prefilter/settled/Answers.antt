@@ -3,10 +3,13 @@ use Rattle.re_needle.proofs.lemmas.NeedleLaws.{settled_lacks}
 use Rattle.re_match.proofs.prefilter.Prefilter.settled.Goals as goal
 
 pub returns-in-Some-clause-settled : goal.returns-in-Some-clause-settled
-returns-in-Some-clause-settled c = λ e is. c.settled_by.ensures.settled e c.args.whole (rw c.in-Some.is at is.strings)
+returns-in-Some-clause-settled c = λ e is. inr (record { strings = c.in-Some.strings; needed = rw c.in-Some.is at is.strings; absent = λ m. false≢true (c.if-stands_in.ensures.reported.1 m); no = refl })
 
 pub returns-in-Some-clause-looked : goal.returns-in-Some-clause-looked
-returns-in-Some-clause-looked c = λ e is. c.settled_by.ensures.looked e (rw c.in-Some.is at is.strings)
+returns-in-Some-clause-looked c = λ e is. inr (inr (inr (record { strings = c.in-Some.strings; needed = rw c.in-Some.is at is.strings; looked = c.if-stands_in.ensures.looked })))
+
+pub returns-then-stands_in-clause-looked : goal.returns-then-stands_in-clause-looked
+returns-then-stands_in-clause-looked c = λ e is. inr (inr (inr (record { strings = c.in-Some.strings; needed = rw c.in-Some.is at is.strings; looked = c.if-stands_in.ensures.looked })))
 
 pub returns-then-is_none-clause-settled : goal.returns-then-is_none-clause-settled
 returns-then-is_none-clause-settled c = λ e is.

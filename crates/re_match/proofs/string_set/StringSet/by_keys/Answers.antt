@@ -6,8 +6,7 @@ invariant_of-result c =
     let kept : c.extend_from_slice.new.self.items ≡ c.args.texts.now = search rules in
     let same = c.in_ok-strings.ensures.same in
     let empty = rw c.deref.ensures.value at c.has_empty-has_empty.ensures in
-    let fold = c.in_ok-table.ensures.fold in
-    let strings : lines_of c.args.keyed.now ≡ map (keys c.in_ok-table.table.fold) (lines_of c.args.texts.now) = c.requires ∙ ap (λ f. map (keys f) (lines_of c.args.texts.now)) (sym fold) in
+    let strings : lines_of c.args.keyed.now ≡ map (keys c.in_ok-table.table.fold) (lines_of c.args.texts.now) = c.requires ∙ ap (λ f. map (keys f) (lines_of c.args.texts.now)) (sym c.in_ok-table.ensures.fold) in
     let table = (rw c.deref-2.ensures.value at c.in_ok-table.ensures.right) (lines_of c.args.keyed.now) same in
     rw (kept, ← strings) (
       c.in_ok-table.ensures.table,

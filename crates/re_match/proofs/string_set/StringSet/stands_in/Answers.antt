@@ -1,22 +1,18 @@
-use Rattle.re_match.proofs.Prelude.{refl, inl, inr, sym, ◌∙◌, false≢true, lines_of, Literals}
+use Rattle.re_match.proofs.Prelude.{refl, inl, inr, sym, ◌∙◌, false≢true}
 use Rattle.re_match.proofs.lemmas.SetMatches.{empty_matches, ends_decide}
 use Rattle.re_match.proofs.string_set.StringSet.stands_in.Goals as goal
 
 pub returns-then-self-clause-reported : goal.returns-then-self-clause-reported
 returns-then-self-clause-reported c =
-    let l : Literals = record { texts = lines_of c.self.inside.texts.items; fold = c.self.inside.table.fold } in
-    rw (← c.self.view_is) ((λ _. empty_matches l c.args.line.now (c.self.invariant.2.0 c.if-self.true)), (λ _. refl))
+    rw (← c.self.view_is) ((λ _. empty_matches _ c.args.line.now (c.self.invariant.2.0 c.if-self.true)), (λ _. refl))
 
 pub returns-then-self-clause-looked : goal.returns-then-self-clause-looked
 returns-then-self-clause-looked c = rw (← c.self.view_is) (inl (c.self.invariant.2.0 c.if-self.true, refl))
 
 pub returns-clause-reported : goal.returns-clause-reported
 returns-clause-reported c =
-    let l : Literals = record { texts = lines_of c.self.inside.texts.items; fold = c.self.inside.table.fold } in
-    let (label, right) = c.self.invariant.1 in
-    rw (c.is_some.ensures, ← c.self.view_is) (ends_decide l c.args.line.now c.first_end.result (λ s. false≢true (sym c.if-self.false ∙ c.self.invariant.2.1 s)) (c.first_end.ensures.ends _ right))
+    rw (c.is_some.ensures, ← c.self.view_is) (ends_decide _ c.args.line.now c.first_end.result (λ s. false≢true (sym c.if-self.false ∙ c.self.invariant.2.1 s)) (c.first_end.ensures.ends _ c.self.invariant.1.1))
 
 pub returns-clause-looked : goal.returns-clause-looked
 returns-clause-looked c =
-    let (label, right) = c.self.invariant.1 in
-    rw (← c.self.view_is) (inr (c.first_end.result, c.first_end.ensures.ends _ right, c.first_end.ensures.counted))
+    rw (← c.self.view_is) (inr (c.first_end.result, c.first_end.ensures.ends _ c.self.invariant.1.1, c.first_end.ensures.counted))

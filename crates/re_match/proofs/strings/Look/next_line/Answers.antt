@@ -29,5 +29,4 @@ returns-clause-looked c = rw c.in-Many.is (rw c.deref.ensures at c.first_line-st
 pub returns-clause-steps : goal.returns-clause-steps
 returns-clause-steps c =
     let line = (c.first_line-start.ensures.stops (any_literal c.in-Many.set.value) false).line c.in_ok-end.end c.in_ok-end.ensures in
-    let near = line.near in
-    adds_within 0 0 c.first_line-start.result.reached (c.in_ok-end.end + 1) _ _ (omega arith) (omega (arith, near)) c.first_line-start.ensures.steps
+    adds_within 0 0 c.first_line-start.result.reached (c.in_ok-end.end + 1) _ _ (omega arith) (omega (arith, line.near)) c.first_line-start.ensures.steps

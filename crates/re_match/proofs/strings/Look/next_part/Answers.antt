@@ -1,7 +1,7 @@
 use Rattle.re_match.specs.Working.Aheads.{PassesAtLeast}
 use Rattle.re_match.proofs.Prelude.{subst, sym, ◌-◌, ◌≤◌, length, inl, refl, arith, past}
-use Rattle.re_match.proofs.lemmas.StepSums.{look_and_built, looks_twice, passes_all}
-use Rattle.re_meter.proofs.lemmas.Adding.{adds_within}
+use Rattle.re_match.proofs.lemmas.StepSums.{look_and_built, passes_all}
+use Rattle.re_meter.proofs.lemmas.Adding.{adds_passed, adds_within, only_passed}
 use Rattle.re_match.proofs.strings.Look.next_part.Goals as goal
 
 pub returns-then-beyond-bytes-clause-reported : goal.returns-then-beyond-bytes-clause-reported
@@ -17,15 +17,14 @@ returns-then-beyond-bytes-clause-steps c =
     let most = past line (length line) - c.args.from in
     rw c.rest_of.ensures (record {
       few = adds_within 0 (c.in-Some.part.start - c.args.from) most most _ _ (omega arith) (omega arith)
-          (looks_twice (c.in-Some.part.end - c.args.from) c.min.result most _ _ _ (omega (arith, c.min.ensures, found.begins, found.not_empty, found.on_line)) c.add_passed-2.ensures c.add_passed-then-beyond-bytes.ensures);
+          (adds_passed 0 (c.in-Some.part.end - c.args.from) most c.min.result _ _ _ (omega (arith, c.min.ensures, found.begins, found.not_empty, found.on_line)) (only_passed (c.in-Some.part.end - c.args.from) (c.in-Some.part.end - c.args.from) _ _ (omega arith) c.add_passed-2.ensures) c.add_passed-then-beyond-bytes.ensures);
       all = omega (arith, passes_all (c.in-Some.part.start - c.args.from) (c.in-Some.part.end - c.args.from) _ _ (omega (arith, found.not_empty)) c.add_passed-2.ensures, passes_all 0 c.min.result _ _ (omega arith) c.add_passed-then-beyond-bytes.ensures);
     })
 
 pub returns-clause-steps : goal.returns-clause-steps
 returns-clause-steps c =
     let bytes = c.in-Some.part.end - c.args.from in
-    let found = c.in-Some.ensures.reported.found in
     record {
       few = look_and_built bytes c.saturating_sub-beyond.result bytes bytes _ _ _ (omega (arith, c.if-beyond-bytes.false)) (omega arith) c.add_passed-2.ensures c.add_built.ensures;
-      all = subst (PassesAtLeast (c.in-Some.part.start - c.args.from) c.args.meter.now) (sym c.add_built.ensures) (passes_all (c.in-Some.part.start - c.args.from) bytes _ _ (omega (arith, found.not_empty)) c.add_passed-2.ensures);
+      all = subst (PassesAtLeast (c.in-Some.part.start - c.args.from) c.args.meter.now) (sym c.add_built.ensures) (passes_all (c.in-Some.part.start - c.args.from) bytes _ _ (omega (arith, c.in-Some.ensures.reported.found.not_empty)) c.add_passed-2.ensures);
     }

@@ -1,6 +1,6 @@
-use Rattle.re_match.proofs.Prelude.{rules, ℕ, ◌+◌, ◌-◌, ◌<◌, length, slice_index, arith}
+use Rattle.re_match.proofs.Prelude.{rules, ℕ, ◌+◌, ◌-◌, ◌<◌, slice_index, arith}
 use Rattle.re_meter.proofs.lemmas.Adding.{only_passed}
-use Rattle.re_match.proofs.lemmas.StepSums.{adds_on, passes, passes_all}
+use Rattle.re_match.proofs.lemmas.StepSums.{adds_on, passes_all, passes_rest}
 use Rattle.re_match.proofs.lemmas.WindowLaws.{later_by_run}
 use Rattle.re_match.proofs.window.Edges.next.Goals as goal
 
@@ -11,10 +11,7 @@ returns-then-start-line c = λ e right.
     let start = c.next_in-start.ensures in
     let later = later_by_run e line c.args.self.now right small c.args.from c.next_in-start.result start.on.0 start.passed in (
       (λ i j f. let low = later.1 i j f in let some = f.not_empty in let on = f.on_line in omega (arith, low, some, on, c.if-start-line.true)),
-      record {
-        few = passes (length line - c.args.from) (c.next_in-start.result - c.args.from) _ _ (omega (arith, start.on.1)) c.add_passed.ensures;
-        all = passes_all (length line - c.args.from) (c.next_in-start.result - c.args.from) _ _ (omega (arith, c.if-start-line.true)) c.add_passed.ensures;
-      },
+      passes_rest line c.args.from (c.next_in-start.result - c.args.from) _ _ (omega (arith, c.if-start-line.true)) c.add_passed.ensures,
     )
 
 pub returns : goal.returns
@@ -24,7 +21,6 @@ returns c = λ e right.
     let small : (x : ℕ) → slice_index line x < 256 = search rules in
     let start = c.next_in-start.result in
     let at = c.next_in-start.ensures in
-    let end = c.end-end.result in
     let high = c.end-end.ensures.low in (
       (later_by_run e line c.args.self.now right small from start at.on.0 at.passed, (high, c.end-end.ensures.border e right)),
       record {

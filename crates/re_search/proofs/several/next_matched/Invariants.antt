@@ -1,6 +1,6 @@
 use Rattle.re_search.proofs.Prelude.{◌*◌, ◌-◌, ◌≤◌, length, AreSame, expressions_of, sought_of, PassesUnsought}
 use Rattle.re_auto.specs.Searches.{AddsAtMost}
-use Rattle.re_search.proofs.several.next_by_lines.Given as goal
+use Rattle.re_search.proofs.several.next_matched.Given as goal
 
 -- the lines before the place were searched, and none is matched
 abbrev pub invariant-lines : goal.invariant-lines

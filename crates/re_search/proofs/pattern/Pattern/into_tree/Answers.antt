@@ -1,0 +1,5 @@
+use Rattle.re_search.proofs.Prelude.{sym, ap, ◌∙◌, as_fixed, meaning}
+use Rattle.re_search.proofs.pattern.Pattern.into_tree.Goals as goal
+
+pub returns-in-Ok : goal.returns-in-Ok
+returns-in-Ok c = rw c.in-String.is (c.meant.ensures ∙ ap (meaning c.args.fold) (sym (c.in-Ok.ensures.only _ as_fixed)))
