@@ -151,5 +151,9 @@ pub fn mark_survey(mark: &OutlineItem, of: RunKind) -> Option<Survey> {
         RunKind::Sets => LARGE,
     };
     let survey = Survey::of(set)?;
-    if survey.share <= most { Some(survey) } else { None }
+    if survey.share <= most {
+        Some(survey)
+    } else {
+        None
+    }
 }
