@@ -1,5 +1,5 @@
 -- A line is added to the last chunk, or as a chunk of its own.
-use Rattle.line_chunks.proofs.Prelude.{◌≡◌, ℕ, zero, suc, ◌+◌, ◌-◌, ◌<◌, Bool, true, false, if◌then◌else◌, IfOk, OnErr, Result, Ok, Err, List, [], ◌∷◌, ◌++◌, length, set, get_or, ap, sym, ◌∙◌, refl, arith, append_assoc, append-nil, length-append, subst, ◌≤◌, All-cons, All-head, All-nil, All-push, All-tail, Text, KeptLine, AreFilled, all_of, has_room, with_line, chunks_of, Entry}
+use Rattle.line_chunks.proofs.Prelude.{◌≡◌, ℕ, zero, suc, ◌+◌, ◌-◌, ◌<◌, Bool, true, false, if◌then◌else◌, IfOk, OnErr, Result, Ok, Err, List, [], ◌∷◌, ◌++◌, length, set, get_or, ap, sym, ◌∙◌, refl, arith, append_assoc, append-nil, length-append, ◌≤◌, All-cons, All-head, All-nil, All-push, All-tail, Text, KeptLine, AreFilled, all_of, has_room, with_line, chunks_of, Entry}
 use Rattle.line_chunks.proofs.lemmas.Sums.{chunk_at}
 
 -- the lines are those that were there, and the new one
@@ -68,8 +68,8 @@ pub filled_after : {T E : Type 0} (result : Result T E) (limit : ℕ) (old new :
     → IfOk result (λ _. chunks_of new ≡ with_line limit (chunks_of old) line) → OnErr result (new ≡ old)
     → AreFilled (chunks_of old) → AreFilled (chunks_of new)
 filled_after (Ok a) limit old new line is same filled =
-    subst AreFilled (sym is) (with_line_filled limit (chunks_of old) line filled)
-filled_after (Err a) limit old new line is same filled = subst (λ es. AreFilled (chunks_of es)) (sym same) filled
+    rw is (with_line_filled limit (chunks_of old) line filled)
+filled_after (Err a) limit old new line is same filled = rw same filled
 
 -- so the lines are of what is kept
 pub lines_ok : {T E : Type 0} (result : Result T E) (limit : ℕ) (inside old new : List (List KeptLine)) (line : KeptLine)

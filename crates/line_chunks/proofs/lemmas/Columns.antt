@@ -1,5 +1,5 @@
 -- What is found in the lines of all chunks, put or changed chunk by chunk.
-use Rattle.line_chunks.proofs.Prelude.{◌≡◌, ℕ, suc, zero, ◌+◌, ◌<◌, ◌≤◌, List, [], ◌∷◌, ◌++◌, length, map, take, drop, set, get_or, refl, ap, sym, ◌∙◌, arith, add-one, subst, length-append, length-map, All-from_get_or, All-get_or, set-get_or, Option, Some, None, Text, FoundIn, KeptLine, AreFilled, line_text, all_of, seen_from, with_column, with_columns, FitColumns, next_column, FitsNext, chunks_of, Entry}
+use Rattle.line_chunks.proofs.Prelude.{◌≡◌, ℕ, suc, zero, ◌+◌, ◌<◌, ◌≤◌, List, [], ◌∷◌, ◌++◌, length, map, take, drop, set, get_or, refl, ap, sym, ◌∙◌, arith, add-one, length-append, length-map, All-from_get_or, All-get_or, set-get_or, Option, Some, None, Text, FoundIn, KeptLine, AreFilled, line_text, all_of, seen_from, with_column, with_columns, FitColumns, next_column, FitsNext, chunks_of, Entry}
 use Rattle.line_chunks.proofs.lemmas.Sums.{chunks_of-set, chunk_at}
 
 -- nothing is put
@@ -57,8 +57,8 @@ module _ (es : List Entry) (cs : List (List KeptLine)) (k : ℕ) (old new : Entr
       columns_fit cs found k [] (omega (arith, h, many)) fit in
       let chunk : get_or (with_columns cs (take k found)) k [] ≡ old.chunk =
       sym (here ∙ ap (λ xs. get_or xs k []) is) in
-      subst (λ (xs : List (Option FoundIn)). FitsNext old.chunk xs) (sym left)
-      (subst (λ (xs : List KeptLine). FitsNext xs (drop k found)) chunk now)
+      rw left
+      (rw chunk at now)
 
   pub next_put : (found rest : List (Option FoundIn)) → chunks_of es ≡ with_columns cs (take k found)
       → length es ≡ length cs → rest ≡ drop k found → new.chunk ≡ next_column old.chunk rest

@@ -1,5 +1,5 @@
 -- Entries that are changed, removed or put in the place of others.
-use Rattle.line_chunks.proofs.Prelude.{◌≡◌, ℕ, suc, ◌+◌, ◌-◌, ◌^◌, ◌<◌, ◌≤◌, List, [], ◌∷◌, ◌++◌, length, take, drop, set, get_or, ap, sym, ◌∙◌, arith, length-append, add-one, subst, inl, inr, take_all, length-take, length-drop, map-append, set-get_or, length-set, take-append-le, take-take, take-append-drop, take-set-le, take_at, drop_at, drop_more, drop-set-lt, drop-append-add, All-append, All-cons, All-drop, All-nil, All-take, drop-map, drop_all, cases_lt, IfOk, OnErr, remove_range, Result, Ok, Err, Text, KeptLine, AreFilled, all_of, new_line, matched_count, IsPlace, chunks_of, AreSummed, IsSummedTo, Entry}
+use Rattle.line_chunks.proofs.Prelude.{◌≡◌, ℕ, suc, ◌+◌, ◌-◌, ◌^◌, ◌<◌, ◌≤◌, List, [], ◌∷◌, ◌++◌, length, take, drop, set, get_or, ap, sym, ◌∙◌, arith, length-append, add-one, inl, inr, take_all, length-take, length-drop, map-append, set-get_or, length-set, take-append-le, take-take, take-append-drop, take-set-le, take_at, drop_at, drop_more, drop-set-lt, drop-append-add, All-append, All-cons, All-drop, All-nil, All-take, drop-map, drop_all, cases_lt, IfOk, OnErr, remove_range, Result, Ok, Err, Text, KeptLine, AreFilled, all_of, new_line, matched_count, IsPlace, chunks_of, AreSummed, IsSummedTo, Entry}
 use Rattle.line_chunks.proofs.lemmas.Joins.{joined_more, size_suc, all_taken, seams_in_order, put_in}
 use Rattle.line_chunks.proofs.lemmas.Sums.{chunks_of-set, chunks_of-take, length-chunks_of, chunk_at, summed_to, summed_all, summed_set, summed_take, end_suc, hits_suc, matched-append, summed_push}
 
@@ -63,7 +63,7 @@ module _ (es : List Entry) (k : ℕ) (old new : Entry) (text : Text) (h : k + 1 
       → IfOk result (λ _. new ≡ record { chunk = old.chunk ++ new_line text ∷ []; end = old.end + 1; hits = old.hits })
       → OnErr result (new ≡ old) → AreSummed 0 0 (set es k new)
   add_summed (Ok a) is same = one_more is
-  add_summed (Err a) is same = subst (λ (xs : List Entry). AreSummed 0 0 xs) (sym (same_again same)) s
+  add_summed (Err a) is same = rw (same_again same) s
 
   pub add_ok : {T E : Type 0} (result : Result T E)
       → IfOk result (λ _. new ≡ record { chunk = old.chunk ++ new_line text ∷ []; end = old.end + 1; hits = old.hits })
@@ -101,8 +101,8 @@ chunks_of-set_at es k from to old new h read is =
 pub filled_beside : (cs new : List (List KeptLine)) (k : ℕ) (lines : List KeptLine) → new ≡ set cs k lines
     → AreFilled cs → AreFilled (take k new) × AreFilled (drop (k + 2) new)
 filled_beside cs new k lines is filled = (
-  subst AreFilled (sym (ap (take k) is ∙ take-set-le k cs k lines (omega arith))) (All-take (λ xs. 1 ≤ length xs) k cs filled),
-  subst AreFilled (sym (ap (drop (k + 2)) is ∙ drop-set-lt (k + 2) cs k lines (omega arith))) (All-drop (λ xs. 1 ≤ length xs) (k + 2) cs filled),
+  rw (ap (take k) is ∙ take-set-le k cs k lines (omega arith)) (All-take (λ xs. 1 ≤ length xs) k cs filled),
+  rw (ap (drop (k + 2)) is ∙ drop-set-lt (k + 2) cs k lines (omega arith)) (All-drop (λ xs. 1 ≤ length xs) (k + 2) cs filled),
 )
 
 -- lines were removed from two chunks, and those between
@@ -112,37 +112,37 @@ pub filled_around : (cs new : List (List KeptLine)) (k last : ℕ) (xs ys : List
 filled_around cs new k last xs ys inside is filled =
     let many : length (take k cs) ≡ k = omega (arith, length-take k cs, inside) in
     let rest : List (List KeptLine) = xs ∷ ys ∷ drop (last + 1) cs in (
-      subst AreFilled (sym (ap (take k) is ∙ take_at (take k cs) rest k many)) (All-take (λ zs. 1 ≤ length zs) k cs filled),
-      subst AreFilled (sym (ap (drop (k + 2)) is ∙ ap (λ n. drop (n + 2) (take k cs ++ rest)) (sym many) ∙ drop-append-add (take k cs) rest 2)) (All-drop (λ zs. 1 ≤ length zs) (last + 1) cs filled),
+      rw (ap (take k) is ∙ take_at (take k cs) rest k many) (All-take (λ zs. 1 ≤ length zs) k cs filled),
+      rw (ap (drop (k + 2)) is ∙ ap (λ n. drop (n + 2) (take k cs ++ rest)) (sym many) ∙ drop-append-add (take k cs) rest 2) (All-drop (λ zs. 1 ≤ length zs) (last + 1) cs filled),
     )
 
 -- all before a chunk and from it on are filled
 pub filled_both : (cs : List (List KeptLine)) (k : ℕ) → AreFilled (take k cs) → AreFilled (drop k cs) → AreFilled cs
 filled_both cs k before after =
-    subst AreFilled (take-append-drop k cs) (All-append (λ xs. 1 ≤ length xs) (take k cs) (drop k cs) before after)
+    rw (take-append-drop k cs) at (All-append (λ xs. 1 ≤ length xs) (take k cs) (drop k cs) before after)
 
 -- chunk `k`, if it has no line, is the only one left
 module _ (cs : List (List KeptLine)) (k n : ℕ) (order : n ≤ k) (before : AreFilled (take n cs))
     (after : AreFilled (drop (k + 1) cs)) where
   pub none_at : length cs ≤ k → AreFilled (take n cs) × AreFilled (drop k cs)
-  none_at past = (before, subst AreFilled (sym (drop_all k cs past)) (All-nil (λ xs. 1 ≤ length xs)))
+  none_at past = (before, rw (drop_all k cs past) (All-nil (λ xs. 1 ≤ length xs)))
 
   pub some_at : k < length cs → 1 ≤ length (get_or cs k []) → AreFilled (take n cs) × AreFilled (drop k cs)
-  some_at inside some = (before, subst AreFilled (sym (drop_more cs k [] inside)) (All-cons (λ xs. 1 ≤ length xs) (get_or cs k []) (drop (k + 1) cs) some after))
+  some_at inside some = (before, rw (drop_more cs k [] inside) (All-cons (λ xs. 1 ≤ length xs) (get_or cs k []) (drop (k + 1) cs) some after))
 
   pub dropped_at : k < length cs → (new : List (List KeptLine)) → new ≡ remove_range cs k (k + 1)
       → AreFilled (take n new) × AreFilled (drop k new)
   dropped_at inside new is =
       let many : length (take k cs) ≡ k = omega (arith, length-take k cs, inside) in (
-        subst AreFilled (sym (ap (take n) is ∙ take-append-le n (take k cs) (drop (k + 1) cs) (omega (arith, many, order)) ∙ take-take n k cs order)) before,
-        subst AreFilled (sym (ap (drop k) is ∙ drop_at (take k cs) (drop (k + 1) cs) k many)) after,
+        rw (ap (take n) is ∙ take-append-le n (take k cs) (drop (k + 1) cs) (omega (arith, many, order)) ∙ take-take n k cs order) before,
+        rw (ap (drop k) is ∙ drop_at (take k cs) (drop (k + 1) cs) k many) after,
       )
 
 -- ---- seams that were found in a slice of the entries
 
 pub seam_in : (ds es : List Entry) (place k i : ℕ) → ds ≡ es → IsPlace (chunks_of ds) place k i
     → IsPlace (chunks_of es) place k i
-seam_in ds es place k i e h = subst (λ (xs : List Entry). IsPlace (chunks_of xs) place k i) e h
+seam_in ds es place k i e h = rw e at h
 
 pub seam_order : (ds fs es : List Entry) (start count k i l j : ℕ) → ds ≡ es → fs ≡ es
     → IsPlace (chunks_of ds) start k i → IsPlace (chunks_of fs) (start + count) l j → (start ≡ 0 → k ≡ 0)
@@ -203,7 +203,7 @@ module _ (es new fresh : List Entry) (lines : List KeptLine) (start count first 
       take-take first first es (omega arith) in
       record {
         within = omega (arith, size, more, enough);
-        summed = subst (λ (xs : List Entry). AreSummed 0 0 xs) (sym same) (summed_take 0 0 first es s);
+        summed = rw same (summed_take 0 0 first es s);
       }
 
   pub put_few : start + count ≤ length (all_of (chunks_of es))
@@ -224,7 +224,7 @@ module _ (es new fresh : List Entry) (lines : List KeptLine) (start count first 
 
   pub put_filled : AreFilled (chunks_of fresh) → AreFilled (chunks_of es) → AreFilled (chunks_of new)
   put_filled own filled =
-      subst AreFilled (sym (chunks_put es new fresh first end is))
+      rw (chunks_put es new fresh first end is)
       (All-append (λ xs. 1 ≤ length xs) (take first (chunks_of es)) (chunks_of fresh ++ drop end (chunks_of es))
       (All-take (λ xs. 1 ≤ length xs) first (chunks_of es) filled)
       (All-append (λ xs. 1 ≤ length xs) (chunks_of fresh) (drop end (chunks_of es)) own
@@ -265,6 +265,6 @@ module _ (es new : List Entry) (lines hits : ℕ) (empty chunk : List KeptLine) 
       let all_hits = ap (λ cs. matched_count (all_of cs)) whole in
       let size = ap length one_line in
       let ones = ap matched_count one_line in
-      subst (λ (xs : List Entry). AreSummed 0 0 xs) (sym is)
+      rw is
       (summed_push 0 0 es (record { chunk = chunk; end = lines + 1; hits = hits }) s
       (omega (arith, lines_are, end, all, size)) (omega (arith, hits_are, matched, all_hits, ones)))

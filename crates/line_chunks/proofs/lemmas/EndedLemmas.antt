@@ -1,5 +1,5 @@
 -- Lines with their newlines, and what is found in them.
-use Rattle.line_chunks.proofs.Prelude.{◌≡◌, ℕ, ◌+◌, ◌-◌, ◌<◌, ◌≤◌, List, [], ◌∷◌, ◌++◌, All, length, map, take, drop, get_or, refl, ap, sym, subst, ◌∙◌, arith, length-append, append_assoc, inl, inr, cases_lt, take_at, take-append-le, take_all, drop_all, append-nil, take-map, drop-map, map-append, All-head, All-map, All-tail, All-take, All-drop, All-append, All-push, Text, newline, terminated, HasNoNewline, FoundIn, KeptLine, line_text, seen, all_items, bare, IsEnded}
+use Rattle.line_chunks.proofs.Prelude.{◌≡◌, ℕ, ◌+◌, ◌-◌, ◌<◌, ◌≤◌, List, [], ◌∷◌, ◌++◌, All, length, map, take, drop, get_or, refl, ap, sym, ◌∙◌, arith, length-append, append_assoc, inl, inr, cases_lt, take_at, take-append-le, take_all, drop_all, append-nil, take-map, drop-map, map-append, All-head, All-map, All-tail, All-take, All-drop, All-append, All-push, Text, newline, terminated, HasNoNewline, FoundIn, KeptLine, line_text, seen, all_items, bare, IsEnded}
 use Rattle.line_finds.proofs.lemmas.PieceLemmas.{drop-items, begins_in_order, one_longer}
 use Rattle.line_chunks.proofs.lemmas.SeenLaws.{texts_are}
 
@@ -29,7 +29,7 @@ module _ (lines : List Text) (found : FoundIn) {kept : List KeptLine} (view : se
       ap (λ texts. length (terminated texts)) (sym (take-map bare k lines) ∙ ap (take k) (texts_are lines found view))
 
   pub free : All HasNoNewline (map line_text kept)
-  free = subst (All HasNoNewline) (texts_are lines found view) (free_lines lines all)
+  free = rw (texts_are lines found view) at (free_lines lines all)
 
   -- the lines from line `k` on
   pub rest_is : (k : ℕ) → drop (length (all_items (take k lines))) (all_items lines) ≡ terminated (drop k (map line_text kept))
@@ -48,7 +48,7 @@ pub ended_more : (lines : List Text) (line : Text) → All IsEnded lines → Has
     → All IsEnded (lines ++ (line ++ newline ∷ []) ∷ [])
 ended_more lines line all free =
     All-push IsEnded lines (line ++ newline ∷ []) all
-    (subst HasNoNewline (sym (bare_line line)) free, ap (λ text. text ++ newline ∷ []) (sym (bare_line line)))
+    (rw (bare_line line) free, ap (λ text. text ++ newline ∷ []) (sym (bare_line line)))
 
 pub bare_more : (lines new : List Text) (line : Text) → new ≡ lines ++ (line ++ newline ∷ []) ∷ []
     → map bare new ≡ map bare lines ++ line ∷ []
@@ -58,7 +58,7 @@ bare_more lines new line is =
 pub ended_part : (lines new others : List Text) (from n : ℕ) → new ≡ lines ++ take n (drop from others)
     → All IsEnded lines → All IsEnded others → All IsEnded new
 ended_part lines new others from n is all more =
-    subst (All IsEnded) (sym is)
+    rw is
     (All-append IsEnded lines _ all (All-take IsEnded n _ (All-drop IsEnded from others more)))
 
 pub bare_part : (lines new others : List Text) (from n : ℕ) → new ≡ lines ++ take n (drop from others)
@@ -70,7 +70,7 @@ bare_part lines new others from n is =
 pub ended_without : (lines new : List Text) (from to : ℕ) → new ≡ take from lines ++ drop to lines
     → All IsEnded lines → All IsEnded new
 ended_without lines new from to is all =
-    subst (All IsEnded) (sym is)
+    rw is
     (All-append IsEnded _ _ (All-take IsEnded from lines all) (All-drop IsEnded to lines all))
 
 pub bare_without : (lines new : List Text) (from to : ℕ) → new ≡ take from lines ++ drop to lines

@@ -1,5 +1,5 @@
 -- Lines of several chunks.
-use Rattle.line_chunks.proofs.Prelude.{subst, ◌≡◌, ◌≢◌, ℕ, suc, zero, ◌+◌, ◌-◌, ◌<◌, ◌≤◌, List, [], ◌∷◌, ◌++◌, length, take, drop, set, get_or, refl, ap, sym, ◌∙◌, arith, length-append, append_assoc, add-one, nil_from_length, map-id, length-set, get_or-set_other, take_more_set, take-set-le, drop-set-lt, drop-set, append-nil, take-append-drop, take_more, get_or-append-add, get_or_append_left, take-append-le, drop-append-le, set_split, drop_all, take_all, drop-drop, Drains, into_iter_items, into_iter_len, into_iter_steps, IntoIter, KeptLine, all_of, IsPlace, items_from_drains, YieldsList-from_vec, take-add, take-append-add, drop-append-add}
+use Rattle.line_chunks.proofs.Prelude.{◌≡◌, ◌≢◌, ℕ, suc, zero, ◌+◌, ◌-◌, ◌<◌, ◌≤◌, List, [], ◌∷◌, ◌++◌, length, take, drop, set, get_or, refl, ap, sym, ◌∙◌, arith, length-append, append_assoc, add-one, nil_from_length, map-id, length-set, get_or-set_other, take_more_set, take-set-le, drop-set-lt, drop-set, append-nil, take-append-drop, take_more, get_or-append-add, get_or_append_left, take-append-le, drop-append-le, set_split, drop_all, take_all, drop-drop, Drains, into_iter_items, into_iter_len, into_iter_steps, IntoIter, KeptLine, all_of, IsPlace, items_from_drains, YieldsList-from_vec, take-add, take-append-add, drop-append-add}
 
 pub joined-append : (xs ys : List (List KeptLine)) → all_of (xs ++ ys) ≡ all_of xs ++ all_of ys
 joined-append [] ys = refl
@@ -80,7 +80,7 @@ place_here cs low high place before first last inside near is =
     let next : low < high = grind (arith, order) in
     let same : high ≡ low + 1 = omega arith in
     let more : place < length (all_of (take (low + 1) cs)) =
-    subst (λ (n : ℕ). place < length (all_of (take n cs))) same last in
+    rw same at last in
     let size = size_at cs low in (
       record {
         place_is = omega arith;

@@ -1,5 +1,5 @@
 -- Chunks that take more lines.
-use Rattle.line_chunks.proofs.Prelude.{◌≡◌, ℕ, ◌+◌, ◌-◌, ◌<◌, ◌≤◌, List, [], ◌∷◌, ◌++◌, length, take, drop, set, get_or, get_or_append_left, get_or-set_other, length-set, map, cases_lt, inl, inr, line_text, terminated, ap, sym, ◌∙◌, arith, append_assoc, append-nil, length-append, subst, take_more, take_all, map-append, All-get_or, All-nil, All-push, All-set, IfOk, Result, Ok, Err, KeptLine, AreFilled, AreFull, IsLastFull, all_of, AddsLines, chunks_of, Entry}
+use Rattle.line_chunks.proofs.Prelude.{◌≡◌, ℕ, ◌+◌, ◌-◌, ◌<◌, ◌≤◌, List, [], ◌∷◌, ◌++◌, length, take, drop, set, get_or, get_or_append_left, get_or-set_other, length-set, cases_lt, inl, inr, ap, sym, ◌∙◌, arith, append_assoc, append-nil, length-append, take_more, take_all, map-append, All-get_or, All-nil, All-push, All-set, IfOk, Result, Ok, Err, KeptLine, AreFilled, AreFull, IsLastFull, all_of, AddsLines, chunks_of, Entry}
 use Rattle.std.specs.Prelude.{◌*◌, ◌/◌}
 use Rattle.std.proofs.Math.Nat.{div-mul-le_self, lt-mul-div-succ, mul-le-mul_left, mul-le-mul_right}
 use Rattle.line_chunks.proofs.lemmas.Joins.{joined_push, joined_set_last, range_joined}
@@ -34,12 +34,11 @@ adds_chunk {limit} es new e empty lines new_is is none some last =
     record {
       all = ap (λ xs. all_of (chunks_of xs)) new_is ∙ lines_push es e ∙ ap (λ more. all_of (chunks_of es) ++ more) own;
       filled = λ old.
-          subst AreFilled (sym shape)
+          rw shape
           (All-push (λ xs. 1 ≤ length xs) (chunks_of es) e.chunk old (omega (arith, ap length own, some)));
       full = λ old k lt.
           let within : k < length (chunks_of es) = omega (arith, lt, ap length shape, length-append (chunks_of es) (e.chunk ∷ [])) in
-          subst (λ (lines : List KeptLine). limit ≤ length (terminated (map line_text lines)))
-          (sym (ap (λ cs. get_or cs k []) shape ∙ get_or_append_left (chunks_of es) (e.chunk ∷ []) [] k within))
+          rw (ap (λ cs. get_or cs k []) shape ∙ get_or_append_left (chunks_of es) (e.chunk ∷ []) [] k within)
           (elim (cases_lt (k + 1) (length (chunks_of es))) [
             | inl early ↦ old k early
             | inr late ↦ last k (omega (arith, late, within))
@@ -66,14 +65,13 @@ lines_extended (Ok a) es n old new more some many read is = λ limit. record {
       (let here : old.chunk ≡ get_or (chunks_of es) (n - 1) [] =
       ap (λ (e : Entry). e.chunk) read ∙ sym (chunk_at es (n - 1) old (omega arith)) in
       let least = All-get_or (λ xs. 1 ≤ length xs) (chunks_of es) (n - 1) [] (omega (arith, length-chunks_of es)) filled in
-      subst AreFilled (sym (chunks_of-set es (n - 1) new))
+      rw (chunks_of-set es (n - 1) new)
       (All-set (λ xs. 1 ≤ length xs) (chunks_of es) (n - 1) new.chunk
       (omega (arith, ap length is, length-append old.chunk more, ap length here, least)) filled));
   full = λ full k lt.
       let same = chunks_of-set es (n - 1) new in
       let size : k + 1 < length (chunks_of es) = omega (arith, lt, ap length same, length-set (chunks_of es) (n - 1) new.chunk) in
-      subst (λ (lines : List KeptLine). limit ≤ length (terminated (map line_text lines)))
-      (sym (ap (λ cs. get_or cs k []) same ∙ get_or-set_other (chunks_of es) (n - 1) k new.chunk [] (omega (arith, size, length-chunks_of es, many))))
+      rw (ap (λ cs. get_or cs k []) same ∙ get_or-set_other (chunks_of es) (n - 1) k new.chunk [] (omega (arith, size, length-chunks_of es, many)))
       (full k size);
 }
 lines_extended (Err a) es n old new more some many read is = tt
@@ -83,7 +81,7 @@ pub piece_next : {limit : ℕ} (start before now : List Entry) (xs : List KeptLi
     → AddsLines limit start (take (at - from) (drop from xs)) before → AddsLines limit before (take (to - at) (drop at xs)) now
     → AddsLines limit start (take (to - from) (drop from xs)) now
 piece_next {limit} start before now xs from at to le more is next =
-    subst (λ lines. AddsLines limit start lines now) (range_joined xs from at to le more) (adds_more start before now _ _ is next)
+    rw (range_joined xs from at to le more) at (adds_more start before now _ _ is next)
 
 -- one chunk more
 pub chunk_next : {limit : ℕ} (start before now es : List Entry) (i size : ℕ) (e : Entry) → i < length es
@@ -94,9 +92,8 @@ chunk_next {limit} start before now es i size e h read many is next =
     let whole : take (size - 0) (drop 0 e.chunk) ≡ e.chunk = take_all (size - 0) e.chunk (omega arith) in
     let more : take (i + 1) es ≡ take i es ++ e ∷ [] =
     take_more es i e h ∙ ap (λ one. take i es ++ one ∷ []) (sym read) in
-    subst (λ lines. AddsLines limit start lines now)
-    (ap (λ some. all_of (chunks_of (take i es)) ++ some) whole ∙
-    sym (ap (λ xs. all_of (chunks_of xs)) more ∙ lines_push (take i es) e))
+    rw (ap (λ some. all_of (chunks_of (take i es)) ++ some) whole ∙
+    sym (ap (λ xs. all_of (chunks_of xs)) more ∙ lines_push (take i es) e)) at
     (adds_more start before now _ _ is next)
 
 -- chunks of three parts
@@ -112,7 +109,7 @@ pub half_full : (bytes limit chunks share : ℕ) → 2 ≤ chunks → chunks ≤
 half_full bytes limit chunks share many few is =
     let q = bytes / limit in
     let low : q * limit ≤ bytes = div-mul-le_self bytes limit in
-    let high : bytes < chunks * share = subst (λ n. bytes < chunks * n) (sym is) (lt-mul-div-succ bytes (omega (arith, many))) in
+    let high : bytes < chunks * share = rw is (lt-mul-div-succ bytes (omega (arith, many))) in
     let more : chunks * share ≤ (q + 1) * share = mul-le-mul_right share few in
     let once : 1 * share ≤ q * share = mul-le-mul_right share (omega (arith, many, few)) in
     elim (cases_lt (2 * share) limit) [

@@ -1,5 +1,5 @@
 -- The sums of entries: what each says, and where they stay right.
-use Rattle.line_chunks.proofs.Prelude.{◌≡◌, ◌≢◌, ℕ, suc, zero, ◌+◌, ◌-◌, ◌^◌, ◌<◌, ◌≤◌, List, [], ◌∷◌, ◌++◌, length, take, set, get_or, ap, sym, ◌∙◌, arith, length-append, subst, length-set, take_more_set, take_more, take_all, length-map, map-set, take-map, get_or-map, length-take, map-set_same, KeptLine, no_line, all_of, matched_count, is_matched, IsPlace, Bool, if◌then◌else◌, chunks_of, AreSummed, IsSummedTo, Entry}
+use Rattle.line_chunks.proofs.Prelude.{◌≡◌, ◌≢◌, ℕ, suc, zero, ◌+◌, ◌-◌, ◌^◌, ◌<◌, ◌≤◌, List, [], ◌∷◌, ◌++◌, length, take, set, get_or, ap, sym, ◌∙◌, arith, length-append, length-set, take_more_set, take_more, take_all, length-map, map-set, take-map, get_or-map, length-take, map-set_same, KeptLine, no_line, all_of, matched_count, is_matched, IsPlace, Bool, if◌then◌else◌, chunks_of, AreSummed, IsSummedTo, Entry}
 use Rattle.line_chunks.proofs.lemmas.Joins.{begins_within, begins_in_order, line_of, size_at, take_seam}
 
 -- ---- matched lines
@@ -39,7 +39,7 @@ pub summed_to : (k : ℕ) (es : List Entry) → k ≤ length es → AreSummed 0 
 summed_to k es h s = record { within = h; summed = summed_take 0 0 k es s }
 
 pub summed_all : (k : ℕ) (es : List Entry) → length es ≤ k → IsSummedTo es k → AreSummed 0 0 es
-summed_all k es h s = subst (λ (xs : List Entry). AreSummed 0 0 xs) (take_all k es h) s.summed
+summed_all k es h s = rw (take_all k es h) at s.summed
 
 pub end_suc : (lines hits k : ℕ) (es : List Entry) (d : Entry) → k < length es
     → AreSummed lines hits (take (suc k) es)
@@ -96,7 +96,7 @@ summed_set es k e h s end_is hits_is =
     let many = length-set es k e in
     record {
       within = omega (arith, h, many);
-      summed = subst (λ (xs : List Entry). AreSummed 0 0 xs) (sym same) now;
+      summed = rw same now;
     }
 
 -- so is one whose chunk stays
@@ -113,7 +113,7 @@ pub lines_read : (es : List Entry) (k : ℕ) (d : Entry) → k ≢ 0 → k ≤ l
     → (get_or es (k - 1) d).end ≡ length (all_of (take k (chunks_of es)))
 lines_read es k d h le s =
     let same : suc (k - 1) ≡ k = one_less k h in
-    let read = end_suc 0 0 (k - 1) es d (omega arith) (subst (λ (n : ℕ). AreSummed 0 0 (take n es)) (sym same) s) in
+    let read = end_suc 0 0 (k - 1) es d (omega arith) (rw same s) in
     let all = ap (λ n. length (all_of (take n (chunks_of es)))) same in
     omega (arith, read, all)
 
@@ -121,7 +121,7 @@ pub hits_read : (es : List Entry) (k : ℕ) (d : Entry) → k ≢ 0 → k ≤ le
     → (get_or es (k - 1) d).hits ≡ matched_count (all_of (take k (chunks_of es)))
 hits_read es k d h le s =
     let same : suc (k - 1) ≡ k = one_less k h in
-    let read = hits_suc 0 0 (k - 1) es d (omega arith) (subst (λ (n : ℕ). AreSummed 0 0 (take n es)) (sym same) s) in
+    let read = hits_suc 0 0 (k - 1) es d (omega arith) (rw same s) in
     let all = ap (λ n. matched_count (all_of (take n (chunks_of es)))) same in
     omega (arith, read, all)
 

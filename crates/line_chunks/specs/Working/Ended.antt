@@ -1,5 +1,5 @@
 -- Lines with their newlines, as a chunk keeps them.
-use Rattle.std.specs.Prelude.{◌≡◌, ℕ, ◌-◌, [], ◌∷◌, ◌++◌, length, take}
+use Rattle.std.specs.Prelude.{◌≡◌, ◌-◌, [], ◌∷◌, ◌++◌, length, take}
 use Rattle.re_trees.specs.Bytes.{Text}
 use Rattle.re_trees.specs.Lines.{HasNoNewline, newline}
 

@@ -29,22 +29,22 @@ others x (y ∷ ys) none = (ne_eqb x y (none 0 (omega arith)), others x ys (λ j
 
 distinct : (xs : List ℕ) → ((i j : ℕ) → i < j → j < length xs → slice_index xs i ≡ slice_index xs j → ⊥) → IsDistinct eqb xs
 unfolding IsDistinct
-distinct [] apart = tt
+distinct [] _ = tt
 distinct (x ∷ xs) apart = (others x xs (λ j lt. apart 0 (suc j) (omega arith) (omega (arith, lt))), distinct xs (λ i j less lt. apart (suc i) (suc j) (omega (arith, less)) (omega (arith, lt))))
 
 below : (n : ℕ) (xs : List ℕ) → ((j : ℕ) → j < length xs → slice_index xs j < n) → (q : ℕ) → list_any (eqb q) xs ≡ true → q < n
-below n [] small q h = absurd (false≢true h)
+below n [] _ q h = absurd (false≢true h)
 below n (x ∷ xs) small q h = elim (eqb_tells q x) [
-  | inl same ↦ subst (λ y. y < n) (sym same.1) (small 0 (omega arith))
+  | inl same ↦ rw same.1 (small 0 (omega arith))
   | inr other ↦ below n xs (λ j lt. small (suc j) (omega (arith, lt))) q (rw other.0 at h)
 ]
 
 -- each piece has a position
 pub member : (row : List ℕ) → AreFull row → (i : ℕ) → i < length row → (q : ℕ) × In row (group_of (slice_index row i)) q
-member row full i lt = let (q, names) = full i lt in (q, (i, lt, refl, names))
+member _ full i lt = let (q, names) = full i lt in (q, (i, lt, refl, names))
 
 one_more : (x : ℕ) (xs : List ℕ) (q : ℕ) (qs : List ℕ) → Names x q → ((i : ℕ) → i < length xs → Names (slice_index xs i) (slice_index qs i)) → (i : ℕ) → i < suc (length xs) → Names (slice_index (x ∷ xs) i) (slice_index (q ∷ qs) i)
-one_more x xs q qs names rest zero lt = names
+one_more x _ q _ names _ zero _ = names
 one_more x xs q qs names rest (suc i) lt = rest i (omega (arith, lt))
 
 witnesses : (row : List ℕ) → AreFull row → (qs : List ℕ) × (length qs ≡ length row) × ((i : ℕ) → i < length row → Names (slice_index row i) (slice_index qs i))
@@ -57,7 +57,7 @@ few_pieces : (n : ℕ) {g : ℕ} {row : List ℕ} → AreMembers g row → ((j q
 few_pieces n {row = row} made small =
     let (qs, long, at) = witnesses row made.full in
     rw (← long) (length-le_from_distinct_below qs n
-    (distinct qs (λ i j less lt same. made.apart i j less (rw long at lt) _ (at i (omega (arith, less, lt, long))) (subst (Names (slice_index row j)) (sym same) (at j (rw long at lt)))))
+    (distinct qs (λ i j less lt same. made.apart i j less (rw long at lt) _ (at i (omega (arith, less, lt, long))) (rw same (at j (rw long at lt)))))
     (below n qs (λ j lt. small _ _ (j, rw long at lt, refl, at j (rw long at lt)))))
 
 -- one piece more
@@ -70,31 +70,31 @@ module _ (piece : ℕ) (row : List ℕ) where
 
   pub in_pushed : (j q : ℕ) → In (row ++ piece ∷ []) j q ↔ (In row j q ⊎ (j ≡ group_of piece) × Names piece q)
   in_pushed j q = (
-    (λ (i, lt, is, names). elim (end_cases row piece i lt) [
-      | inl (less, old) ↦ inl (i, less, ap group_of (sym old) ∙ is, subst (λ x. Names x q) old names)
-      | inr (last, value) ↦ inr (sym is ∙ ap group_of value, subst (λ x. Names x q) value names)
+    (λ (i, lt, is, names). elim (end_cases _ _ i lt) [
+      | inl (less, old) ↦ inl (i, less, ap group_of (sym old) ∙ is, rw old at names)
+      | inr (last, value) ↦ inr (sym is ∙ ap group_of value, rw value at names)
     ]),
     (λ h. elim h [
-      | inl (i, lt, is, names) ↦ (i, omega (arith, lt, long), ap group_of (at_old i lt) ∙ is, subst (λ x. Names x q) (sym (at_old i lt)) names)
-      | inr (same, names) ↦ let at_last = get_or-append_seam row piece [] 0 in (length row, omega (arith, long), ap group_of at_last ∙ sym same, subst (λ x. Names x q) (sym at_last) names)
+      | inl (i, lt, is, names) ↦ (i, omega (arith, lt, long), ap group_of (at_old i lt) ∙ is, rw (at_old i lt) names)
+      | inr (same, names) ↦ let at_last = get_or-append_seam row piece [] 0 in (length row, omega (arith, long), ap group_of at_last ∙ sym same, rw at_last names)
     ]),
   )
 
   module _ (made : AreMembers (group_of piece) row) (fresh : (j q : ℕ) → Names piece q → In row j q → ⊥) (some : (q : ℕ) × Names piece q) where
     pub pushed : AreMembers (group_of piece) (row ++ piece ∷ [])
     pushed = record {
-      in_turn = λ i j before lt. elim (end_cases row piece j lt) [
+      in_turn = λ i j before lt. elim (end_cases _ _ j lt) [
         | inl (old, b) ↦ let a = at_old i (omega (arith, before, old)) in let le = made.in_turn i j before old in omega (arith, a, b, le)
         | inr (last, value) ↦ let a = at_old i (omega (arith, before, last)) in let (q, here) = member row made.full i (omega (arith, before, last)) in let le = made.last _ q here in omega (arith, a, value, le)
       ];
       last = λ j q h. elim ((in_pushed j q).0 h) [ inl old ↦ made.last j q old | inr same ↦ omega (arith, same.0) ];
-      full = λ i lt. elim (end_cases row piece i lt) [
-        | inl (old, b) ↦ let (q, names) = made.full i old in (q, subst (λ x. Names x q) (sym b) names)
-        | inr (last, value) ↦ (some.0, subst (λ x. Names x some.0) (sym value) some.1)
+      full = λ i lt. elim (end_cases _ _ i lt) [
+        | inl (old, b) ↦ let (q, names) = made.full i old in (q, rw b names)
+        | inr (last, value) ↦ (some.0, rw value some.1)
       ];
-      apart = λ i j before lt q here there. elim (end_cases row piece j lt) [
-        | inl (old, b) ↦ made.apart i j before old q (subst (λ x. Names x q) (at_old i (omega (arith, before, old))) here) (subst (λ x. Names x q) b there)
-        | inr (last, value) ↦ let less : i < length row = omega (arith, before, last) in fresh _ q (subst (λ x. Names x q) value there) (i, less, refl, subst (λ x. Names x q) (at_old i less) here)
+      apart = λ i j before lt q here there. elim (end_cases _ _ j lt) [
+        | inl (old, b) ↦ made.apart i j before old q (rw (at_old i (omega (arith, before, old))) at here) (rw b at there)
+        | inr (last, value) ↦ let less : i < length row = omega (arith, before, last) in fresh _ q (rw value at there) (i, less, refl, rw (at_old i less) at here)
       ];
     }
 
@@ -128,10 +128,10 @@ module _ (piece : ℕ) where
   pub piece_members : (members k : ℕ) → k ≡ half_of piece / 2 → ((b : ℕ) → b < 64 → (bit_at members b ≡ 1) ↔ Names piece (half_of piece / 2 * 64 + b)) → (R : ℕ → Type 0) →
       ((b : ℕ) × (b < 64) × (bit_at members b ≡ 1) × R (k * 64 + b)) ↔ ((r : ℕ) × Names piece r × R r)
   piece_members members k word are R = (
-    (λ (b, lt, bit, holds). (k * 64 + b, subst (λ n. Names piece (n * 64 + b)) (sym word) ((are b lt).0 bit), holds)),
+    (λ (b, lt, bit, holds). (k * 64 + b, rw word ((are b lt).0 bit), holds)),
     (λ (r, names, holds).
         let at : r ≡ k * 64 + r % 64 = (let half = names.0 in omega (arith, word, half)) in
-        (r % 64, omega arith, (are (r % 64) (omega arith)).1 (subst (Names piece) (at ∙ ap (λ n. n * 64 + r % 64) word) names), subst R at holds)),
+        (r % 64, omega arith, (are (r % 64) (omega arith)).1 (rw (at ∙ ap (λ n. n * 64 + r % 64) word) at names), subst R at holds)),
   )
 
 -- the group, the half and the members of a piece
@@ -207,7 +207,7 @@ module _ (met left : List ℕ) (k : ℕ) where
   unfolding Has
   met_now room q = elim (cases_eq (q / 64) k) [
     | inl same ↦
-        let none : get_or (set met k 0) (q / 64) 0 ≡ 0 = subst (λ j. get_or (set met k 0) j 0 ≡ 0) (sym same) (get_or-set_same met k 0 0 room) in
+        let none : get_or (set met k 0) (q / 64) 0 ≡ 0 = rw same (get_or-set_same met k 0 0 room) in
         ((λ h. absurd (let zero = ap (λ x. bit_at x (q % 64)) none in omega (arith, h, zero, bit_at-zero (q % 64)))), (λ h. absurd (h.1 same)))
     | inr other ↦ let same = ap (λ x. bit_at x (q % 64)) (get_or-set_other met k (q / 64) 0 0 other) in ((λ h. (sym same ∙ h, other)), (λ h. same ∙ h.0))
   ]
@@ -218,9 +218,9 @@ module _ (met left : List ℕ) (k : ℕ) where
   left_now fits room q = elim (cases_eq (q / 64) k) [
     | inl same ↦
         let x = bit_and (get_or left k 0) (bit_not w64 (bit_and (get_or met k 0) (get_or left k 0))) in
-        let at : bit_at (get_or (set left k x) (q / 64) 0) (q % 64) ≡ bit_at x (q % 64) = ap (λ y. bit_at y (q % 64)) (subst (λ j. get_or (set left k x) j 0 ≡ x) (sym same) (get_or-set_same left k x 0 room)) in
-        let was : bit_at (get_or left (q / 64) 0) (q % 64) ≡ bit_at (get_or left k 0) (q % 64) = ap (λ j. bit_at (get_or left j 0) (q % 64)) same in
-        let other : bit_at (get_or met (q / 64) 0) (q % 64) ≡ bit_at (get_or met k 0) (q % 64) = ap (λ j. bit_at (get_or met j 0) (q % 64)) same in
+        let at : bit_at (get_or (set left k x) (q / 64) 0) (q % 64) ≡ bit_at x (q % 64) = ap (λ y. bit_at y (q % 64)) (rw same (get_or-set_same left k x 0 room)) in
+        let was = ap (λ j. bit_at (get_or left j 0) (q % 64)) same in
+        let other = ap (λ j. bit_at (get_or met j 0) (q % 64)) same in
         let both = bit_at_and (get_or left k 0) (bit_not w64 (bit_and (get_or met k 0) (get_or left k 0))) (q % 64) in
         let not = bit_at_not w64 (bit_and (get_or met k 0) (get_or left k 0)) (q % 64) fits (omega arith) in
         let word = bit_at_and (get_or met k 0) (get_or left k 0) (q % 64) in
@@ -252,7 +252,7 @@ few_groups row count turn groups = elim (cases_lt 0 count) [
         elim (cases_lt j i) [
           | inl before ↦ omega (arith, low, before)
           | inr after ↦ elim (cases_eq i j) [
-            | inl same ↦ absurd (let both : group_of (slice_index row i) ≡ group_of (slice_index row j) = ap (λ n. group_of (slice_index row n)) same in omega (arith, both, is, was))
+            | inl same ↦ absurd (let both = ap (λ n. group_of (slice_index row n)) same in omega (arith, both, is, was))
             | inr other ↦ absurd (let le = turn i j (omega (arith, after, other)) below in omega (arith, le, is, was))
           ]
         ]
@@ -275,10 +275,10 @@ module _ {b : Byte} {k : ℕ} {left kept row : List ℕ} (closed : IsClosed b k 
   small_in j q h = let less = (part_numbered b.e 0).takes q b.code (closed.members j q h).0 in omega (arith, less.1)
 
   pub few_closed : length row ≤ positions b.e
-  few_closed = few_pieces (positions b.e) closed.made_of small_in
+  few_closed = few_pieces _ closed.made_of small_in
 
   pub few_kept : length kept ≤ length row
-  few_kept = few_groups row (length kept) closed.made_of.in_turn closed.made
+  few_kept = few_groups _ _ closed.made_of.in_turn closed.made
 
 is_in : (set : List ℕ) (q : ℕ) → Has set q ⊎ (Has set q → ⊥)
 unfolding Has
@@ -304,13 +304,13 @@ module _ {b : Byte} {k : ℕ} {left kept row : List ℕ} (met left' : List ℕ) 
     grow = grow;
     below = below;
     members = λ j q h. elim ((added j q).0 h) [
-      | inl had ↦ let t = was.members j q had in (t.0, subst (λ x. CanEnd b x q) (sym (old j (in_kept j q had))) t.1)
-      | inr (same, m, l) ↦ ((was.ready q l).0, subst (λ x. CanEnd b x q) (sym (ap (slice_index kept') same ∙ last q (new q m l))) ((is q).0 m))
+      | inl had ↦ let t = was.members j q had in (t.0, rw (old j (in_kept j q had)) t.1)
+      | inr (same, m, l) ↦ ((was.ready q l).0, rw (ap (slice_index kept') same ∙ last q (new q m l)) ((is q).0 m))
     ];
     all = λ i q lt t can. elim (cases_lt i k) [
       | inl less ↦ let (j, le, here) = was.all i q less t can in (j, omega (arith, le, old j (in_kept j q here)), (added j q).1 (inl here))
       | inr ge ↦ elim (was.others q t) [
-        | inl l ↦ let here = new q ((is q).1 (subst (λ x. CanEnd b x q) (let same : i ≡ k = omega (arith, lt, ge) in same) can)) l in (length kept, omega (arith, last q here, ge), here)
+        | inl l ↦ let here = new q ((is q).1 (rw (let same : i ≡ k = omega (arith, lt, ge) in same) at can)) l in (length kept, omega (arith, last q here, ge), here)
         | inr (j, here) ↦ (j, (let less = was.below j (in_kept j q here) in omega (arith, less, ge, old j (in_kept j q here))), (added j q).1 (inl here))
       ]
     ];
@@ -327,14 +327,14 @@ module _ {b : Byte} {k : ℕ} {left kept row : List ℕ} (met left' : List ℕ) 
   pub closed_some : (q : ℕ) → In row' (length kept) q → IsClosed b (suc k) left' (kept ++ k ∷ []) row'
   closed_some p last =
       let old : (j : ℕ) → j < length kept → slice_index (kept ++ k ∷ []) j ≡ slice_index kept j = λ j lt. get_or_append_left kept (k ∷ []) 0 j lt in
-      closed_with (kept ++ k ∷ []) old (λ q h. get_or-append_seam kept k [] 0) (λ i j before lt. elim (end_cases kept k j lt) [
+      closed_with _ old (λ q h. get_or-append_seam kept k [] 0) (λ i j before lt. elim (end_cases kept k j lt) [
         | inl (less, at) ↦ let more = was.grow i j before less in omega (arith, more, old i (omega (arith, before, less)), at)
         | inr (same, at) ↦ let more = was.below i (omega (arith, before, same)) in omega (arith, more, at, old i (omega (arith, before, same)))
       ]) (λ j lt. elim (end_cases kept k j lt) [ inl (less, at) ↦ let more = was.below j less in omega (arith, more, at) | inr (same, at) ↦ omega (arith, at) ])
       (λ j. (
         (λ lt. elim (end_cases kept k j lt) [
           | inl (less, at) ↦ let (q, here) = (was.made j).0 less in (q, (added j q).1 (inl here))
-          | inr (same, at) ↦ (p, subst (λ n. In row' n p) (sym same) last)
+          | inr (same, at) ↦ (p, rw same last)
         ]),
         (λ (q, h). let le = made.last j q h in omega (arith, le, length-append kept (k ∷ []))),
       )) (record { in_turn = made.in_turn; last = λ j q h. (let le = made.last j q h in omega (arith, le, length-append kept (k ∷ []))); full = made.full; apart = made.apart })
@@ -376,11 +376,11 @@ module _ {b : Byte} {i group : ℕ} {range : WordRange} {groups : Groups} (m : A
         let here = m.reached i (omega arith) lt in
         elim (cases_lt i j) [
           | inl after ↦ let le = m.row.in_turn i j after less in omega (arith, here, other, le)
-          | inr last ↦ subst (λ n. group < group_of (slice_index b.after n)) (let same : i ≡ j = omega (arith, ge, last) in same) (omega (arith, here, other))
+          | inr last ↦ rw (← (let same : i ≡ j = omega (arith, ge, last) in same)) (omega (arith, here, other))
         ]
 
     pub below_count : group < b.count
-    below_count = let less = group_below _ _ (member b.after m.row.full i lt).1 in let more = later i (omega arith) lt in omega (arith, less, more)
+    below_count = let less = group_below _ _ (member _ m.row.full i lt).1 in let more = later i (omega arith) lt in omega (arith, less, more)
 
     pub turned : (now : Groups) → AreGroupsFor b.e now → ((q : ℕ) → Has now.met.items q → ⊥) → AreClosed b (suc group) now →
         AreMet b i (group_of (slice_index b.after i)) (record { first = 0; past = 0 }) now
@@ -393,20 +393,20 @@ module _ {b : Byte} {i group : ℕ} {range : WordRange} {groups : Groups} (m : A
       over = λ j before. let le = m.over j before in let more = later i (omega arith) lt in omega (arith, le, more);
       reached = λ j ge less. elim (cases_lt i j) [
         | inl after ↦ m.row.in_turn i j after less
-        | inr last ↦ subst (λ n. group_of (slice_index b.after i) ≤ group_of (slice_index b.after n)) (let same : i ≡ j = omega (arith, ge, last) in same) (omega arith)
+        | inr last ↦ rw (← (let same : i ≡ j = omega (arith, ge, last) in same)) (omega arith)
       ];
       met = λ q. ((λ h. absurd (none q h)), (λ (j, before, is, follow). absurd (let le = m.over j before in let more = later i (omega arith) lt in omega (arith, le, more, is))));
       closed = (
-        skip (group_of (slice_index b.after i)) closed.0 (let more = later i (omega arith) lt in more)
+        skip _ closed.0 (let more = later i (omega arith) lt in more)
             (λ k q low high can. elim can [
               | inl (r, follow, (j, less, is, at)) ↦ elim (cases_lt j i) [
                 | inl before ↦ let le = m.over j before in omega (arith, le, is, low)
                 | inr ge ↦ elim (cases_lt i j) [
                   | inl after ↦ let le = m.row.in_turn i j after less in omega (arith, le, is, high)
-                  | inr last ↦ let same : group_of (slice_index b.after i) ≡ group_of (slice_index b.after j) = ap (λ n. group_of (slice_index b.after n)) (let e : i ≡ j = omega (arith, ge, last) in e) in omega (arith, same, is, high)
+                  | inr last ↦ let same = ap (λ n. group_of (slice_index b.after n)) (let e : i ≡ j = omega (arith, ge, last) in e) in omega (arith, same, is, high)
                 ]
               ]
-              | inr (same, ends) ↦ let less = group_below _ _ (member b.after m.row.full i lt).1 in omega (arith, same, less, high)
+              | inr (same, ends) ↦ let less = group_below _ _ (member _ m.row.full i lt).1 in omega (arith, same, less, high)
             ]),
         closed.1,
       );
@@ -421,13 +421,13 @@ module _ {b : Byte} {i group : ℕ} {range : WordRange} {groups : Groups} (m : A
     count = m.count;
     within = omega (arith, lt);
     covers = covers;
-    over = λ j before. elim (cases_lt j i) [ inl less ↦ m.over j less | inr ge ↦ subst (λ n. group_of (slice_index b.after n) ≤ group) (let e : i ≡ j = omega (arith, before, ge) in e) (omega (arith, same)) ];
+    over = λ j before. elim (cases_lt j i) [ inl less ↦ m.over j less | inr ge ↦ rw (← (let e : i ≡ j = omega (arith, before, ge) in e)) (omega (arith, same)) ];
     reached = λ j ge less. m.reached j (omega (arith, ge)) less;
     met = λ q. (
       (λ h. elim ((added q).0 h) [ inl old ↦ let (j, before, is, follow) = (m.met q).0 old in (j, omega (arith, before), is, follow) | inr follow ↦ (i, omega arith, same, follow) ]),
       (λ (j, before, is, follow). (added q).1 (elim (cases_lt j i) [
         | inl less ↦ inl ((m.met q).1 (j, less, is, follow))
-        | inr ge ↦ inr (subst (λ n. (r : ℕ) × Names (slice_index b.after n) r × (part_of b.e 0).follow q r) (let e : j ≡ i = omega (arith, before, ge) in e) follow)
+        | inr ge ↦ inr (rw (let e : j ≡ i = omega (arith, before, ge) in e) at follow)
       ])),
     );
     closed = closed;

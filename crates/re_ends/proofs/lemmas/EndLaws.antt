@@ -1,5 +1,5 @@
 -- Greatest ends are what the chains say.
-use Rattle.re_ends.proofs.Prelude.{◌≡◌, ℕ, zero, suc, ◌+◌, ◌-◌, ◌<◌, ◌≤◌, inl, inr, ◌⊎◌, length, max, slice_index, refl, sym, subst, arith, cases_lt, ◌↔◌, Text, Expression, Part, is_begin, is_end, Reaches, PartHolds, part_of, Leads, LeadsPast, MatchesPast}
+use Rattle.re_ends.proofs.Prelude.{◌≡◌, ℕ, zero, suc, ◌+◌, ◌-◌, ◌<◌, ◌≤◌, inl, inr, ◌⊎◌, length, max, slice_index, refl, arith, cases_lt, ◌↔◌, Text, Expression, Part, is_begin, is_end, Reaches, PartHolds, part_of, Leads, LeadsPast, MatchesPast}
 use Rattle.re_auto.proofs.lemmas.Chains.{reaches_bounds}
 use Rattle.re_auto.proofs.lemmas.PositionsDecide.{positions_decide}
 
@@ -9,27 +9,27 @@ module _ (part : Part) (line : Text) where
       (f : ℕ) × part.first (is_begin i) f × Leads part line i (k - i + n) f
   from_first i k n q (t, inl (same, first)) leads =
       let far : k - i + n ≡ n = omega (arith, same) in
-      (q, subst (λ b. part.first (is_begin b) q) (sym same) first, subst (λ m. Leads part line i m q) (sym far) (subst (λ b. Leads part line b n q) (sym same) leads))
+      (q, rw same first, rw far (rw same leads))
   from_first i (suc k) n q (t, inr (p, r, w)) leads =
       let low = (reaches_bounds part line i (suc k) p r).0 in
       let (f, first, whole) = from_first i k (suc n) p r (taken_at i k p r, (q, w, leads)) in
       let far : k - i + suc n ≡ suc k - i + n = omega (arith, low) in
-      (f, first, subst (λ m. Leads part line i m f) far whole)
+      (f, first, rw far at whole)
     where
       taken_at : (i k p : ℕ) → Reaches part line i (suc k) p → (k < length line) × part.takes p (slice_index line k)
       taken_at i k p r = r.0
-  from_first i zero n q (t, inr (p, r, w)) leads = absurd r
+  from_first i zero n q (t, inr (p, r, w)) _ = absurd r
 
   -- a chain that has come to a position goes on to the end of one that goes on with it
   pub to_last : (i k n q : ℕ) → Reaches part line i (suc k) q → Leads part line k n q →
       (l : ℕ) × Reaches part line i (suc (k + n)) l × part.last (is_end line (suc (k + n))) l
   to_last i k zero q r leads =
       let far : k ≡ k + 0 = omega arith in
-      (q, subst (λ m. Reaches part line i (suc m) q) far r, subst (λ m. part.last (is_end line (suc m)) q) far leads.1)
+      (q, rw far at r, rw far at leads.1)
   to_last i k (suc n) q r (t, (s, w, leads)) =
       let (l, whole, last) = to_last i (suc k) n s (took k n s leads, inr (q, r, w)) leads in
       let far : suc k + n ≡ k + suc n = omega arith in
-      (l, subst (λ m. Reaches part line i (suc m) l) far whole, subst (λ m. part.last (is_end line (suc m)) l) far last)
+      (l, rw far at whole, rw far at last)
     where
       took : (k n s : ℕ) → Leads part line (suc k) n s → (suc k < length line) × part.takes s (slice_index line (suc k))
       took k zero s leads = leads.0

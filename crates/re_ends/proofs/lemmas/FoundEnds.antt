@@ -6,7 +6,7 @@ use Rattle.re_trees.proofs.lemmas.SomeOfJoined.{Any-single, Any-left, Any-right,
 
 -- what reaches past the same numbers adds the same ends
 pub adds_alike : (P Q : ℕ → ℕ → Type 0) (line : Text) (old new : List ℕ) → ((i m : ℕ) → i < length line → P i m ↔ Q i m) → AddsEnds P line old new → AddsEnds Q line old new
-adds_alike P Q line old new alike adds = (
+adds_alike P Q _ _ _ alike adds = (
   adds.0,
   λ i m lt. (
     λ h. elim ((adds.1 i m lt).0 h) [ inl o ↦ inl o | inr p ↦ inr ((alike i m lt).0 p) ],

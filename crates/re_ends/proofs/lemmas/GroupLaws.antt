@@ -1,5 +1,5 @@
 -- A step back on groups is right at each place of a line where they stand for its ends.
-use Rattle.re_ends.proofs.Prelude.{◌≡◌, ℕ, zero, suc, ◌+◌, ◌<◌, ◌≤◌, inl, inr, Bool, List, [], ◌∷◌, ◌++◌, length, length-append, slice_index, get_or_append_left, ap, sym, subst, ◌∙◌, refl, arith, cases_lt, ◌↔◌, Text, Expression, Part, part_of, is_end, Leads, LeadsPast}
+use Rattle.re_ends.proofs.Prelude.{◌≡◌, ℕ, zero, suc, ◌+◌, ◌<◌, ◌≤◌, inl, inr, Bool, List, [], ◌∷◌, ◌++◌, length, length-append, slice_index, get_or_append_left, ap, ◌∙◌, refl, arith, cases_lt, ◌↔◌, Text, Expression, Part, part_of, is_end, Leads, LeadsPast}
 use Rattle.std.proofs.lemmas.List.{get_or-map, length-map}
 use Rattle.std.proofs.Math.Seq.{get_or-append_seam}
 use Rattle.re_ends.specs.Working.GreatestEnds.{IsBorder}
@@ -16,13 +16,13 @@ as_many row a b these those = let low = no_more row a b these those in let high 
 pub no_less : (ends : List ℕ) (i k m : ℕ) → Fall ends → i ≤ k → k < length ends → m < slice_index ends k → m < slice_index ends i
 no_less ends i k m fall le lt past = elim (cases_lt i k) [
   | inl less ↦ let more = fall i k less lt in omega (arith, more, past)
-  | inr ge ↦ subst (λ j. m < slice_index ends j) (let same : k ≡ i = omega (arith, le, ge) in same) past
+  | inr ge ↦ rw (let same : k ≡ i = omega (arith, le, ge) in same) at past
 ]
 
 -- also without the place after them
 pub no_less_before : (ends : List ℕ) (p i k m : ℕ) → Fall (ends ++ p ∷ []) → i ≤ k → k < length ends → m < slice_index ends k → m < slice_index ends i
 no_less_before ends p i k m fall le lt past =
-    subst (λ y. m < y) (get_or_append_left ends (p ∷ []) 0 i (omega (arith, le, lt))) (no_less (ends ++ p ∷ []) i k m fall le (omega (arith, lt, length-append ends (p ∷ []))) (subst (λ y. m < y) (sym (get_or_append_left ends (p ∷ []) 0 k lt)) past))
+    rw (get_or_append_left ends (p ∷ []) 0 i (omega (arith, le, lt))) at (no_less _ i k m fall le (omega (arith, lt, length-append ends (p ∷ []))) (rw (get_or_append_left ends (p ∷ []) 0 k lt) past))
 
 module _ (part : Part) (line : Text) (p : ℕ) (at_end : Bool) (groups ends kept new now : List ℕ) (lt : p < length line) (is : at_end ≡ is_end line (suc p)) (step : IsStep part at_end groups (slice_index line p) kept new) (stand : StandAt part line (suc p) groups ends) (left : Leaves kept (ends ++ suc p ∷ []) now) where
   long : length now ≡ length kept
@@ -32,7 +32,7 @@ module _ (part : Part) (line : Text) (p : ℕ) (at_end : Bool) (groups ends kept
   all = length-append ends (suc p ∷ [])
 
   same_count : step.count ≡ length ends
-  same_count = as_many groups step.count (length ends) step.groups stand.groups
+  same_count = as_many _ _ _ step.groups stand.groups
 
   now_at : (j : ℕ) → j < length kept → (slice_index kept j < length (ends ++ suc p ∷ [])) × (slice_index now j ≡ slice_index (ends ++ suc p ∷ []) (slice_index kept j))
   now_at j less =
@@ -41,25 +41,25 @@ module _ (part : Part) (line : Text) (p : ℕ) (at_end : Bool) (groups ends kept
 
   -- what an end after the byte is past, an end that stays in its place or before it is
   past_on : (j k m : ℕ) → j < length kept → slice_index kept j ≤ k → k < length (ends ++ suc p ∷ []) → m < slice_index (ends ++ suc p ∷ []) k → m < slice_index now j
-  past_on j k m less le inside past = subst (λ y. m < y) (sym (now_at j less).1) (no_less (ends ++ suc p ∷ []) (slice_index kept j) k m stand.fall le inside past)
+  past_on j k m less le inside past = rw (now_at j less).1 (no_less _ _ k m stand.fall le inside past)
 
   from : (q m n : ℕ) → m ≤ p + n → Leads part line p n q → (k : ℕ) × In new k q × (m < slice_index now k)
   from q m zero le (takes, last) =
-      let (j, low, in_j) = step.all step.count q takes.1 (inr (refl, subst (λ b. part.last b q) (sym is) last)) in
-      (j, in_j, past_on j (length ends) m ((step.made j).1 (q, in_j)) (omega (arith, low, same_count)) (omega (arith, all)) (subst (λ y. m < y) (sym (get_or-append_seam ends (suc p) [] 0)) (omega (arith, le))))
+      let (j, low, in_j) = step.all step.count q takes.1 (inr (refl, rw is last)) in
+      (j, in_j, past_on j (length ends) m ((step.made j).1 (q, in_j)) (omega (arith, low, same_count)) (omega (arith, all)) (rw (get_or-append_seam ends (suc p) [] 0) (omega (arith, le))))
   from q m (suc n) le (takes, (r, follow, leads)) =
       let (k, in_k, past) = (stand.right r m).0 (n, omega (arith, le), leads) in
       let within = (stand.groups k).1 (r, in_k) in
       let (j, low, in_j) = step.all k q takes.1 (inl (r, follow, in_k)) in
-      (j, in_j, past_on j k m ((step.made j).1 (q, in_j)) low (omega (arith, within, all)) (subst (λ y. m < y) (sym (get_or_append_left ends (suc p ∷ []) 0 k within)) past))
+      (j, in_j, past_on j k m ((step.made j).1 (q, in_j)) low (omega (arith, within, all)) (rw (get_or_append_left ends (suc p ∷ []) 0 k within) past))
 
   to : (q m k : ℕ) → part.takes q (slice_index line p) → CanHave part at_end groups step.count (slice_index kept k) q → m < slice_index (ends ++ suc p ∷ []) (slice_index kept k) → LeadsPast part line p q m
   to q m k takes (inl (r, follow, in_k)) past =
-      let (n, le, leads) = (stand.right r m).1 (slice_index kept k, in_k, subst (λ y. m < y) (get_or_append_left ends (suc p ∷ []) 0 (slice_index kept k) ((stand.groups (slice_index kept k)).1 (r, in_k))) past) in (suc n, omega (arith, le), ((lt, takes), (r, follow, leads)))
+      let (n, le, leads) = (stand.right r m).1 (slice_index kept k, in_k, rw (get_or_append_left ends (suc p ∷ []) 0 (slice_index kept k) ((stand.groups (slice_index kept k)).1 (r, in_k))) at past) in (suc n, omega (arith, le), ((lt, takes), (r, follow, leads)))
   to q m k takes (inr (same, last)) past =
-      let end = subst (λ i. m < slice_index (ends ++ suc p ∷ []) i) (let at : slice_index kept k ≡ length ends = omega (arith, same, same_count) in at) past in
+      let end = rw (let at : slice_index kept k ≡ length ends = omega (arith, same, same_count) in at) at past in
       let seam = get_or-append_seam ends (suc p) [] 0 in
-      (0, omega (arith, end, seam), ((lt, takes), subst (λ b. part.last b q) is last))
+      (0, omega (arith, end, seam), ((lt, takes), rw is at last))
 
   falls : (j k : ℕ) → j < k → k < length (now ++ p ∷ []) → slice_index (now ++ p ∷ []) k < slice_index (now ++ p ∷ []) j
   falls j k less within = elim (end_cases now p k within) [
@@ -74,8 +74,8 @@ module _ (part : Part) (line : Text) (p : ℕ) (at_end : Bool) (groups ends kept
 
   pub steps_on : StandAt part line p new now
   steps_on = record {
-    right = λ q m. (λ (n, le, leads). from q m n le leads, λ (k, in_k, past). let (takes, can) = step.members k q in_k in to q m k takes can (subst (λ y. m < y) (now_at k ((step.made k).1 (q, in_k))).1 past));
-    groups = subst (HasGroups new) (sym long) step.made;
+    right = λ q m. (λ (n, le, leads). from q m n le leads, λ (k, in_k, past). let (takes, can) = step.members k q in_k in to q m k takes can (rw (now_at k ((step.made k).1 (q, in_k))).1 at past));
+    groups = rw long step.made;
     fall = falls;
   }
 
@@ -96,5 +96,5 @@ stand_begin e line p border = record {
 
 -- the first group with one of the same positions
 pub first_alike : (R S : ℕ → Type 0) (row : List ℕ) {number : ℕ} → ((q : ℕ) → R q ↔ S q) → IsFirstIn R row number → IsFirstIn S row number
-first_alike R S row alike (inl (none, not)) = inl (none, λ k q in_k s. not k q in_k ((alike q).1 s))
-first_alike R S row alike (inr (k, is, (q, in_k, r), least)) = inr (k, is, (q, in_k, (alike q).0 r), λ j q in_j s. least j q in_j ((alike q).1 s))
+first_alike R S _ alike (inl (none, not)) = inl (none, λ k q in_k s. not k q in_k ((alike q).1 s))
+first_alike R S _ alike (inr (k, is, (q, in_k, r), least)) = inr (k, is, (q, in_k, (alike q).0 r), λ j q in_j s. least j q in_j ((alike q).1 s))

@@ -1,5 +1,5 @@
 -- What is kept of steps stays right.
-use Rattle.re_ends.proofs.Prelude.{◌≡◌, ℕ, zero, suc, ◌+◌, ◌-◌, ◌*◌, ◌/◌, ◌<◌, ◌≤◌, inl, inr, ◌⊎◌, Bool, false, List, [], ◌∷◌, ◌++◌, length, length-append, get_or, get_or-set_same, get_or-set_other, set, length-set, replicate, slice_get, slice_index, nat_eq, Some, refl, sym, subst, ap, ◌∙◌, arith, cases_eq, Expression, part_of, positions}
+use Rattle.re_ends.proofs.Prelude.{◌≡◌, ℕ, zero, suc, ◌+◌, ◌-◌, ◌*◌, ◌/◌, ◌<◌, ◌≤◌, inl, inr, ◌⊎◌, Bool, false, List, [], ◌∷◌, ◌++◌, length, length-append, get_or, get_or-set_same, get_or-set_other, set, length-set, replicate, slice_get, slice_index, nat_eq, Some, refl, sym, ap, ◌∙◌, arith, cases_eq, Expression, part_of, positions}
 use Rattle.std.specs.Prelude.{Vec, vec_capacity, ◌^◌}
 use Rattle.std.specs.Global.{Global}
 use Rattle.std.specs.List.{range_with_len}
@@ -13,12 +13,12 @@ use Rattle.re_auto.specs.Working.StateSets.{TakenAlike}
 use Rattle.re_ends.specs.declared.kept.Step.{Step}
 use Rattle.re_ends.specs.declared.list.Run.{Run}
 use Rattle.re_ends.specs.Working.Groups.{IsRow, IsStep, numbers, numbers_of}
-use Rattle.re_ends.specs.Working.KeptSteps.{listed, unknown, no_step, AllRuns, Lists, Rows, IsOperation, AreLonger, IsRowOf, IsKeptStep, cell_at, AreClasses, AreRight}
+use Rattle.re_ends.specs.Working.KeptSteps.{listed, unknown, no_step, AllRuns, Lists, Rows, IsOperation, AreLonger, IsRowOf, IsKeptStep, AreClasses, AreRight}
 
 -- elements of a list that is longer by one
 pub get_left : {X : Type 0} (xs ys : List X) (k : ℕ) (x : X) → slice_get xs k ≡ Some x → slice_get (xs ++ ys) k ≡ Some x
 get_left [] ys k x is = cc
-get_left (y ∷ xs) ys zero x is = is
+get_left (y ∷ xs) _ zero x is = is
 get_left (y ∷ xs) ys (suc k) x is = get_left xs ys k x is
 
 pub get_last : {X : Type 0} (xs : List X) (y : X) → slice_get (xs ++ y ∷ []) (length xs) ≡ Some y
@@ -54,7 +54,7 @@ step_taken e alike s = record {
 
 -- lists after the others change no operation
 op_longer : (old new : AllRuns) {op : ℕ} {kept : List ℕ} → AreLonger old new → IsOperation old op kept → IsOperation new op kept
-op_longer old new {op} longer (first, rest) = (first, λ le. let (runs, is, same) = rest le in (runs, longer (op - 2 ^ 15) runs is, same))
+op_longer _ _ {op} longer (first, rest) = (first, λ le. let (runs, is, same) = rest le in (runs, longer (op - 2 ^ 15) runs is, same))
 
 -- runs that are not listed
 pub no_run : (lists : AllRuns) (runs : List Run) → length runs ≡ 0 → IsOperation lists 0 (numbers_of runs)
@@ -74,7 +74,7 @@ pub row_at : (width : ℕ) {rows : Lists} (number : ℕ) (list : Vec ℕ Global)
 row_at width number list later is same = record { number = number; list = list; row = refl; is = is; same = same; last = sym (ne_eqb number 0 (λ (none : number ≡ 0). omega (arith, none, later))) }
 
 no_more : {X : Type 0} (s : Step) → s ≡ no_step → s.op < unknown → X
-no_more s is held = absurd (let no : unknown < unknown = subst (λ (s : Step). s.op < unknown) is held in omega (arith, no))
+no_more s is held = absurd (let no = rw is at held in omega (arith, no))
 
 module _ {e : Expression} {known : Rows} (right : AreRight e known) where
   some_class : 0 < known.width
@@ -108,20 +108,20 @@ module _ {e : Expression} {known : Rows} (right : AreRight e known) where
     row_inside = let is = number_of in let lt = slice_get_within known.rows row.number row.list row.is in omega (arith, is, lt)
 
     pub row_is : IsRow (positions e) groups
-    row_is = subst (IsRow (positions e)) (sym row.same) (right.rows.rows row.number row.list row.is)
+    row_is = rw row.same (right.rows.rows row.number row.list row.is)
 
     -- the groups that are read of it
     pub row_read : (read : Vec ℕ Global) → read ≡ get_or known.rows (r / known.width) read → read.items ≡ groups
     row_read read is =
-        let same : read ≡ row.list = is ∙ get_or_from_slice_get known.rows (r / known.width) row.list read (subst (λ k. slice_get known.rows k ≡ Some row.list) (sym number_of) row.is) in
+        let same = is ∙ get_or_from_slice_get known.rows (r / known.width) row.list read (rw number_of row.is) in
         ap (λ v. v.items) same ∙ sym row.same
 
   -- a row and a class are known from a cell's place
   same_place : {r s a b : ℕ} {end last : Bool} {from of : List ℕ} → IsRowOf known.width known.rows r end from → IsRowOf known.width known.rows s last of → a < known.width → b < known.width → r + a ≡ s + b → (a ≡ b) × (from ≡ of) × (end ≡ last)
   same_place {a = a} {b = b} row other fits fits-2 is =
       let sum : row.number * known.width + a ≡ other.number * known.width + b = omega (arith, row.row, other.row, is) in
-      let number : row.number ≡ other.number = sym (div-mul-add row.number known.width a fits) ∙ ap (λ n. n / known.width) sum ∙ div-mul-add other.number known.width b fits-2 in
-      let both : Some row.list ≡ Some other.list = sym row.is ∙ ap (slice_get known.rows) number ∙ other.is in
+      let number = sym (div-mul-add row.number known.width a fits) ∙ ap (λ n. n / known.width) sum ∙ div-mul-add other.number known.width b fits-2 in
+      let both = sym row.is ∙ ap (slice_get known.rows) number ∙ other.is in
       (omega (arith, sum, ap (λ n. n * known.width) number), row.same ∙ ap (λ v. v.items) (some_same both) ∙ sym other.same, row.last ∙ ap (λ n. nat_eq n 0) number ∙ sym other.last)
 
   -- a row is added, without steps
@@ -131,16 +131,16 @@ module _ {e : Expression} {known : Rows} (right : AreRight e known) where
   right_more list cells groups filled small same none = record {
     rows = record {
       classes = right.rows.classes;
-      rows = λ k at is. elim (get_cases known.rows list k at is) [ inl h ↦ right.rows.rows k at h | inr h ↦ subst (λ (v : Vec ℕ Global). IsRow (positions e) v.items) h.1 groups ];
+      rows = λ k at is. elim (get_cases known.rows list k at is) [ inl h ↦ right.rows.rows k at h | inr h ↦ rw h.1 at groups ];
       begin = let (x, y, z, more, is, none, none-2, fits) = right.rows.begin in (x, y, z, more ++ list ∷ [], ap (λ l. l ++ list ∷ []) is, none, none-2, fits);
-      small = subst (λ n. n ≤ 2 ^ 30) count small;
+      small = rw count at small;
     };
-    filled = subst (λ n. n ≤ length cells) count filled;
+    filled = rw count at filled;
     kept = λ r end of c row low held. elim (get_cases known.rows list row.number row.list row.is) [
       | inl h ↦
           let before : IsRowOf known.width known.rows r end of = record { number = row.number; list = row.list; row = row.row; is = h; same = row.same; last = row.last } in
-          let is : get_or cells (r + slice_index known.classes c) no_step ≡ cell_at known r c = same (r + slice_index known.classes c) (cell_before before c low) in
-          subst (IsKeptStep (part_of e 0) known.width (known.rows ++ list ∷ []) known.lists end of c) (sym is) (longer (right.kept r end of c before low (subst (λ (s : Step). s.op < unknown) is held)))
+          let is = same (r + slice_index known.classes c) (cell_before before c low) in
+          rw is (longer (right.kept r end of c before low (rw is at held)))
       | inr h ↦ no_more (get_or cells (r + slice_index known.classes c) no_step) (none (r + slice_index known.classes c) (omega (arith, row.row, ap (λ n. n * known.width) h.0))) held
     ];
   }
@@ -150,14 +150,14 @@ module _ {e : Expression} {known : Rows} (right : AreRight e known) where
           let product : length known.rows * known.width + known.width ≡ (length known.rows + 1) * known.width = omega arith in product ∙ ap (λ n. n * known.width) (sym (length-append known.rows (list ∷ [])))
 
       longer : {end : Bool} {of : List ℕ} {c : ℕ} {step : Step} → IsKeptStep (part_of e 0) known.width known.rows known.lists end of c step → IsKeptStep (part_of e 0) known.width (known.rows ++ list ∷ []) known.lists end of c step
-      longer kept = record { into = kept.into; row = row_longer (list ∷ []) kept.row; kept = kept.kept; op = kept.op; count = kept.count; right = kept.right; inside = kept.inside }
+      longer kept = record { into = kept.into; row = row_longer _ kept.row; kept = kept.kept; op = kept.op; count = kept.count; right = kept.right; inside = kept.inside }
 
   -- lists come after the others
   pub right_lists : {lists : AllRuns} → AreLonger known.lists lists → AreRight e (record { classes = known.classes; width = known.width; rows = known.rows; cells = known.cells; lists = lists })
   right_lists {lists} longer = record { rows = right.rows; filled = right.filled; kept = λ r end groups c row low held. listed (right.kept r end groups c row low held) }
     where
       listed : {last : Bool} {groups : List ℕ} {c : ℕ} {s : Step} → IsKeptStep (part_of e 0) known.width known.rows known.lists last groups c s → IsKeptStep (part_of e 0) known.width known.rows lists last groups c s
-      listed kept = record { into = kept.into; row = kept.row; kept = kept.kept; op = op_longer known.lists lists longer kept.op; count = kept.count; right = kept.right; inside = kept.inside }
+      listed kept = record { into = kept.into; row = kept.row; kept = kept.kept; op = op_longer _ _ longer kept.op; count = kept.count; right = kept.right; inside = kept.inside }
 
   -- a step is kept
   pub right_put : {from byte : ℕ} {end : Bool} {of : List ℕ} {step : Step} → IsRowOf known.width known.rows from end of → byte < 256 → IsKeptStep (part_of e 0) known.width known.rows known.lists end of byte step
@@ -168,11 +168,11 @@ module _ {e : Expression} {known : Rows} (right : AreRight e known) where
     kept = λ r last groups c other low held. elim (cases_eq (r + slice_index known.classes c) put) [
       | inl same ↦
           let (class, is, ends) = same_place other row (right.rows.classes.classed c low) (right.rows.classes.classed byte small) same in
-          let here : get_or (set known.cells put step) (r + slice_index known.classes c) no_step ≡ step = ap (λ n. get_or (set known.cells put step) n no_step) same ∙ get_or-set_same known.cells put step no_step (cell_within row byte small) in
-          subst (IsKeptStep (part_of e 0) known.width known.rows known.lists last groups c) (sym here) (rw (ends, is) (taken (right.rows.classes.alike byte c small low (sym class))))
+          let here = ap (λ n. get_or (set known.cells put step) n no_step) same ∙ get_or-set_same known.cells put step no_step (cell_within row byte small) in
+          rw here (rw (ends, is) (taken (right.rows.classes.alike byte c small low (sym class))))
       | inr apart ↦
-          let there : get_or (set known.cells put step) (r + slice_index known.classes c) no_step ≡ cell_at known r c = get_or-set_other known.cells put (r + slice_index known.classes c) step no_step apart in
-          subst (IsKeptStep (part_of e 0) known.width known.rows known.lists last groups c) (sym there) (right.kept r last groups c other low (subst (λ (s : Step). s.op < unknown) there held))
+          let there = get_or-set_other known.cells put (r + slice_index known.classes c) step no_step apart in
+          rw there (right.kept r last groups c other low (rw there at held))
     ];
   }
     where
@@ -202,7 +202,7 @@ right_three {e} {classes} x y z lists {cells} are none none-2 row room filled bl
 }
   where
     each : (k : ℕ) (v : Vec ℕ Global) → slice_get (x ∷ y ∷ z ∷ []) k ≡ Some v → IsRow (positions e) v.items
-    each zero v is = rw (sym (some_same is), none) (no_groups (positions e))
-    each (suc zero) v is = rw (sym (some_same is), none-2) (no_groups (positions e))
-    each (suc (suc zero)) v is = subst (λ (v : Vec ℕ Global). IsRow (positions e) v.items) (some_same is) row
+    each zero v is = rw (sym (some_same is), none) (no_groups _)
+    each (suc zero) v is = rw (sym (some_same is), none-2) (no_groups _)
+    each (suc (suc zero)) v is = rw (some_same is) at row
     each (suc (suc (suc k))) v is = cc

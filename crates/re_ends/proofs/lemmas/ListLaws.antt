@@ -1,5 +1,5 @@
 -- Lists of ends, and which of them stay.
-use Rattle.re_ends.proofs.Prelude.{◌≡◌, ℕ, zero, suc, ◌+◌, ◌-◌, ◌<◌, ◌≤◌, inl, inr, ◌⊎◌, List, [], ◌∷◌, ◌++◌, get_or, length, length-append, slice_index, set, take, refl, sym, subst, ap, ◌∙◌, arith, cases_lt, get_or_append_left}
+use Rattle.re_ends.proofs.Prelude.{◌≡◌, ℕ, zero, suc, ◌+◌, ◌-◌, ◌<◌, ◌≤◌, inl, inr, ◌⊎◌, List, [], ◌∷◌, ◌++◌, get_or, length, length-append, slice_index, set, take, refl, sym, ap, ◌∙◌, arith, cases_lt, get_or_append_left}
 use Rattle.std.specs.List.{range_with_len, CopiedTo, SameBelow, SameFrom}
 use Rattle.std.proofs.Common.{append_assoc, append-nil}
 use Rattle.std.proofs.lemmas.Grind.{flat_map-append}
@@ -15,7 +15,7 @@ use Rattle.re_ends.specs.Working.Groups.{Grow, numbers, numbers_of}
 pub end_cases : (ends : List ℕ) (place n : ℕ) → n < length (ends ++ place ∷ []) → ((n < length ends) × (slice_index (ends ++ place ∷ []) n ≡ slice_index ends n)) ⊎ ((n ≡ length ends) × (slice_index (ends ++ place ∷ []) n ≡ place))
 end_cases ends place n lt = elim (cases_lt n (length ends)) [
   | inl less ↦ inl (less, get_or_append_left ends (place ∷ []) 0 n less)
-  | inr ge ↦ let same : length ends ≡ n = omega (arith, lt, ge, length-append ends (place ∷ [])) in inr (sym same, subst (λ k. slice_index (ends ++ place ∷ []) k ≡ place) same (get_or-append_seam ends place [] 0))
+  | inr ge ↦ let same : length ends ≡ n = omega (arith, lt, ge, length-append ends (place ∷ [])) in inr (sym same, rw same at (get_or-append_seam ends place [] 0))
 ]
 
 -- numbers that follow each other, of which none is over n

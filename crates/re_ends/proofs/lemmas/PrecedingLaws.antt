@@ -1,5 +1,5 @@
 -- Words of sets, and what comes right before their members.
-use Rattle.re_ends.proofs.Prelude.{◌≡◌, ℕ, ◌/◌, ◌%◌, ◌<◌, max, List, zero, suc, length, get_or, ◌⊎◌, inl, inr, ◌↔◌, sym, ap, ◌∙◌, subst, arith, cases_eq, cases_lt, get_or-set_other, get_or-set_same, set, ◌+◌, ◌*◌, ◌^◌, bit_at_or, bit_at-lt, bit_at-zero, bit_or, bit_at, WordRange, Has, Covers}
+use Rattle.re_ends.proofs.Prelude.{◌≡◌, ℕ, ◌/◌, ◌%◌, ◌<◌, List, zero, suc, length, get_or, ◌⊎◌, inl, inr, ◌↔◌, sym, ap, ◌∙◌, arith, cases_eq, cases_lt, get_or-set_other, get_or-set_same, set, ◌+◌, ◌*◌, ◌^◌, bit_at_or, bit_at-lt, bit_at-zero, bit_or, bit_at, WordRange, Has, Covers}
 use Rattle.std.specs.Int.{bit_not, w64}
 use Rattle.std.specs.Prelude.{bit_and}
 use Rattle.std.proofs.lemmas.Nat.{and_le_l}
@@ -11,8 +11,8 @@ pub word_added : (xs : List ℕ) (k word : ℕ) → k < length xs → (q : ℕ) 
 unfolding Has
 word_added xs k word room q = elim (cases_eq (q / 64) k) [
   | inl same ↦
-      let at : bit_at (get_or (set xs k (bit_or (get_or xs k 0) word)) (q / 64) 0) (q % 64) ≡ max (bit_at (get_or xs (q / 64) 0) (q % 64)) (bit_at word (q % 64)) =
-      ap (λ x. bit_at x (q % 64)) (subst (λ j. get_or (set xs k (bit_or (get_or xs k 0) word)) j 0 ≡ bit_or (get_or xs j 0) word) (sym same) (get_or-set_same xs k _ 0 room)) ∙ bit_at_or _ word (q % 64) in (
+      let at =
+      ap (λ x. bit_at x (q % 64)) (rw same (get_or-set_same xs k _ 0 room)) ∙ bit_at_or _ word (q % 64) in (
         (λ h. elim (one_of_max _ _ (bit_at-lt _ (q % 64)) (bit_at-lt word (q % 64)) (sym at ∙ h)) [ inl old ↦ inl old | inr new ↦ inr (same, new) ]),
         (λ h. elim h [ inl old ↦ omega (arith, at, old, bit_at-lt word (q % 64)) | inr (here, new) ↦ omega (arith, at, new, bit_at-lt (get_or xs (q / 64) 0) (q % 64)) ]),
       )
@@ -29,7 +29,7 @@ before_added xs k members room fits p =
       (λ h. elim (is.0 h) [
         | inl old ↦ inl old
         | inr (word, bit) ↦
-            let at : bit_at members (suc (p % 64)) ≡ 1 = bit_at-suc members (p % 64) ∙ bit in
+            let at = bit_at-suc members (p % 64) ∙ bit in
             elim (cases_lt (suc (p % 64)) 64) [
               | inl lt ↦ inr (suc (p % 64), lt, at, omega arith, omega (arith, word))
               | inr ge ↦ absurd (let none = bit_at_above members 64 (suc (p % 64)) fits ge in omega (arith, none, at))
@@ -37,7 +37,7 @@ before_added xs k members room fits p =
       ]),
       (λ h. elim h [
         | inl old ↦ is.1 (inl old)
-        | inr (b, lt, bit, some, same) ↦ is.1 (inr (omega (arith, lt, some, same), sym (bit_at-suc members (p % 64)) ∙ subst (λ n. bit_at members n ≡ 1) (let e : b ≡ suc (p % 64) = omega (arith, lt, some, same) in e) bit))
+        | inr (b, lt, bit, some, same) ↦ is.1 (inr (omega (arith, lt, some, same), sym (bit_at-suc members (p % 64)) ∙ rw (let e : b ≡ suc (p % 64) = omega (arith, lt, some, same) in e) at bit))
       ]),
     )
 
@@ -65,10 +65,10 @@ unfolding Has
 only_one set range p covers first past is q = (
   (λ h. let word : q / 64 ≡ p / 64 = (let at = covers.members q h in omega (arith, at.0, at.1, first, past)) in elim (cases_eq (q % 64) (p % 64)) [
     | inl same ↦ omega (arith, word, same)
-    | inr other ↦ absurd (let here : bit_at (get_or set (q / 64) 0) (q % 64) ≡ bit_at (1 * 2 ^ (p % 64) % 2 ^ 64) (q % 64) = ap (λ j. bit_at (get_or set j 0) (q % 64)) word ∙ ap (λ x. bit_at x (q % 64)) is in
+    | inr other ↦ absurd (let here = ap (λ j. bit_at (get_or set j 0) (q % 64)) word ∙ ap (λ x. bit_at x (q % 64)) is in
         omega (arith, h, here, bit_at_or 0 (1 * 2 ^ (p % 64) % 2 ^ 64) (q % 64), bit_at_set_other w64 0 (p % 64) (omega arith) (q % 64) other, bit_at-zero (q % 64), bit_at-lt (1 * 2 ^ (p % 64) % 2 ^ 64) (q % 64)))
   ]),
-  (λ same. subst (λ n. bit_at (get_or set (n / 64) 0) (n % 64) ≡ 1) (sym same) (let here = ap (λ x. bit_at x (p % 64)) is in omega (arith, here, bit_at_or 0 (1 * 2 ^ (p % 64) % 2 ^ 64) (p % 64), bit_at_set_same w64 0 (p % 64) (omega arith), bit_at-zero (p % 64), bit_at-lt (1 * 2 ^ (p % 64) % 2 ^ 64) (p % 64)))),
+  (λ same. rw same (let here = ap (λ x. bit_at x (p % 64)) is in omega (arith, here, bit_at_or 0 (1 * 2 ^ (p % 64) % 2 ^ 64) (p % 64), bit_at_set_same w64 0 (p % 64) (omega arith), bit_at-zero (p % 64), bit_at-lt (1 * 2 ^ (p % 64) % 2 ^ 64) (p % 64)))),
 )
 
 -- what a word has in common with one of a set is in the set

@@ -25,12 +25,12 @@ module _ (e : Expression) {line : Text} {p : ℕ} {groups ends : List ℕ} (stan
       back : (n : ℕ) → IsFirstIn ((part_of e 0).first (is_begin p)) groups n → (q : ℕ) × (part_of e 0).first (is_begin p) q × LeadsPast (part_of e 0) line p q m → m < end_of ends n
       back n is (q, first, leads) = let (k, in_k, past) = (stand.right q m).0 leads in elim is [
         | inl none ↦ absurd (none.1 k q in_k first)
-        | inr (j, at, some, least) ↦ subst (λ i. m < end_of ends i) (sym at) (no_less_before ends p j k m stand.fall (least k q in_k first) ((stand.groups k).1 (q, in_k)) past)
+        | inr (j, at, some, least) ↦ rw at (no_less_before ends p j k m stand.fall (least k q in_k first) ((stand.groups k).1 (q, in_k)) past)
       ]
 
   -- the place is given its end
   pub place_marked : (start end : ℕ) (old now new : List ℕ) → start ≤ p → p - start < length now → new ≡ set now (p - start) (max (slice_index now (p - start)) (end_of ends number)) → AddsFrom e line start end (suc p) old now → AddsFrom e line start end p old new
-  place_marked start end old now new low room put after = subst (AddsFrom e line start end p old) (sym put) (
+  place_marked start end old now new low room put after = rw put (
     length-set now (p - start) (max (slice_index now (p - start)) (end_of ends number)) ∙ after.0,
     λ i m inside. elim (cases_eq i (p - start)) [
       | inl at ↦
@@ -38,11 +38,11 @@ module _ (e : Expression) {line : Text} {p : ℕ} {groups ends : List ℕ} (stan
           let said = max_past (slice_index now i) (end_of ends number) m (get_or-set_at now (p - start) i _ 0 at room ∙ ap (λ k. max (slice_index now k) (end_of ends number)) (sym at)) in (
             (λ h. elim (said.0 h) [
               | inl had ↦ elim ((after.1 i m inside).0 had) [ inl o ↦ inl o | inr o ↦ absurd (omega (arith, o.0, here)) ]
-              | inr past ↦ inr (omega (arith, here), subst (λ k. MatchesPast e line k m) here ((past_end m).0 past))
+              | inr past ↦ inr (omega (arith, here), rw here at ((past_end m).0 past))
             ]),
-            (λ h. said.1 (elim h [ inl o ↦ inl ((after.1 i m inside).1 (inl o)) | inr o ↦ inr ((past_end m).1 (subst (λ k. MatchesPast e line k m) (sym here) o.1)) ])),
+            (λ h. said.1 (elim h [ inl o ↦ inl ((after.1 i m inside).1 (inl o)) | inr o ↦ inr ((past_end m).1 (rw here o.1)) ])),
           )
-      | inr other ↦ subst (λ y. (m < y) ↔ ((m < slice_index old i) ⊎ ((p ≤ start + i) × MatchesPast e line (start + i) m))) (sym (get_or-set_other now (p - start) i _ 0 other)) (
+      | inr other ↦ rw (get_or-set_other now (p - start) i _ 0 other) (
         (λ h. elim ((after.1 i m inside).0 h) [ inl o ↦ inl o | inr o ↦ inr (omega (arith, o.0), o.1) ]),
         (λ h. (after.1 i m inside).1 (elim h [ inl o ↦ inl o | inr o ↦ inr (omega (arith, o.0, other, low), o.1) ])),
       )
@@ -58,8 +58,8 @@ step_stands {e} {line} {steps} {ends} {groups} {kept} {into} new place {row} som
     record {
       within = omega (arith, lt);
       groups = into;
-      row = subst (λ b. IsRowIn steps row b into) (sym (ne_eqb (place - 1) (length line) (λ (same : place - 1 ≡ length line). omega (arith, same, lt)))) is;
-      stands = subst (λ n. IsStep (part_of e 0) (is_end line n) groups (slice_index line (place - 1)) kept into → StandAt (part_of e 0) line n groups ends → Leaves kept (ends ++ n ∷ []) new.ends → StandAt (part_of e 0) line (place - 1) into new.ends) one
+      row = rw (ne_eqb (place - 1) (length line) (λ (same : place - 1 ≡ length line). omega (arith, same, lt))) is;
+      stands = rw one at
           (steps_on (part_of e 0) line (place - 1) (is_end line (suc (place - 1))) groups ends kept into new.ends lt refl) step stand left;
     }
 
@@ -67,7 +67,7 @@ step_stands {e} {line} {steps} {ends} {groups} {kept} {into} new place {row} som
 pub step_fits : {n : ℕ} {part : Part} {at_end : Bool} {line : Text} {place c : ℕ} {groups kept into : List ℕ} (list : Ends) → IsRow n groups → IsStep part at_end groups c kept into → StandAt part line place groups list.ends → n < list.most → Fits kept list
 step_fits {groups = groups} list row step stand room =
     let same = as_many groups step.count (length list.ends) step.groups stand.groups in (
-      omega (arith, few_groups groups (length list.ends) row.in_turn stand.groups, row.few, room),
+      omega (arith, few_groups _ _ row.in_turn stand.groups, row.few, room),
       step.grow,
       λ k lt. let few = step.few k lt in omega (arith, few, same),
     )
@@ -75,7 +75,7 @@ step_fits {groups = groups} list row step stand room =
 -- a step that is kept
 module _ {e : Expression} {line : Text} {steps : KeptSteps} {list : Ends} {place row : ℕ} {step : Step} (right : AreStepsFor e steps) (at : IsAtRow e line steps list place row) (byte : slice_index line (place - 1) < 256) (is : step ≡ cell_at (rows_of steps) row (slice_index line (place - 1))) (held : step.op < unknown) where
   kept_step : IsKeptStep (part_of e 0) steps.width steps.rows.items steps.lists.items (is_end line place) at.groups (slice_index line (place - 1)) step
-  kept_step = subst (λ (s : Step). IsKeptStep (part_of e 0) steps.width steps.rows.items steps.lists.items (is_end line place) at.groups (slice_index line (place - 1)) s) (sym is) (right.kept row (is_end line place) at.groups (slice_index line (place - 1)) at.row byte (subst (λ (s : Step). s.op < unknown) is held))
+  kept_step = rw is (right.kept row (is_end line place) at.groups (slice_index line (place - 1)) at.row byte (rw is at held))
 
   pub kept_fits : positions e < list.most → (kept : List ℕ) × IsOperation steps.lists.items step.op kept × (length kept ≡ step.count) × Fits kept list
   kept_fits room = (kept_step.kept, kept_step.op, kept_step.count, step_fits _ (row_is right at.row) kept_step.right at.stands room)
@@ -88,8 +88,8 @@ module _ {e : Expression} {line : Text} {steps : KeptSteps} {list : Ends} {place
     pub walked_ends : (start end : ℕ) (old now next : List ℕ) → 1 < place → start < place → place - 1 - start < length now → next ≡ set now (place - 1 - start) (max (slice_index now (place - 1 - start)) (end_of new.ends step.inside)) → AddsFrom e line start end place old now → AddsFrom e line start end (place - 1) old next
     unfolding walked kept_step step_stands
     walked_ends start end old now next inside low room put after =
-        place_marked e walked.stands (subst (λ b. IsFirstIn ((part_of e 0).first b) walked.groups step.inside) (sym (ne_eqb (place - 1) 0 (λ (first : place - 1 ≡ 0). omega (arith, first, inside)))) kept_step.inside)
-        start end old now next (omega (arith, low)) room put (subst (λ n. AddsFrom e line start end n old now) (let one : place ≡ suc (place - 1) = omega (arith, some) in one) after)
+        place_marked e walked.stands (rw (ne_eqb (place - 1) 0 (λ (first : place - 1 ≡ 0). omega (arith, first, inside))) kept_step.inside)
+        start end old now next (omega (arith, low)) room put (rw (let one : place ≡ suc (place - 1) = omega (arith, some) in one) at after)
 
 -- the first stretch from a place before, where the ends of the places between are listed
 module _ (e : Expression) (line : Text) (stop place end : ℕ) (zeros ends : List ℕ) (seen found : Span) (low : stop ≤ place) (none : (i : ℕ) → slice_index zeros i ≡ 0) (added : AddsFrom e line stop place stop zeros ends) where
@@ -97,23 +97,23 @@ module _ (e : Expression) (line : Text) (stop place end : ℕ) (zeros ends : Lis
   said i m le lt =
       let here : stop + (i - stop) ≡ i = omega (arith, le) in
       let both = added.1 (i - stop) m (omega (arith, here, lt)) in (
-        (λ h. elim (both.0 h) [ inl had ↦ absurd (let gone = none (i - stop) in omega (arith, had, gone)) | inr o ↦ subst (λ k. MatchesPast e line k m) here o.1 ]),
-        (λ h. both.1 (inr (omega arith, subst (λ k. MatchesPast e line k m) (sym here) h))),
+        (λ h. elim (both.0 h) [ inl had ↦ absurd (let gone = none (i - stop) in omega (arith, had, gone)) | inr o ↦ rw here at o.1 ]),
+        (λ h. both.1 (inr (omega arith, rw here h))),
       )
 
   pub first_found : place ≤ end → (((found ≡ seen) × ((k : ℕ) → k < place - stop → slice_index ends k ≡ 0)) ⊎ ((k : ℕ) × (k < place - stop) × (0 < slice_index ends k) × (found ≡ record { start = stop + k; end = slice_index ends k }) × ((i : ℕ) → i < k → slice_index ends i ≡ 0)))
       → IsFirstFrom e line place end seen → IsFirstFrom e line stop end found
-  first_found ends_within (inl (same, gone)) was = subst (IsFirstFrom e line stop end) (sym same) (elim was [
+  first_found ends_within (inl (same, gone)) was = rw same (elim was [
     | inl nothing ↦ inl (nothing.0, λ i m le lt p. before i m le p (λ ge. nothing.1 i m ge lt p))
     | inr first ↦ let (some, (from, inside, longer, at, earlier)) = first in inr (some, (omega (arith, from, low), inside, longer, at, λ i m le lt p. before i m le p (λ ge. earlier i m ge lt p)))
   ])
     where
       before : (i m : ℕ) → stop ≤ i → MatchesPast e line i m → (place ≤ i → ⊥) → ⊥
       before i m le p late = elim (cases_lt i place) [ inl lt ↦ let past = (said i m le lt).1 p in let is = gone (i - stop) (omega (arith, le, lt)) in omega (arith, past, is) | inr ge ↦ late ge ]
-  first_found ends_within (inr (k, lt, some, is, gone)) was = subst (IsFirstFrom e line stop end) (sym is) (inr (some, (omega arith, omega (arith, lt, ends_within), longer, at, λ i m le less p. let past = (said i m le (omega (arith, less, lt))).1 p in let none = gone (i - stop) (omega (arith, le, less)) in omega (arith, past, none))))
+  first_found ends_within (inr (k, lt, some, is, gone)) was = rw is (inr (some, (omega arith, omega (arith, lt, ends_within), longer, at, λ i m le less p. let past = (said i m le (omega (arith, less, lt))).1 p in let none = gone (i - stop) (omega (arith, le, less)) in omega (arith, past, none))))
     where
       at : (m : ℕ) → (m < slice_index ends k) ↔ MatchesPast e line (stop + k) m
-      at m = subst (λ n. (m < slice_index ends n) ↔ MatchesPast e line (stop + k) m) (let same : stop + k - stop ≡ k = omega arith in same) (said (stop + k) m (omega arith) (omega (arith, lt)))
+      at m = rw (let same : stop + k - stop ≡ k = omega arith in same) at (said (stop + k) m (omega arith) (omega (arith, lt)))
 
       longer : stop + k < slice_index ends k
       longer = let (j, past, after, within_line, holds) = (at 0).0 some in (at (stop + k)).1 (j, after, after, within_line, holds)

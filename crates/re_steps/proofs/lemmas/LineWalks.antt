@@ -1,7 +1,7 @@
 -- Walks by held pairs over the lines of a block.
-use Rattle.re_steps.proofs.Prelude.{◌≡◌, ℕ, suc, ◌+◌, ◌-◌, ◌*◌, ◌/◌, ◌<◌, true, false, IsTrue, ◌↔◌, inl, inr, Some, [], ◌∷◌, ◌++◌, length, take, get_or, slice_get, slice_get-get_or, slice_index, slice_range, refl, sym, ap, ◌∙◌, subst, arith, false≢true, Text, HasNoNewline, newline, IsBlock, PassesUnmatched, Matches, Search, IsAccepting, StateSet, Acceptance, Stage, IsPlain, Searches, LineSearch, StepTable, Lines, GoesOverLines, IsAtOf, IsRightFor, IsRow, cache_of, cell_at, expression_in, limit, walked}
+use Rattle.re_steps.proofs.Prelude.{◌≡◌, ℕ, suc, ◌+◌, ◌-◌, ◌*◌, ◌/◌, ◌<◌, false, inl, inr, Some, [], ◌∷◌, ◌++◌, length, take, get_or, slice_get, slice_get-get_or, slice_index, slice_range, refl, sym, ap, ◌∙◌, subst, arith, false≢true, Text, HasNoNewline, newline, IsBlock, PassesUnmatched, Matches, Search, StateSet, Acceptance, Stage, IsPlain, Searches, LineSearch, StepTable, Lines, GoesOverLines, IsAtOf, IsRightFor, IsRow, cache_of, cell_at, expression_in, limit, walked}
 use Rattle.std.proofs.Common.{drop, append_assoc, append-nil, get_or-append-add, ◌≢◌}
-use Rattle.re_meter.specs.Meters.{fresh, many_reused}
+use Rattle.re_meter.specs.Meters.{fresh}
 use Rattle.std.proofs.lemmas.List.{length-append}
 use Rattle.std.proofs.lemmas.List.Elements.{All-push}
 use Rattle.re_trees.proofs.lemmas.LinesLaws.{none_in_empty}
@@ -46,7 +46,7 @@ module _ (asked : LineSearch) (t : StepTable) (right : IsRightFor asked t) (plai
         passed = goes.passed;
         low = omega (arith, low);
         within = more_follow block lines.place whole within other;
-        free = subst HasNoNewline (sym more) (All-push (λ b. b ≢ newline) front byte goes.free other);
+        free = rw more (All-push (λ b. b ≢ newline) front byte goes.free other);
         row = (on.into, on.row);
         comes = λ rest set steps is.
             let line = front ++ byte ∷ rest in
@@ -55,11 +55,11 @@ module _ (asked : LineSearch) (t : StepTable) (right : IsRightFor asked t) (plai
             let same : slice_index line j ≡ byte = ap (λ n. get_or line n 0) (sym long) ∙ get_or-append-add front (byte ∷ rest) 0 0 in
             let count : suc j ≡ lines.place + 1 - lines.start = omega (arith, low) in
             let there = comes_on right.sound line first (walked j steps) j lines.row (omega (arith, long, length-append front (byte ∷ rest))) (omega (arith, same, small))
-            (subst (λ b. cell_at t.classes.items t.pairs.cells lines.row b < limit) (sym same) below) (goes.comes (byte ∷ rest) set steps is) in
-            subst (λ l. IsAtOf asked l first t (walked (lines.place + 1 - lines.start) steps) (lines.place + 1 - lines.start) (cell_at t.classes.items t.pairs.cells lines.row byte)) (sym (ap (λ l. l ++ rest) more ∙ append_assoc front (byte ∷ []) rest))
+            (rw same below) (goes.comes (byte ∷ rest) set steps is) in
+            rw (ap (λ l. l ++ rest) more ∙ append_assoc front (byte ∷ []) rest)
             (subst (λ k. IsAtOf asked line first t (walked k steps) k (cell_at t.classes.items t.pairs.cells lines.row byte)) count
-            (subst (λ s. IsAtOf asked line first t s (suc j) (cell_at t.classes.items t.pairs.cells lines.row byte)) (walked_on j 1 (suc j) steps (omega arith))
-            (subst (λ b. IsAtOf asked line first t (many_reused 1 (walked j steps)) (suc j) (cell_at t.classes.items t.pairs.cells lines.row b)) same there)));
+            (rw (walked_on j 1 (suc j) steps (omega arith)) at
+            (rw same at there)));
       }
 
   pub marked : (r : ℕ) → IsRow t r → r / t.stride < length t.marks.items
@@ -80,7 +80,7 @@ module _ (asked : LineSearch) (t : StepTable) (right : IsRightFor asked t) (plai
       searched =
           let within = goes.within in
           let size = length_range block lines.start lines.place (omega (arith, within)) in
-          let came = subst (λ l. IsAtOf asked l first t (walked (lines.place - lines.start) fresh) (lines.place - lines.start) lines.row) (append-nil line) (goes.comes [] right.first.start fresh right.first.is_start) in
+          let came = rw (append-nil line) at (goes.comes [] right.first.start fresh right.first.is_start) in
           let says = mark_of_row right.sound lines.row came.set _ came.row (slice_get-get_or t.marks.items (lines.row / t.stride) none (marked lines.row goes.row)) in
           record {
             first = first;
@@ -92,12 +92,12 @@ module _ (asked : LineSearch) (t : StepTable) (right : IsRightFor asked t) (plai
               within = omega (arith, size);
               set = came.set;
               goes = came.goes;
-              decides = inr (inr (record { last = sym size; reported = subst (λ b. IsTrue b ↔ IsAccepting (expression_in asked) asked.mode came.set true) not says.at_end }));
+              decides = inr (inr (record { last = sym size; reported = rw not at says.at_end }));
             };
           }
 
       unmatched : ¬ Matches (expression_in asked) line false
-      unmatched m = false≢true ((searches_say false (subst (λ mode. Searches (expression_in asked) mode line (cache_of t) (cache_of t) fresh (walked (lines.place - lines.start) fresh) false) search searched)).1 m)
+      unmatched m = false≢true ((searches_say false (rw search at searched)).1 m)
 
       passed : PassesUnmatched (expression_in asked) false block (lines.place + 1)
       passed = passed_from (λ (line : Text). Matches (expression_in asked) line false) block lines.start lines.place (line_here block lines.start lines.place goes.low goes.within goes.free ends) goes.passed unmatched

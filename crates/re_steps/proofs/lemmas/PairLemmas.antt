@@ -6,13 +6,13 @@ use Rattle.lru.proofs.Pairs.{lookup-lookup_entry}
 -- what is said of all keys, at one place
 all_at : (P : ℕ → Type 0) (es : List (ℕ × ℕ)) (n : ℕ) (e : ℕ × ℕ) → AllByRecursion P (keys_of es) → slice_get es n ≡ Some e → P e.0
 all_at P [] n e all is = cc
-all_at P (x ∷ es) zero e all is = let same : x ≡ e = cc in subst (λ y. P y.0) same all.0
+all_at P (x ∷ es) zero e all is = let same : x ≡ e = cc in rw same at all.0
 all_at P (x ∷ es) (suc n) e all is = all_at P es n e all.1 is
 
 -- where a test fails at the last pair, a look-up among those before it finds the same
 other_stays : (test : ℕ → Bool) (es : List (ℕ × ℕ)) (n : ℕ) (e : ℕ × ℕ) → length es ≤ suc n → slice_get es n ≡ Some e → test e.0 ≡ false → lookup test (take n es) ≡ lookup test es
 other_stays test [] n e few is fails = cc
-other_stays test (x ∷ []) zero e few is fails = let same : x ≡ e = cc in let x_fails = subst (λ y. test y.0 ≡ false) (sym same) fails in rw x_fails refl
+other_stays test (x ∷ []) zero e few is fails = let same : x ≡ e = cc in let x_fails = rw (← same) at fails in rw x_fails refl
 other_stays test (x ∷ y ∷ es) zero e few is fails = absurd (omega (arith, few))
 other_stays test (x ∷ es) (suc n) e few is fails = ap (cond (test x.0) (Some x.1)) (other_stays test es n e (omega (arith, few)) is fails)
 
@@ -60,7 +60,7 @@ module _ (c : LruCache ℕ ℕ) (valid : IsValid nat_eq c) (cells : List ℕ) (m
 
   -- after it the cells show what is held again
   pub mirrors_lost : cell < unknown → (p v : ℕ) → displaced nat_eq c at cell ≡ Some (p, v) → Mirrors (put_entries nat_eq c at cell) (set (set cells p unknown) at cell)
-  mirrors_lost small p v is = subst (λ es. Mirrors es (set (set cells p unknown) at cell)) (sym puts) (record { shows = shows; within = inside })
+  mirrors_lost small p v is = rw puts (record { shows = shows; within = inside })
     where
       last : slice_get c.entries (c.cap - 1) ≡ Some (p, v)
       last = sym displaces ∙ is
@@ -70,7 +70,7 @@ module _ (c : LruCache ℕ ℕ) (valid : IsValid nat_eq c) (cells : List ℕ) (m
 
       shows : (k : ℕ) → k < length (set (set cells p unknown) at cell) → slice_index (set (set cells p unknown) at cell) k ≡ shown (lookup (nat_eq k) ((at, cell) ∷ take (c.cap - 1) c.entries))
       shows k lt = elim (cases_eq k at) [
-        | inl same ↦ subst (λ k. slice_index (set (set cells p unknown) at cell) k ≡ shown (lookup (nat_eq k) ((at, cell) ∷ take (c.cap - 1) c.entries))) (sym same)
+        | inl same ↦ rw same
             (rw (nat_eq_equiv.refl at) (get_or-set_same (set cells p unknown) at cell 0 (omega (arith, within, length-set cells p unknown))))
         | inr other ↦ elim (cases_eq k p) [
           | inl gone ↦ rw (get_or-set_other (set cells p unknown) at k cell 0 other, ne_eqb k at other)
@@ -88,14 +88,14 @@ module _ (c : LruCache ℕ ℕ) (valid : IsValid nat_eq c) (cells : List ℕ) (m
       inside : (k w : ℕ) → lookup (nat_eq k) ((at, cell) ∷ take (c.cap - 1) c.entries) ≡ Some w → (k < length (set (set cells p unknown) at cell)) × (w < unknown)
       inside k w is = elim (cases_eq k at) [
         | inl same ↦
-            let here : Some cell ≡ Some w = rw (nat_eq_equiv.refl at) at (subst (λ k. lookup (nat_eq k) ((at, cell) ∷ take (c.cap - 1) c.entries) ≡ Some w) same is) in
+            let here : Some cell ≡ Some w = rw (nat_eq_equiv.refl at) at (rw same at is) in
             let value : cell ≡ w = cc in
             (omega (arith, same, within, lens), omega (arith, small, value))
         | inr other ↦
             let there : lookup (nat_eq k) (take (c.cap - 1) c.entries) ≡ Some w = rw (ne_eqb k at other) at is in
             elim (cases_eq k p) [
               | inl gone ↦
-                  let none_left : None ≡ Some w = sym (last_goes c.entries (c.cap - 1) (p, v) valid.0 last) ∙ subst (λ k. lookup (nat_eq k) (take (c.cap - 1) c.entries) ≡ Some w) gone there in cc
+                  let none_left : None ≡ Some w = sym (last_goes c.entries (c.cap - 1) (p, v) valid.0 last) ∙ rw gone at there in cc
               | inr stays ↦
                   let was = mirrors.within k w (sym (other_stays (nat_eq k) c.entries (c.cap - 1) (p, v) room last (ne_eqb k p stays)) ∙ there) in
                   (omega (arith, was.0, lens), was.1)
@@ -104,7 +104,7 @@ module _ (c : LruCache ℕ ℕ) (valid : IsValid nat_eq c) (cells : List ℕ) (m
 
   -- the same where none is pushed out
   pub mirrors_kept : cell < unknown → displaced nat_eq c at cell ≡ None → Mirrors (put_entries nat_eq c at cell) (set cells at cell)
-  mirrors_kept small is = subst (λ es. Mirrors es (set cells at cell)) (sym (puts ∙ ap (λ es. (at, cell) ∷ es) all)) (record { shows = shows; within = inside })
+  mirrors_kept small is = rw (puts ∙ ap (λ es. (at, cell) ∷ es) all) (record { shows = shows; within = inside })
     where
       short : length c.entries ≤ c.cap - 1
       short = past (slice_get_cases c.entries (c.cap - 1)).1
@@ -118,7 +118,7 @@ module _ (c : LruCache ℕ ℕ) (valid : IsValid nat_eq c) (cells : List ℕ) (m
 
       shows : (k : ℕ) → k < length (set cells at cell) → slice_index (set cells at cell) k ≡ shown (lookup (nat_eq k) ((at, cell) ∷ c.entries))
       shows k lt = elim (cases_eq k at) [
-        | inl same ↦ subst (λ k. slice_index (set cells at cell) k ≡ shown (lookup (nat_eq k) ((at, cell) ∷ c.entries))) (sym same)
+        | inl same ↦ rw same
             (rw (nat_eq_equiv.refl at) (get_or-set_same cells at cell 0 within))
         | inr other ↦ rw (get_or-set_other cells at k cell 0 other, ne_eqb k at other) (mirrors.shows k (omega (arith, lt, length-set cells at cell)))
       ]
@@ -126,7 +126,7 @@ module _ (c : LruCache ℕ ℕ) (valid : IsValid nat_eq c) (cells : List ℕ) (m
       inside : (k w : ℕ) → lookup (nat_eq k) ((at, cell) ∷ c.entries) ≡ Some w → (k < length (set cells at cell)) × (w < unknown)
       inside k w is = elim (cases_eq k at) [
         | inl same ↦
-            let here : Some cell ≡ Some w = rw (nat_eq_equiv.refl at) at (subst (λ k. lookup (nat_eq k) ((at, cell) ∷ c.entries) ≡ Some w) same is) in
+            let here : Some cell ≡ Some w = rw (nat_eq_equiv.refl at) at (rw same at is) in
             let value : cell ≡ w = cc in
             (omega (arith, same, within, length-set cells at cell), omega (arith, small, value))
         | inr other ↦

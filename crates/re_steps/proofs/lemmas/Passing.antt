@@ -1,5 +1,5 @@
 -- Places of a line at which no matched stretch ends, and the steps up to them.
-use Rattle.re_steps.proofs.Prelude.{◌≡◌, ℕ, zero, suc, ◌+◌, ◌<◌, ◌≤◌, Bool, true, false, IsTrue, ◌⊎◌, inl, inr, length, refl, sym, ◌∙◌, subst, arith, ◌↔◌, Text, Expression, Holds, Matches, Search, Whole, StateSet, PartHolds, part_of, is_begin, IsNowhere, StandsAt, EndsAt, NoneEndsBefore, false≢true}
+use Rattle.re_steps.proofs.Prelude.{◌≡◌, ℕ, zero, suc, ◌+◌, ◌<◌, ◌≤◌, Bool, true, false, IsTrue, ◌⊎◌, inl, inr, length, refl, sym, ◌∙◌, arith, ◌↔◌, Text, Expression, Holds, Matches, Search, Whole, StateSet, PartHolds, part_of, IsNowhere, StandsAt, EndsAt, NoneEndsBefore, false≢true}
 use Rattle.re_auto.proofs.lemmas.Chains.{not_at_begin, passes}
 use Rattle.re_auto.proofs.lemmas.PositionsDecide.{positions_decide}
 
@@ -8,7 +8,7 @@ pub none_more : (P : ℕ → Type 0) (place next : ℕ) → ((k : ℕ) → place
 none_more P place next none here k low high p =
     elim (before k high) [
       | inl early ↦ none k low early p
-      | inr same ↦ here (subst P same p)
+      | inr same ↦ here (rw same at p)
     ]
   where
     before : (k : ℕ) → k < next + 1 → (k < next) ⊎ (k ≡ next)
@@ -34,7 +34,7 @@ module _ (e : Expression) (line : Text) where
 
       back : (i j : ℕ) → j ≤ length line → Holds line e i j → IsTrue accepted
       back i j le h = elim (last j le) [
-        | inl same ↦ reported.1 (i, tt, subst (λ k. Holds line e i k) same h)
+        | inl same ↦ reported.1 (i, tt, rw same at h)
         | inr early ↦ absurd (none j early (i, tt, h))
       ]
 
@@ -55,7 +55,7 @@ module _ (e : Expression) (line : Text) where
       inside = positive j refl
         where
           positive : (k : ℕ) → j ≡ k → 0 < k
-          positive zero same = absurd (false≢true (sym nowhere.0 ∙ stands.0 ∙ subst (λ k. is_begin k ≡ true) (sym same) refl))
+          positive zero same = absurd (false≢true (sym nowhere.0 ∙ stands.0 ∙ rw same refl))
           positive (suc k) same = omega arith
 
       chain : PartHolds (part_of e 0) line 0 (length line) → ⊥

@@ -1,5 +1,5 @@
 -- What is known of sets stays right when a set or a cell is added.
-use Rattle.re_steps.proofs.Prelude.{◌≡◌, ℕ, zero, suc, ◌+◌, ◌-◌, ◌*◌, ◌/◌, ◌<◌, ◌≤◌, false, ◌⊎◌, inl, inr, List, [], ◌∷◌, ◌++◌, Some, length, length-append, slice_get, slice_index, get_or, replicate, refl, sym, ap, ◌∙◌, subst, arith, get_or-append_right, cases_eq, false≢true, get_or_append_left, get_or-replicate, length-replicate, div-mul-add, slice_get_within, get_or_from_slice_get, Expression, positions, Mode, Search, StateSet, Has, IsMadeFor, IsSame, IsNextSet, IsAccepting, TakenAlike, words_for, Acceptance, unknown, Mirrors, IsKeptOrLost, Rows, limit, AreSound, HasFirstRows, AreExtended, IsRowOf, IsMarkOf, IsCellOf, SaysNext, cell_at}
+use Rattle.re_steps.proofs.Prelude.{◌≡◌, ℕ, zero, suc, ◌+◌, ◌-◌, ◌*◌, ◌/◌, ◌<◌, ◌≤◌, false, ◌⊎◌, inl, inr, List, [], ◌∷◌, ◌++◌, Some, length, length-append, slice_get, slice_index, get_or, replicate, refl, sym, ap, ◌∙◌, arith, get_or-append_right, cases_eq, false≢true, get_or_append_left, get_or-replicate, length-replicate, div-mul-add, slice_get_within, get_or_from_slice_get, Expression, Mode, Search, StateSet, IsMadeFor, IsSame, IsNextSet, IsAccepting, TakenAlike, Acceptance, unknown, Mirrors, IsKeptOrLost, Rows, limit, AreSound, HasFirstRows, AreExtended, IsRowOf, IsMarkOf, IsCellOf, SaysNext, cell_at}
 use Rattle.re_auto.proofs.lemmas.RowLemmas.{row_within}
 use Rattle.re_steps.proofs.lemmas.StageLaws.{same_sym, next_same}
 
@@ -21,7 +21,7 @@ get_cases (z ∷ xs) y (suc k) x is = elim (get_cases xs y k x is) [ inl h ↦ i
 
 -- a set that is the same was made for the same automaton
 pub made_same : (e : Expression) (set same : StateSet) → IsSame same set → IsMadeFor e set → IsMadeFor e same
-made_same e set same is made = subst (λ words. (length words ≡ words_for (positions e)) × ((q : ℕ) → Has words q → q < positions e)) (sym is.0) made
+made_same e set same is made = rw is.0 made
 
 -- bytes that the same positions take lead to the same sets
 next_alike : (e : Expression) (mode : Mode) (from into : StateSet) (b c : ℕ) → TakenAlike e b c → IsNextSet e mode from b into → IsNextSet e mode from c into
@@ -36,8 +36,8 @@ module _ (e : Expression) (mode : Mode) (sets : List StateSet) (stride : ℕ) wh
   -- the same cell for a byte that the same positions take
   says_alike : (from : StateSet) (b c cell : ℕ) → TakenAlike e b c → SaysNext e mode sets stride from b cell → SaysNext e mode sets stride from c cell
   says_alike from b c cell alike t = record {
-    plain = λ low. let on = t.plain low in record { into = on.into; row = on.row; next = next_alike e mode from on.into b c alike on.next; plain = on.plain };
-    special = λ high low. let on = t.special high low in record { into = on.into; row = on.row; next = next_alike e mode from on.into b c alike on.next; search = on.search; accepting = on.accepting };
+    plain = λ low. let on = t.plain low in record { into = on.into; row = on.row; next = next_alike e _ _ _ b c alike on.next; plain = on.plain };
+    special = λ high low. let on = t.special high low in record { into = on.into; row = on.row; next = next_alike e _ _ _ b c alike on.next; search = on.search; accepting = on.accepting };
   }
 
   -- the cell of a set by its number and its mark
@@ -49,7 +49,7 @@ module _ (e : Expression) (mode : Mode) (sets : List StateSet) (stride : ℕ) wh
       plain = λ low. record {
         into = same;
         row = record { number = number; row = plain.0; is = is };
-        next = next_same e mode from into same byte alike next;
+        next = next_same e _ _ _ _ _ alike next;
         plain = λ search accepts. absurd (none search accepts);
       };
       special = λ high low. absurd (omega (arith, high, small, plain.0));
@@ -57,7 +57,7 @@ module _ (e : Expression) (mode : Mode) (sets : List StateSet) (stride : ℕ) wh
   )
     where
       none : mode ≡ Search → IsAccepting e Search same false → ⊥
-      none search accepts = false≢true (sym (plain.1 search) ∙ of.inside.1 (subst (λ m. IsAccepting e m same false) (sym search) accepts))
+      none search accepts = false≢true (sym (plain.1 search) ∙ of.inside.1 (rw search accepts))
   says_cell from into same byte number cell mark is alike next of small (inr special) = (
     omega (arith, small, special.0),
     record {
@@ -65,9 +65,9 @@ module _ (e : Expression) (mode : Mode) (sets : List StateSet) (stride : ℕ) wh
       special = λ high low. record {
         into = same;
         row = record { number = number; row = omega (arith, special.0); is = is };
-        next = next_same e mode from into same byte alike next;
+        next = next_same e _ _ _ _ _ alike next;
         search = special.1;
-        accepting = subst (λ m. IsAccepting e m same false) special.1 (of.inside.0 special.2);
+        accepting = rw special.1 at (of.inside.0 special.2);
       };
     },
   )
@@ -111,14 +111,14 @@ module _ {e : Expression} {mode : Mode} {rows : Rows} (sound : AreSound e mode r
     few_classes = sound.few_classes;
     classed = sound.classed;
     alike = sound.alike;
-    made = λ t set is. elim (get_cases rows.sets same t set is) [ inl h ↦ sound.made t set h | inr h ↦ subst (IsMadeFor e) h.1 made ];
+    made = λ t set is. elim (get_cases rows.sets same t set is) [ inl h ↦ sound.made t set h | inr h ↦ rw h.1 at made ];
     apart = λ s t one other is at alike. elim (get_cases rows.sets same s one is) [
       | inl early ↦ elim (get_cases rows.sets same t other at) [
         | inl before ↦ sound.apart s t one other early before alike
-        | inr last ↦ absurd (fresh s one early (subst (IsSame one) (sym last.1) alike))
+        | inr last ↦ absurd (fresh s one early (rw last.1 alike))
       ]
       | inr late ↦ elim (get_cases rows.sets same t other at) [
-        | inl before ↦ absurd (fresh t other before (subst (IsSame other) (sym late.1) (same_sym one other alike)))
+        | inl before ↦ absurd (fresh t other before (rw late.1 (same_sym one other alike)))
         | inr last ↦ late.0 ∙ sym last.0
       ]
     ];
@@ -126,8 +126,8 @@ module _ {e : Expression} {mode : Mode} {rows : Rows} (sound : AreSound e mode r
       | inl h ↦ let m = sound.marked t set h in record { mark = m.mark; is = get_left rows.marks (mark ∷ []) t m.mark m.is; reported_too = m.reported_too }
       | inr h ↦ record {
         mark = mark;
-        is = subst (λ n. slice_get (rows.marks ++ mark ∷ []) n ≡ Some mark) (sound.as_many ∙ sym h.0) (get_last rows.marks mark);
-        reported_too = subst (λ s. IsMarkOf e mode s mark) h.1 of;
+        is = rw (sound.as_many ∙ sym h.0) at (get_last rows.marks mark);
+        reported_too = rw h.1 at of;
       }
     ];
     as_many = omega (arith, length-append rows.marks (mark ∷ []), length-append rows.sets (same ∷ []), sound.as_many);
@@ -149,8 +149,8 @@ module _ {e : Expression} {mode : Mode} {rows : Rows} (sound : AreSound e mode r
       old r from c row small is =
           let before : IsRowOf rows.sets rows.stride r from = record { number = row.number; row = row.row; is = is } in
           let within = cell_within r c from before small in
-          subst (SaysNext e mode (rows.sets ++ same ∷ []) rows.stride from c) (sym (get_or_append_left rows.cells (replicate rows.stride unknown) 0 (r + slice_index rows.classes c) within))
-          (says_longer e mode rows.sets (same ∷ []) rows.stride from c (cell_at rows.classes rows.cells r c) (sound.reported_too r from c before small))
+          rw (get_or_append_left rows.cells (replicate rows.stride unknown) 0 (r + slice_index rows.classes c) within)
+          (says_longer e _ _ _ _ _ c _ (sound.reported_too r from c before small))
 
       new : (r : ℕ) (from : StateSet) (c : ℕ) (row : IsRowOf (rows.sets ++ same ∷ []) rows.stride r from) → c < 256 → row.number ≡ length rows.sets →
           SaysNext e mode (rows.sets ++ same ∷ []) rows.stride from c (cell_at rows.classes (rows.cells ++ replicate rows.stride unknown) r c)
@@ -160,7 +160,7 @@ module _ {e : Expression} {mode : Mode} {rows : Rows} (sound : AreSound e mode r
           let is : cell_at rows.classes (rows.cells ++ replicate rows.stride unknown) r c ≡ unknown =
           get_or-append_right rows.cells (replicate rows.stride unknown) (r + slice_index rows.classes c) 0 (omega (arith, first))
           ∙ get_or-replicate rows.stride (r + slice_index rows.classes c - length rows.cells) unknown 0 (omega (arith, first, class)) in
-          subst (SaysNext e mode (rows.sets ++ same ∷ []) rows.stride from c) (sym is) (says_unknown e mode (rows.sets ++ same ∷ []) rows.stride from c)
+          rw is (says_unknown e _ _ _ _ c)
 
   -- a row's number and a class are known from a cell's place
   pub same_place : (r s a b : ℕ) (from set : StateSet) → IsRowOf rows.sets rows.stride r from → IsRowOf rows.sets rows.stride s set → a < rows.stride → b < rows.stride → r + a ≡ s + b → (a ≡ b) × (from ≡ set)
@@ -191,13 +191,13 @@ module _ {e : Expression} {mode : Mode} {rows : Rows} (sound : AreSound e mode r
     reported_too = λ s from c at lt. elim (cases_eq (s + slice_index rows.classes c) (r + slice_index rows.classes byte)) [
       | inl same ↦
           let both = same_place s r (slice_index rows.classes c) (slice_index rows.classes byte) from set at row (sound.classed c lt) (sound.classed byte small) same in
-          subst (λ f. SaysNext e mode rows.sets rows.stride f c (cell_at rows.classes new s c)) (sym both.1) (subst (λ k. SaysNext e mode rows.sets rows.stride set c (slice_index new k)) (sym same) (elim here [
-            | inl is ↦ subst (SaysNext e mode rows.sets rows.stride set c) (sym is) (says_alike e mode rows.sets rows.stride set byte c cell (sound.alike byte c small lt (sym both.0)) reported_too)
-            | inr is ↦ subst (SaysNext e mode rows.sets rows.stride set c) (sym is) (says_unknown e mode rows.sets rows.stride set c)
+          rw both.1 (rw same (elim here [
+            | inl is ↦ rw is (says_alike e _ _ _ _ _ c _ (sound.alike byte c small lt (sym both.0)) reported_too)
+            | inr is ↦ rw is (says_unknown e _ _ _ _ c)
           ]))
       | inr other ↦ elim (others (s + slice_index rows.classes c) other) [
-        | inl is ↦ subst (SaysNext e mode rows.sets rows.stride from c) (sym is) (sound.reported_too s from c at lt)
-        | inr is ↦ subst (SaysNext e mode rows.sets rows.stride from c) (sym is) (says_unknown e mode rows.sets rows.stride from c)
+        | inl is ↦ rw is (sound.reported_too s from c at lt)
+        | inr is ↦ rw is (says_unknown e _ _ _ _ c)
       ]
     ];
   }
@@ -213,11 +213,11 @@ module _ {e : Expression} {mode : Mode} {rows : Rows} (sound : AreSound e mode r
   -- the set of a row, by its number
   pub set_of_row : (r n : ℕ) (set read : StateSet) (keys : List StateSet) → IsRowOf rows.sets rows.stride r set → keys ≡ rows.sets → n ≡ r / rows.stride → read ≡ get_or keys n read → read ≡ set
   set_of_row r n set read keys row same number is =
-      is ∙ ap (λ ks. get_or ks n read) same ∙ get_or_from_slice_get rows.sets n set read (subst (λ k. slice_get rows.sets k ≡ Some set) (sym (number ∙ number_of_row r set row)) row.is)
+      is ∙ ap (λ ks. get_or ks n read) same ∙ get_or_from_slice_get rows.sets n set read (rw (number ∙ number_of_row r set row) row.is)
 
   -- a set whose row has a cell has a number
   pub number_within : (n c : ℕ) → n * rows.stride + c < length rows.cells → n < length rows.sets
-  number_within n c lt = elim (sides n (length rows.sets)) [
+  number_within n c lt = elim (sides n _) [
     | inl inside ↦ inside
     | inr past ↦
         let fits = row_within (length rows.sets) (n + 1) rows.stride (omega (arith, past)) in
@@ -232,7 +232,7 @@ module _ {e : Expression} {mode : Mode} {rows : Rows} (sound : AreSound e mode r
   pub row_zero : (set first : StateSet) → IsRowOf rows.sets rows.stride 0 set → slice_get rows.sets 0 ≡ Some first → set ≡ first
   row_zero set first row is =
       let zero : 0 ≡ 0 * rows.stride = omega arith in
-      (same_place 0 0 0 0 set first row (record { number = 0; row = zero; is = is }) some_class some_class refl).1
+      (same_place 0 0 0 0 _ _ row (record { number = 0; row = zero; is = is }) some_class some_class refl).1
 
   -- rows are below the limit
   pub row_small : (number : ℕ) (set : StateSet) → slice_get rows.sets number ≡ Some set → number * rows.stride < limit
@@ -248,10 +248,10 @@ module _ {e : Expression} {mode : Mode} {rows : Rows} (sound : AreSound e mode r
   mark_of_set number set read at is =
       let m = sound.marked number set at in
       let both : Some m.mark ≡ Some read = sym m.is ∙ is in
-      subst (IsMarkOf e mode set) (some_same both) m.reported_too
+      rw (some_same both) at m.reported_too
     where
       some_same : {X : Type 0} {x y : X} → Some x ≡ Some y → x ≡ y
       some_same is = cc
 
   pub mark_of_row : (r : ℕ) (set : StateSet) (read : Acceptance) → IsRowOf rows.sets rows.stride r set → slice_get rows.marks (r / rows.stride) ≡ Some read → IsMarkOf e mode set read
-  mark_of_row r set read row is = mark_of_set row.number set read row.is (sym (ap (slice_get rows.marks) (number_of_row r set row)) ∙ is)
+  mark_of_row r set read row is = mark_of_set _ _ _ row.is (sym (ap (slice_get rows.marks) (number_of_row r set row)) ∙ is)

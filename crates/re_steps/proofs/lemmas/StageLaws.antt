@@ -1,5 +1,5 @@
 -- What a search that went over a line stage by stage says, and how many steps it counted.
-use Rattle.re_steps.proofs.Prelude.{◌≡◌, ℕ, zero, suc, ◌+◌, ◌-◌, ◌*◌, ◌<◌, ◌≤◌, Bool, true, false, IsTrue, ◌⊎◌, inl, inr, [], length, nat_eq, slice_index, refl, sym, ap, ◌∙◌, subst, arith, eq-eqb, ◌↔◌, IsSome, lookup, Text, Expression, Matches, Mode, Search, Whole, StateSet, Has, Steps, many_built, part_of, is_end, IsSame, IsNowhere, IsNextSet, IsAccepting, StandsAt, IsAfter, IsNext, CanBegin, AddsUpTo, EndsAt, NoneEndsBefore, Cache, Stage, AreAlike, IsHeld, HoldsNoOther, IsPlain, GoesOver, Goes, Finishes, Searches, IsReadied, mode_for, false≢true, slice_get-get_or}
+use Rattle.re_steps.proofs.Prelude.{◌≡◌, ℕ, zero, suc, ◌+◌, ◌-◌, ◌<◌, ◌≤◌, Bool, true, false, IsTrue, ◌⊎◌, inl, inr, [], length, slice_index, refl, sym, ap, ◌∙◌, arith, eq-eqb, ◌↔◌, Text, Expression, Matches, Mode, Search, Whole, StateSet, Steps, many_built, part_of, is_end, IsSame, IsNowhere, IsNextSet, IsAccepting, StandsAt, CanBegin, AddsUpTo, EndsAt, NoneEndsBefore, Cache, Stage, AreAlike, IsHeld, IsPlain, GoesOver, Goes, Finishes, Searches, IsReadied, mode_for, false≢true, slice_get-get_or}
 use Rattle.re_meter.proofs.lemmas.Adding.{adds_none, adds_within, adds_both, reused_adds, built_adds}
 use Rattle.re_auto.proofs.lemmas.Chains.{not_at_end}
 use Rattle.re_auto.proofs.lemmas.SetsByWords.{stands_next, matched_by, nowhere_stays}
@@ -14,11 +14,11 @@ same_trans one two three a b = (a.0 ∙ b.0, a.1 ∙ b.1)
 
 pub stands_same : (e : Expression) (mode : Mode) (line : Text) (j : ℕ) (set same : StateSet) → IsSame same set → StandsAt e mode line j set → StandsAt e mode line j same
 unfolding StandsAt
-stands_same e mode line j set same is stands = (is.1 ∙ stands.0, subst (λ words. IsAfter (part_of e 0) mode line j (Has words)) (sym is.0) stands.1)
+stands_same e mode line j set same is stands = (is.1 ∙ stands.0, rw is.0 stands.1)
 
 pub next_same : (e : Expression) (mode : Mode) (from into same : StateSet) (c : ℕ) → IsSame same into → IsNextSet e mode from c into → IsNextSet e mode from c same
 unfolding IsNextSet
-next_same e mode from into same c is next = (is.1 ∙ next.0, subst (λ words. IsNext (part_of e 0) mode from.at_begin (Has from.words.items) c (Has words)) (sym is.0) next.1)
+next_same e mode from into same c is next = (is.1 ∙ next.0, rw is.0 next.1)
 
 -- stages that are alike
 pub alike_trans : (one two three : Stage) → AreAlike one two → AreAlike two three → AreAlike one three
@@ -36,7 +36,7 @@ over_alike e mode c old new other is over = record {
       | inl b ↦ inl (record {
         not_held = b.not_held;
         next = next_same e mode old.set new.set other.set c is.set b.next;
-        cache = subst (λ cache. HoldsNoOther e old.cache old.set c cache) (sym is.cache) b.cache;
+        cache = rw is.cache b.cache;
         steps = is.steps ∙ b.steps;
       })
       | inr p ↦ inr (record {
@@ -66,7 +66,7 @@ stepped_is (suc n) old new counted none = counted (omega arith)
 
 -- a cache without entries holds nothing
 pub nothing_held : (cache : Cache) (set : StateSet) (c : ℕ) → cache.entries ≡ [] → ¬ IsHeld cache set c
-nothing_held cache set c none h = false≢true (subst (λ es. IsSome (lookup (nat_eq (h.number * cache.stride + slice_index cache.classes c)) es)) none h.held)
+nothing_held cache set c none h = false≢true (rw none at h.held)
 
 module _ (e : Expression) (mode : Mode) (line : Text) where
   pub goes_alike : (j : ℕ) (first last other : Stage) → AreAlike other last → Goes e mode line j first last → Goes e mode line j first other
@@ -77,7 +77,7 @@ module _ (e : Expression) (mode : Mode) (line : Text) where
   -- nothing was gone over
   pub goes_nowhere : (stage : Stage) → Goes e mode line 0 stage stage
   unfolding Goes
-  goes_nowhere stage = alike_self stage
+  goes_nowhere stage = alike_self _
 
   -- one byte more is gone over
   pub goes_on : (j : ℕ) (first middle last : Stage) → Goes e mode line j first middle → GoesOver e mode (slice_index line j) middle last → Goes e mode line (suc j) first last
@@ -88,8 +88,8 @@ module _ (e : Expression) (mode : Mode) (line : Text) where
   pub goes_built : (j : ℕ) (first : Stage) (cache : Cache) (set next : StateSet) (before after : Steps) → cache.entries ≡ [] → IsPlain e mode set → IsNextSet e mode set (slice_index line j) next
       → after ≡ many_built 1 before → Goes e mode line j first (record { set = set; cache = cache; steps = before }) → Goes e mode line (suc j) first (record { set = next; cache = cache; steps = after })
   goes_built j first cache set next before after none plain is counted goes =
-      goes_on j first (record { set = set; cache = cache; steps = before }) (record { set = next; cache = cache; steps = after }) goes
-      (record { plain = plain; over = inr (inl (record { not_held = nothing_held cache set (slice_index line j) none; next = is; cache = λ other b small held. inl held; steps = counted })) })
+      goes_on j _ _ _ goes
+      (record { plain = plain; over = inr (inl (record { not_held = nothing_held _ _ _ none; next = is; cache = λ other b small held. inl held; steps = counted })) })
 
   over_stands : (j : ℕ) (old new : Stage) → j < length line → GoesOver e mode (slice_index line j) old new → StandsAt e mode line j old.set → StandsAt e mode line (suc j) new.set
   over_stands j old new lt over stands = elim over.over [
@@ -97,8 +97,8 @@ module _ (e : Expression) (mode : Mode) (line : Text) where
     | inr rest ↦ elim rest [
       | inl b ↦ stands_next e mode old.set new.set (slice_index line j) b.next line j (slice_get-get_or line j 0 lt) stands
       | inr p ↦ stands_same e mode line (suc j) old.set new.set p.set
-          (subst (λ m. StandsAt e m line (suc j) old.set) (sym p.search)
-          (nowhere_stays e (slice_index line j) p.never old.set line j p.nowhere (slice_get-get_or line j 0 lt) (subst (λ m. StandsAt e m line j old.set) p.search stands)))
+          (rw p.search
+          (nowhere_stays e (slice_index line j) p.never old.set line j p.nowhere (slice_get-get_or line j 0 lt) (rw p.search at stands)))
     ]
   ]
 
@@ -140,7 +140,7 @@ module _ (e : Expression) (line : Text) where
   unfolding NoneEndsBefore
   none_more j none here k lt ends = elim (sides k lt) [
     | inl early ↦ none k early ends
-    | inr same ↦ here (subst (EndsAt e Search line) same ends)
+    | inr same ↦ here (rw same at ends)
   ]
     where
       sides : (k : ℕ) → k < suc j → (k < j) ⊎ (k ≡ j)
@@ -160,12 +160,12 @@ module _ (e : Expression) (line : Text) where
   goes_past first set cache steps j zero nowhere plain never goes =
       let same : j ≡ 0 + j = omega arith in
       let stage : Stage = record { set = set; cache = cache; steps = steps } in
-      subst (λ k. Goes e Search line k first stage) same goes
+      rw same at goes
   goes_past first set cache steps j (suc d) nowhere plain never goes =
       let same : suc (d + j) ≡ suc d + j = omega arith in
       let middle : Stage = record { set = set; cache = cache; steps = stepped d steps } in
       let last : Stage = record { set = set; cache = cache; steps = stepped (suc d) steps } in
-      subst (λ k. Goes e Search line k first last) same
+      rw same at
       (goes_on e Search line (d + j) first middle last (goes_past first set cache steps j d nowhere plain (λ k low high. never k low (omega (arith, high))) goes) (record {
         plain = plain;
         over = inr (inr (record {
@@ -185,8 +185,8 @@ module _ (e : Expression) (line : Text) where
       let sum : n - j + j ≡ n = omega arith in
       let steps : after ≡ stepped (n - j) before = stepped_is (n - j) before after (λ some. counted (omega (arith, some))) (λ over. none (omega (arith, over, le))) in
       let came = goes_past first set cache before j (n - j) nowhere plain (λ k low high. never k low (omega (arith, high))) goes in
-      let there : Goes e Search line n first (record { set = set; cache = cache; steps = stepped (n - j) before }) = subst (λ k. Goes e Search line k first (record { set = set; cache = cache; steps = stepped (n - j) before })) sum came in
-      subst (λ s. Goes e Search line n first (record { set = set; cache = cache; steps = s })) (sym steps) there
+      let there : Goes e Search line n first (record { set = set; cache = cache; steps = stepped (n - j) before }) = rw sum at came in
+      rw steps there
 
   -- what a search for some matched stretch says
   says_search : (first : Stage) (cache : Cache) (steps : Steps) (answer : Bool) → StandsAt e Search line 0 first.set → Finishes e Search line first cache steps answer → IsTrue answer ↔ Matches e line false
@@ -200,8 +200,8 @@ module _ (e : Expression) (line : Text) where
         )
         | inr rest ↦ elim rest [
           | inl lost ↦ absurd (search_is_whole lost.whole)
-          | inr l ↦ end_decides e line answer (subst (NoneEndsBefore e line) l.last (goes_none f.place first last f.within stands f.goes))
-              (matched_by e Search answer true f.set l.reported line (length line) (subst (λ j. StandsAt e Search line j f.set) l.last here) (at_end line))
+          | inr l ↦ end_decides e line answer (rw l.last at (goes_none f.place first last f.within stands f.goes))
+              (matched_by e Search answer true f.set l.reported line (length line) (rw l.last at here) (at_end line))
         ]
       ]
     where
@@ -220,9 +220,9 @@ module _ (e : Expression) (line : Text) where
         | inr rest ↦ elim rest [
           | inl lost ↦ (
             λ yes. absurd (false≢true (sym lost.no ∙ yes)),
-            λ m. absurd (nowhere_fails e line f.set f.place here lost.nowhere f.within m),
+            λ m. absurd (nowhere_fails e _ _ _ here lost.nowhere f.within m),
           )
-          | inr l ↦ whole_decides e line answer (matched_by e Whole answer true f.set l.reported line (length line) (subst (λ j. StandsAt e Whole line j f.set) l.last here) (at_end line))
+          | inr l ↦ whole_decides e _ _ (matched_by e Whole answer true f.set l.reported line (length line) (rw l.last at here) (at_end line))
         ]
       ]
     where
@@ -234,11 +234,11 @@ module _ (e : Expression) (line : Text) where
 
 -- a whole search
 pub searches_say : {e : Expression} {line : Text} {old new : Cache} {before after : Steps} {answer : Bool} (whole : Bool) → Searches e (mode_for whole) line old new before after answer → IsTrue answer ↔ Matches e line whole
-searches_say false s = says_search _ _ s.first _ _ _ s.stands s.finishes
-searches_say true s = says_whole _ _ s.first _ _ _ s.stands s.finishes
+searches_say false s = says_search _ _ _ _ _ _ s.stands s.finishes
+searches_say true s = says_whole _ _ _ _ _ _ s.stands s.finishes
 
 readied_twice : (old middle first : Cache) → IsReadied old middle → IsReadied middle first → IsReadied old first
-readied_twice old middle first (inl same) later = subst (λ cache. IsReadied cache first) same later
+readied_twice old middle first (inl same) later = rw same at later
 readied_twice old middle first (inr none) (inl same) = inr (none.0, ap (λ (cache : Cache). cache.entries) same ∙ none.1)
 readied_twice old middle first (inr none) (inr still) = inr (none.0, still.1)
 
@@ -247,8 +247,8 @@ module _ {e : Expression} {mode : Mode} {line : Text} {old new : Cache} {before 
   searches_steps =
       let f = s.finishes in
       adds_within f.place (length line + 1) 0 0 before after (omega (arith, f.within)) (omega arith)
-      (subst (λ b. AddsUpTo f.place 0 b after) s.steps (goes_steps e mode line f.place s.first (record { set = f.set; cache = new; steps = after }) f.goes))
+      (rw s.steps at (goes_steps e mode line f.place s.first (record { set = f.set; cache = new; steps = after }) f.goes))
 
   -- with a cache that was made ready
   pub searches_readied : (first : Cache) → IsReadied first old → Searches e mode line first new before after answer
-  searches_readied first ready = record { first = s.first; stands = s.stands; cache = readied_twice first old s.first.cache ready s.cache; steps = s.steps; finishes = s.finishes }
+  searches_readied first ready = record { first = s.first; stands = s.stands; cache = readied_twice _ _ _ ready s.cache; steps = s.steps; finishes = s.finishes }

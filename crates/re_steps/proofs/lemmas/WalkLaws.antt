@@ -1,5 +1,5 @@
 -- Searches that go on by what is held, and where they get.
-use Rattle.re_steps.proofs.Prelude.{◌≡◌, ℕ, zero, suc, ◌+◌, ◌-◌, ◌*◌, ◌<◌, ◌≤◌, Bool, true, false, ◌⊎◌, inl, inr, List, Option, Some, None, length, nat_eq, nat_lt, get_or, slice_get, slice_index, refl, sym, ap, ◌∙◌, subst, arith, IsSome, lookup, Text, Expression, Mode, the_type, Search, Whole, StateSet, AddsJust, Steps, many_built, many_reused, IsSame, IsNextSet, Acceptance, unknown, shown, Mirrors, IsKeptOrLost, Cache, Stage, IsHeld, HoldsNoOther, GoesOver, Goes, LineSearch, StepTable, Spot, Went, Rows, limit, AreSound, IsRightFor, IsRowOf, SaysNext, ComesTo, Lands, LandsAlone, cell_at, row_under, walked, IsAt, HasLanded, LeadsOn, Arrives, false≢true, lt-ltb, ltb-true, cases_eq, slice_get_within, slice_get-get_or, get_or_from_slice_get}
+use Rattle.re_steps.proofs.Prelude.{◌≡◌, ℕ, zero, suc, ◌+◌, ◌-◌, ◌*◌, ◌<◌, ◌≤◌, Bool, true, false, ◌⊎◌, inl, inr, List, Option, Some, None, length, nat_eq, nat_lt, get_or, slice_get, slice_index, refl, sym, ap, ◌∙◌, subst, arith, IsSome, lookup, Text, Expression, Mode, the_type, Search, Whole, StateSet, AddsJust, Steps, many_built, many_reused, IsNextSet, Acceptance, unknown, shown, Mirrors, IsKeptOrLost, Cache, Stage, IsHeld, HoldsNoOther, GoesOver, Goes, LineSearch, StepTable, Spot, Went, Rows, limit, AreSound, IsRightFor, IsRowOf, SaysNext, ComesTo, Lands, LandsAlone, cell_at, row_under, walked, IsAt, HasLanded, LeadsOn, Arrives, false≢true, lt-ltb, ltb-true, cases_eq, slice_get_within, slice_get-get_or, get_or_from_slice_get}
 use denote.Enum.Bare.{sameb}
 use Rattle.re_steps.specs.declared.walk.Went.TheVariants as w
 use Rattle.re_meter.proofs.lemmas.Adding.{adds_none, reused_adds}
@@ -63,13 +63,13 @@ module _ {e : Expression} {mode : Mode} {rows : Rows} (sound : AreSound e mode r
   pub cell_held : (r byte : ℕ) (set : StateSet) → IsRowOf rows.sets rows.stride r set → byte < 256 → cell_at rows.classes rows.cells r byte < unknown → IsHeld cache set byte
   cell_held r byte set row small low =
       let at : r + slice_index rows.classes byte ≡ row.number * rows.stride + slice_index rows.classes byte = omega (arith, row.row) in
-      let shows = sound.mirrors.shows (r + slice_index rows.classes byte) (cell_within sound r byte set row small) in
+      let shows = sound.mirrors.shows (r + slice_index rows.classes byte) (cell_within sound r _ _ row small) in
       record {
         number = row.number;
         same = set;
         is = row.is;
         alike = (refl, refl);
-        held = subst (λ k. IsSome (lookup (nat_eq k) rows.entries)) at (some_shown (lookup (nat_eq (r + slice_index rows.classes byte)) rows.entries) (omega (arith, low, shows)));
+        held = subst (λ k. IsSome (lookup (nat_eq k) rows.entries)) at (some_shown _ (omega (arith, low, shows)));
       }
 
   -- and one whose cell is unknown isn't
@@ -78,7 +78,7 @@ module _ {e : Expression} {mode : Mode} {rows : Rows} (sound : AreSound e mode r
       let number : h.number ≡ row.number = sound.apart h.number row.number h.same set h.is row.is h.alike in
       let at : h.number * rows.stride + slice_index rows.classes byte ≡ r + slice_index rows.classes byte = ap (λ n. n * rows.stride + slice_index rows.classes byte) number ∙ ap (λ n. n + slice_index rows.classes byte) (sym row.row) in
       let place = r + slice_index rows.classes byte in
-      none_shown (lookup (nat_eq place) rows.entries) (sym none ∙ sound.mirrors.shows place (cell_within sound r byte set row small))
+      none_shown _ (sym none ∙ sound.mirrors.shows place (cell_within sound r _ _ row small))
       (λ v is. (sound.mirrors.within place v is).1) (subst (λ k. IsSome (lookup (nat_eq k) rows.entries)) at h.held)
 
   -- a search comes over a byte whose cell is a row
@@ -91,8 +91,8 @@ module _ {e : Expression} {mode : Mode} {rows : Rows} (sound : AreSound e mode r
         set = on.into;
         row = on.row;
         plain = λ within. on.plain;
-        goes = goes_on e mode line j first (record { set = came.set; cache = cache; steps = steps }) (record { set = on.into; cache = cache; steps = many_reused 1 steps }) came.goes
-            (record { plain = came.plain lt; over = inl (record { held = cell_held r c came.set came.row small (omega (arith, low)); next = on.next; cache = refl; steps = refl }) });
+        goes = goes_on e _ _ j _ _ _ came.goes
+            (record { plain = came.plain lt; over = inl (record { held = cell_held r c _ came.row small (omega (arith, low)); next = on.next; cache = refl; steps = refl }) });
       }
 
   -- where a search is after a cell
@@ -100,20 +100,20 @@ module _ {e : Expression} {mode : Mode} {rows : Rows} (sound : AreSound e mode r
       → SaysNext e mode now.sets now.stride from byte cell → cell < unknown → Goes e mode line j first (record { set = from; cache = cache; steps = before })
       → ((into : StateSet) → IsNextSet e mode from byte into → GoesOver e mode byte (record { set = from; cache = cache; steps = before }) (record { set = into; cache = now; steps = after }))
       → Lands e mode line first now after j cell
-  lands_at line first from now before after j byte cell is reported_too held goes over = elim (sides cell limit) [
+  lands_at line first from now before after j byte cell is reported_too held goes over = elim (sides _ _) [
     | inl low ↦ let on = reported_too.plain low in record {
       set = on.into;
       row = rw (under_low cell low) on.row;
       plain = λ _. on.plain;
       special = λ high. absurd (omega (arith, low, high));
-      goes = goes_on e mode line j first (record { set = from; cache = cache; steps = before }) (record { set = on.into; cache = now; steps = after }) goes (rw (get_or_from_slice_get line j byte 0 is) (over on.into on.next));
+      goes = goes_on e _ _ j _ _ _ goes (rw (get_or_from_slice_get line j byte 0 is) (over on.into on.next));
     }
     | inr high ↦ let on = reported_too.special high held in record {
       set = on.into;
       row = rw (under_high cell high) on.row;
       plain = λ low. absurd (omega (arith, low, high));
       special = λ _. (on.search, on.accepting);
-      goes = goes_on e mode line j first (record { set = from; cache = cache; steps = before }) (record { set = on.into; cache = now; steps = after }) goes (rw (get_or_from_slice_get line j byte 0 is) (over on.into on.next));
+      goes = goes_on e _ _ j _ _ _ goes (rw (get_or_from_slice_get line j byte 0 is) (over on.into on.next));
     }
   ]
 
@@ -121,10 +121,10 @@ module _ {e : Expression} {mode : Mode} {rows : Rows} (sound : AreSound e mode r
   pub lands_held : (line : Text) (first : Stage) (steps : Steps) (j r byte : ℕ) → byte < 256 → slice_get line j ≡ Some byte → cell_at rows.classes rows.cells r byte < unknown
       → ComesTo e mode line first cache steps j r → Lands e mode line first cache (many_reused 1 steps) j (cell_at rows.classes rows.cells r byte)
   lands_held line first steps j r byte small is held came =
-      lands_at line first came.set cache steps (many_reused 1 steps) j byte (cell_at rows.classes rows.cells r byte) is (sound.reported_too r came.set byte came.row small) held came.goes
+      lands_at _ _ _ _ _ _ j _ _ is (sound.reported_too r came.set byte came.row small) held came.goes
       (λ into next. record {
         plain = came.plain (slice_get_within line j byte is);
-        over = inl (record { held = cell_held r byte came.set came.row small held; next = next; cache = refl; steps = refl });
+        over = inl (record { held = cell_held r _ _ came.row small held; next = next; cache = refl; steps = refl });
       })
 
   -- by one that was worked out
@@ -132,10 +132,10 @@ module _ {e : Expression} {mode : Mode} {rows : Rows} (sound : AreSound e mode r
       → ((set : StateSet) → IsRowOf rows.sets rows.stride r set → (cell < unknown) × SaysNext e mode now.sets now.stride set byte cell) → ((set : StateSet) → IsRowOf rows.sets rows.stride r set → HoldsNoOther e cache set byte now)
       → after ≡ many_built 1 before → ComesTo e mode line first cache before j r → Lands e mode line first now after j cell
   lands_learned line first now before after j r byte cell small is none found others counted came =
-      lands_at line first came.set now before after j byte cell is (found came.set came.row).1 (found came.set came.row).0 came.goes
+      lands_at _ _ _ _ _ _ j _ _ is (found came.set came.row).1 (found came.set came.row).0 came.goes
       (λ into next. record {
         plain = came.plain (slice_get_within line j byte is);
-        over = inr (inl (record { not_held = cell_not_held r byte came.set came.row small none; next = next; cache = others came.set came.row; steps = counted }));
+        over = inr (inl (record { not_held = cell_not_held r _ _ came.row small none; next = next; cache = others came.set came.row; steps = counted }));
       })
 
   -- or where only the set is known
@@ -146,16 +146,16 @@ module _ {e : Expression} {mode : Mode} {rows : Rows} (sound : AreSound e mode r
       (rw (get_or_from_slice_get line j byte 0 is) (record {
         plain = came.plain (slice_get_within line j byte is);
         over = inr (inl (record {
-          not_held = cell_not_held r byte came.set came.row small none;
+          not_held = cell_not_held r _ _ came.row small none;
           next = next came.set came.row;
-          cache = λ other b lt held. absurd (nothing_held now other b empty held);
+          cache = λ other b lt held. absurd (nothing_held _ _ b empty held);
           steps = counted;
         }));
       }))
 
   -- the row below a cell is that of some set
   pub row_below : (from : StateSet) (byte cell : ℕ) → SaysNext e mode rows.sets rows.stride from byte cell → cell < unknown → (set : StateSet) × IsRowOf rows.sets rows.stride (row_under cell) set
-  row_below from byte cell reported_too held = elim (sides cell limit) [
+  row_below from byte cell reported_too held = elim (sides _ _) [
     | inl low ↦ let on = reported_too.plain low in (on.into, rw (under_low cell low) on.row)
     | inr high ↦ let on = reported_too.special high held in (on.into, rw (under_high cell high) on.row)
   ]
@@ -176,7 +176,7 @@ module _ {e : Expression} {mode : Mode} {rows : Rows} (sound : AreSound e mode r
       elim (cases_eq k (r + slice_index rows.classes byte)) [
         | inl same ↦
             let both = same_place sound-2 (h.number * rows.stride) r (slice_index rows.classes b) (slice_index rows.classes byte) h.same set here (later r set row) (sound.classed b lt) (sound.classed byte small) same in
-            inr (subst (IsSame other) both.1 (same_sym h.same other h.alike), sound.alike b byte lt small both.0)
+            inr (rw both.1 at (same_sym h.same other h.alike), sound.alike b byte lt small both.0)
         | inr not ↦
             let value = held_value (lookup (nat_eq k) now) refl h.held in
             let inside = (mirrors.within k value.0 value.1).0 in

@@ -1,4 +1,4 @@
-use Rattle.line_chunks.proofs.Prelude.{AreFilled, ap, subst, sym, ◌∙◌, all_of, chunks_of}
+use Rattle.line_chunks.proofs.Prelude.{ap, sym, ◌∙◌, all_of, chunks_of}
 use Rattle.line_chunks.proofs.lemmas.Sums.{length-chunks_of}
 use Rattle.line_chunks.proofs.lemmas.Edits.{seam_in, seam_order, seam_end, rest_same, made_in, lines_put, put_summed, put_few, put_filled, chunks_put}
 use Rattle.line_chunks.proofs.chunks.insert.Goals as goal
@@ -50,7 +50,7 @@ pub returns-clause-filled : goal.returns-clause-filled
 returns-clause-filled c =
     let es = c.args.entries.now.items in
     λ filled.
-    subst AreFilled (sym c.sum_from.ensures.chunks)
+    rw c.sum_from.ensures.chunks
     (put_filled es c.put_chunks.new.entries.items c.in_ok-fresh.fresh.items (all_of (chunks_of c.args.new.now))
     c.args.start c.args.count c.find_seam-first.result.0 c.find_seam-first.result.1 c.find_seam-last.result.0
     c.find_seam-last.result.1 c.chunk_end-end.result

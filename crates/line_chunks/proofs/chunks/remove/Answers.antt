@@ -1,4 +1,4 @@
-use Rattle.line_chunks.proofs.Prelude.{arith, subst, sym, ◌+◌, ◌≡◌, drop, AreFilled, chunks_of}
+use Rattle.line_chunks.proofs.Prelude.{arith, ◌+◌, ◌≡◌}
 use Rattle.line_chunks.proofs.lemmas.Edits.{filled_both}
 use Rattle.line_chunks.proofs.chunks.remove.Goals as goal
 
@@ -11,7 +11,7 @@ returns-clause-filled c = λ filled.
     let far : c.saturating_add.result + 1 ≡ first + 2 = omega (arith, next) in
     let a = c.remove_lines-first.ensures.filled filled in
     let b = c.drop_empty.ensures.filled first (omega (arith, next)) a.0
-    (subst (λ n. AreFilled (drop n (chunks_of v.items))) (sym far) a.1) in
+    (rw far a.1) in
     let d = c.drop_empty-2.ensures.filled first (omega arith) b.0
-    (subst (λ n. AreFilled (drop n (chunks_of c.drop_empty.new.entries.items))) next b.1) in
-    subst AreFilled (sym c.sum_from.ensures.chunks) (filled_both _ first d.0 d.1)
+    (rw next at b.1) in
+    rw c.sum_from.ensures.chunks (filled_both _ first d.0 d.1)

@@ -1,4 +1,4 @@
-use Rattle.line_chunks.proofs.Prelude.{[], all_of, chunks_of, refl, subst, take_all, AddsLines}
+use Rattle.line_chunks.proofs.Prelude.{[], refl, take_all}
 use Rattle.line_chunks.proofs.lemmas.Pieces.{adds_none, chunk_next}
 use Rattle.line_chunks.proofs.new_chunks.add_all.Goals as goal
 
@@ -13,5 +13,4 @@ loop-entry-preserved c =
 
 pub returns : goal.returns
 returns c =
-    subst (λ es. AddsLines c.args.filling.limit c.args.fresh.now.items (all_of (chunks_of es)) c.loop-entry.fresh.items)
-    (take_all c.loop-entry.entry-index c.args.entries.now c.loop-entry-test.false) c.loop-entry.invariant
+    rw (take_all c.loop-entry.entry-index c.args.entries.now c.loop-entry-test.false) at c.loop-entry.invariant

@@ -1,4 +1,4 @@
-use Rattle.line_chunks.proofs.Prelude.{arith, ap, subst, ◌≡◌, ◌-◌, take, drop, AddsLines}
+use Rattle.line_chunks.proofs.Prelude.{arith, ap, ◌≡◌, ◌-◌, take, drop}
 use Rattle.line_chunks.proofs.lemmas.Pieces.{adds_none, piece_next}
 use Rattle.line_chunks.proofs.new_chunks.add_lines.Goals as goal
 
@@ -24,5 +24,4 @@ loop-at-preserved c = record {
 pub returns : goal.returns
 returns c =
     let last : c.loop-at.at ≡ c.args.to = omega (arith, c.loop-at-test.false, c.loop-at.invariant.within) in
-    subst (λ n. AddsLines c.args.filling.limit c.args.fresh.now.items (take (n - c.args.from) (drop c.args.from c.args.chunk.now)) c.loop-at.fresh.items)
-    last c.loop-at.invariant.lines
+    rw last at c.loop-at.invariant.lines

@@ -1,4 +1,4 @@
-use Rattle.line_chunks.proofs.Prelude.{arith, ap, subst, sym, ◌∙◌, ◌≡◌, ◌-◌, ◌<◌, [], inl, inr, cases_lt, length, take, drop, get_or, get_or_past, slice_range, IfOk, AddsLines, Entry, chunks_of}
+use Rattle.line_chunks.proofs.Prelude.{arith, ap, sym, ◌∙◌, ◌≡◌, ◌-◌, ◌<◌, [], inl, inr, cases_lt, length, take, drop, get_or, get_or_past, Entry, chunks_of}
 use Rattle.line_chunks.proofs.lemmas.Pieces.{adds_none}
 use Rattle.line_chunks.proofs.lemmas.Sums.{chunk_at, length-chunks_of}
 use Rattle.line_chunks.proofs.new_chunks.add_part.Goals as goal
@@ -18,5 +18,4 @@ returns c =
           (let none = ap length (get_or_past (chunks_of es) c.args.k [] (omega (arith, h, length-chunks_of es))) in
           absurd (let no : ⊥ = omega (arith, none, c.requires.within, c.if-from-to.false) in no))
     ] in
-    subst (λ lines. IfOk c.add_lines.result (λ _. AddsLines c.args.filling.limit c.args.fresh.now.items (slice_range lines c.args.from c.args.to) c.add_lines.new.fresh.items))
-    (ap (λ (e : Entry). e.chunk) c.index-entries-k.is ∙ sym (chunk_at es c.args.k c.index-entries-k.result inside)) c.add_lines.ensures
+    rw (ap (λ (e : Entry). e.chunk) c.index-entries-k.is ∙ sym (chunk_at es c.args.k c.index-entries-k.result inside)) at c.add_lines.ensures

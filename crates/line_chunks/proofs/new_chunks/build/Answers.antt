@@ -1,4 +1,4 @@
-use Rattle.line_chunks.proofs.Prelude.{arith, ap, subst, ◌∙◌, ◌≡◌, ◌-◌, ◌++◌, [], take, take_all, drop, get_or, length-drop, slice_range, all_of, AddsLines, chunks_of}
+use Rattle.line_chunks.proofs.Prelude.{arith, ap, ◌∙◌, ◌≡◌, ◌-◌, ◌++◌, [], take, take_all, drop, get_or, length-drop, slice_range, all_of, chunks_of}
 use Rattle.line_chunks.proofs.lemmas.Pieces.{adds_three}
 use Rattle.line_chunks.proofs.new_chunks.build.Goals as goal
 
@@ -6,14 +6,14 @@ pub returns-clause-filled : goal.returns-clause-filled
 returns-clause-filled c =
     let front = slice_range (get_or (chunks_of c.args.entries.now) c.args.seams.first []) 0 c.args.seams.before in
     (adds_three c.add_part.new.fresh.items c.add_all.new.fresh.items c.add_part-2.new.fresh.items front _ _
-    (subst (λ es. AddsLines c.args.filling.limit es front c.add_part.new.fresh.items) c.new-fresh.ensures.items c.in_ok-add_part.ensures)
+    (rw c.new-fresh.ensures.items at c.in_ok-add_part.ensures)
     c.in_ok-add_all.ensures c.in_ok-add_part-2.ensures).1
 
 pub returns-clause-full : goal.returns-clause-full
 returns-clause-full c =
     let front = slice_range (get_or (chunks_of c.args.entries.now) c.args.seams.first []) 0 c.args.seams.before in
     (adds_three c.add_part.new.fresh.items c.add_all.new.fresh.items c.add_part-2.new.fresh.items front _ _
-    (subst (λ es. AddsLines c.args.filling.limit es front c.add_part.new.fresh.items) c.new-fresh.ensures.items c.in_ok-add_part.ensures)
+    (rw c.new-fresh.ensures.items at c.in_ok-add_part.ensures)
     c.in_ok-add_all.ensures c.in_ok-add_part-2.ensures).2
 
 pub returns-clause-lines : goal.returns-clause-lines
@@ -28,6 +28,6 @@ returns-clause-lines c =
     (omega (arith, length-drop c.args.seams.after last, c.size_at-size.ensures)) in
     (adds_three c.add_part.new.fresh.items c.add_all.new.fresh.items c.add_part-2.new.fresh.items
     (slice_range first 0 c.args.seams.before) added left
-    (subst (λ es. AddsLines c.args.filling.limit es (slice_range first 0 c.args.seams.before) c.add_part.new.fresh.items) c.new-fresh.ensures.items c.in_ok-add_part.ensures)
+    (rw c.new-fresh.ensures.items at c.in_ok-add_part.ensures)
     c.in_ok-add_all.ensures c.in_ok-add_part-2.ensures).0 ∙
     ap (λ n. take n first ++ (added ++ left)) before ∙ ap (λ t. take c.args.seams.before first ++ (added ++ t)) back

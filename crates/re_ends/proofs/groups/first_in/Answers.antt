@@ -1,5 +1,4 @@
-use Rattle.re_ends.proofs.Prelude.{arith, inl, inr, refl, cases_lt, subst, ◌≡◌, ◌≤◌, ◌/◌, slice_index, Has}
-use Rattle.re_ends.specs.Working.Groups.{Names}
+use Rattle.re_ends.proofs.Prelude.{arith, inl, inr, refl, cases_lt, ◌≡◌, ◌/◌, slice_index, Has}
 use Rattle.re_ends.proofs.lemmas.ClosingLaws as laws
 use Rattle.re_ends.proofs.groups.first_in.Goals as goal
 
@@ -29,7 +28,7 @@ returns-then-members_of-set-ne0 c =
         | inl before ↦ absurd (c.pieces.invariant i before p named h)
         | inr ge ↦ elim (cases_lt c.pieces.i i) [
           | inl after ↦ let le = row.in_turn c.pieces.i i after lt in omega (arith, le, is)
-          | inr same ↦ subst (λ n. slice_index c.args.row.now n / 281474976710656 ≤ j) (let e : i ≡ c.pieces.i = omega (arith, ge, same) in e) (omega (arith, is))
+          | inr same ↦ rw (← (let e : i ≡ c.pieces.i = omega (arith, ge, same) in e)) (omega (arith, is))
         ]
       ],
     )
@@ -38,7 +37,7 @@ pub pieces-preserved : goal.pieces-preserved
 pieces-preserved c = λ j lt q names has. elim (cases_lt j c.pieces.i) [
   | inl less ↦ c.pieces.invariant j less q names has
   | inr ge ↦
-      let named = subst (λ n. Names (slice_index c.args.row.now n) q) (let e : j ≡ c.pieces.i = omega (arith, lt, ge) in e) names in
+      let named = rw (let e : j ≡ c.pieces.i = omega (arith, lt, ge) in e) at names in
       let (b, less, bit, here) = (laws.piece_members (slice_index c.args.row.now c.pieces.i) c.members_of.result c.word_of.result c.word_of.ensures c.members_of.ensures (Has c.args.set.now)).1 (q, named, has) in
       laws.none_common c.members_of.result c.args.set.now c.word_of.result c.if-members_of-set-ne0.false b less bit here
 ]

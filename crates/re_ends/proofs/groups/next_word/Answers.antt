@@ -8,7 +8,7 @@ use Rattle.re_ends.proofs.groups.next_word.Goals as goal
 none_between : (set : List ℕ) (from past : ℕ) → ((j : ℕ) → from ≤ j → j < past → get_or set j 0 ≡ 0) → (q : ℕ) → Has set q → from ≤ q / 64 → past ≤ q / 64
 unfolding Has
 none_between set from past zeros q h ge = elim (cases_lt (q / 64) past) [
-  | inl lt ↦ let none : bit_at (get_or set (q / 64) 0) (q % 64) ≡ bit_at 0 (q % 64) = ap (λ x. bit_at x (q % 64)) (zeros (q / 64) ge lt) in absurd (omega (arith, none, h, bit_at-zero (q % 64)))
+  | inl lt ↦ let none = ap (λ x. bit_at x (q % 64)) (zeros (q / 64) ge lt) in absurd (omega (arith, none, h, bit_at-zero (q % 64)))
   | inr after ↦ after
 ]
 

@@ -10,9 +10,9 @@ put c =
     rw (c.push.ensures.succeeds (omega (arith, room, c.args.row.now.ok))) at c.push.ensures.items
 
 pub returns-clause-added : goal.returns-clause-added
-returns-clause-added c = λ j q. rw (put (goal.at.returns-clause-added c).After-push) (laws.in_pushed c.args.piece c.args.row.now.items j q)
+returns-clause-added c = λ j q. rw (put _) (laws.in_pushed c.args.piece c.args.row.now.items j q)
 
 pub returns-clause-made : goal.returns-clause-made
 returns-clause-made c =
-    rw (put (goal.at.returns-clause-made c).After-push)
+    rw (put _)
     (laws.pushed c.args.piece c.args.row.now.items c.requires.made c.requires.fresh (laws.some_member c.args.piece c.if-piece-eq0.false))

@@ -1,7 +1,7 @@
-use Rattle.re_ends.proofs.Prelude.{arith, inl, inr, subst, ◌≡◌, ◌+◌, ◌*◌, ◌/◌, ◌<◌, ◌↔◌, ◌⊎◌, ℕ}
+use Rattle.re_ends.proofs.Prelude.{arith, inl, inr, ◌≡◌, ◌+◌, ◌*◌, ◌/◌, ◌<◌, ◌↔◌, ◌⊎◌, ℕ}
 use Rattle.std.specs.Prelude.{◌%◌, ◌^◌}
 use Rattle.std.specs.Int.{bit_at}
-use Rattle.re_ends.specs.Working.Groups.{In, Names}
+use Rattle.re_ends.specs.Working.Groups.{Names}
 use Rattle.re_ends.proofs.lemmas.ClosingLaws as laws
 use Rattle.re_ends.proofs.groups.put_word.Goals as goal
 
@@ -25,25 +25,25 @@ module _ (g k word : ℕ) (few : k < 64) (fits : word < 2 ^ 64) where
 
 pub put_piece-requires-clause-fresh : goal.put_piece-requires-clause-fresh
 put_piece-requires-clause-fresh c = λ j q names here.
-    let (b, lt, bit, same) = (in_word c.args.group c.args.k c.args.word c.requires.few c.ranges.word.fits q).0 (inl names) in
-    c.requires.fresh j b lt bit (subst (In c.args.row.now.items j) same here)
+    let (b, lt, bit, same) = (in_word _ _ _ c.requires.few c.ranges.word.fits q).0 (inl names) in
+    c.requires.fresh j b lt bit (rw same at here)
 
 pub put_piece-requires-clause-small : goal.put_piece-requires-clause-small
 put_piece-requires-clause-small c = λ q names.
-    let (b, lt, bit, same) = (in_word c.args.group c.args.k c.args.word c.requires.few c.ranges.word.fits q).0 (inl names) in
+    let (b, lt, bit, same) = (in_word _ _ _ c.requires.few c.ranges.word.fits q).0 (inl names) in
     let less = c.requires.small b lt bit in omega (arith, less, same)
 
 pub put_piece-requires-2-clause-fresh : goal.put_piece-requires-2-clause-fresh
 put_piece-requires-2-clause-fresh c = λ j q names here.
     let is = in_word c.args.group c.args.k c.args.word c.requires.few c.ranges.word.fits q in
     elim ((c.put_piece.ensures.added j q).0 here) [
-      | inl old ↦ let (b, lt, bit, same) = is.0 (inr names) in c.requires.fresh j b lt bit (subst (In c.args.row.now.items j) same old)
-      | inr first ↦ apart c.args.group c.args.k c.args.word c.requires.few c.ranges.word.fits q first.1 names
+      | inl old ↦ let (b, lt, bit, same) = is.0 (inr names) in c.requires.fresh j b lt bit (rw same at old)
+      | inr first ↦ apart _ _ _ c.requires.few c.ranges.word.fits q first.1 names
     ]
 
 pub put_piece-requires-2-clause-small : goal.put_piece-requires-2-clause-small
 put_piece-requires-2-clause-small c = λ q names.
-    let (b, lt, bit, same) = (in_word c.args.group c.args.k c.args.word c.requires.few c.ranges.word.fits q).0 (inr names) in
+    let (b, lt, bit, same) = (in_word _ _ _ c.requires.few c.ranges.word.fits q).0 (inr names) in
     let less = c.requires.small b lt bit in omega (arith, less, same, c.put_piece.ensures.room)
 
 pub put_piece-requires-2-clause-below : goal.put_piece-requires-2-clause-below
@@ -51,7 +51,7 @@ put_piece-requires-2-clause-below c = λ j q here.
     elim ((c.put_piece.ensures.added j q).0 here) [
       | inl old ↦ let less = c.requires.below j q old in omega (arith, less, c.put_piece.ensures.room)
       | inr first ↦
-          let (b, lt, bit, same) = (in_word c.args.group c.args.k c.args.word c.requires.few c.ranges.word.fits q).0 (inl first.1) in
+          let (b, lt, bit, same) = (in_word _ _ _ c.requires.few c.ranges.word.fits q).0 (inl first.1) in
           let less = c.requires.small b lt bit in omega (arith, less, same, c.put_piece.ensures.room)
     ]
 

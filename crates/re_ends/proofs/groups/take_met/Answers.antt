@@ -45,7 +45,7 @@ words-preserved c =
           let word = laws.in_word c.words.met c.words.left k in (
             (λ h. elim (put.0 h) [
               | inl old ↦ elim ((inv.added j q).0 old) [ inl first ↦ inl first | inr (same, lt, m, l) ↦ inr (same, omega (arith, lt, next.from), m, l) ]
-              | inr (b, lt, bit, (same, at)) ↦ let both = (word b lt).0 bit in inr (same, omega (arith, at, lt, next.from), subst (Has c.args.met.now) (sym at) ((inv.met _).0 both.0).1, subst (Has c.args.left.now) (sym at) ((inv.left _).0 both.1).0)
+              | inr (b, lt, bit, (same, at)) ↦ let both = (word b lt).0 bit in inr (same, omega (arith, at, lt, next.from), rw (sym at) at ((inv.met _).0 both.0).1, rw (sym at) at ((inv.left _).0 both.1).0)
             ]),
             (λ h. elim h [
               | inl first ↦ put.1 (inl ((inv.added j q).1 (inl first)))

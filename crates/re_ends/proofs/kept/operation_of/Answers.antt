@@ -4,13 +4,13 @@ use Rattle.re_ends.proofs.lemmas.KeptLaws.{get_left, get_last, no_run, one_run}
 use Rattle.re_ends.proofs.kept.operation_of.Goals as goal
 
 pub returns-then-count-eq0-clause-op : goal.returns-then-count-eq0-clause-op
-returns-then-count-eq0-clause-op c = (omega arith, no_run c.args.lists.now.items c.args.runs.now c.if-count-eq0.true)
+returns-then-count-eq0-clause-op c = (omega arith, no_run _ _ c.if-count-eq0.true)
 
 pub returns-then-runs-lt-LISTED-clause-op : goal.returns-then-runs-lt-LISTED-clause-op
-returns-then-runs-lt-LISTED-clause-op c = (omega (arith, c.if-runs-lt-LISTED.true), one_run c.args.lists.now.items c.args.runs.now (record { first = 0; more = 0 }) c.if-count-eq1.true c.if-runs-lt-LISTED.true)
+returns-then-runs-lt-LISTED-clause-op c = (omega (arith, c.if-runs-lt-LISTED.true), one_run _ _ _ c.if-count-eq1.true c.if-runs-lt-LISTED.true)
 
 pub returns-clause-kept : goal.returns-clause-kept
-returns-clause-kept c = λ k list is. rw c.in_ok-push.ensures.items (get_left c.args.lists.now.items _ k list is)
+returns-clause-kept c = λ k list is. rw c.in_ok-push.ensures.items (get_left _ _ k _ is)
 
 pub returns-clause-op : goal.returns-clause-op
 returns-clause-op c =

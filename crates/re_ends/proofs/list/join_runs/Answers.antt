@@ -1,5 +1,5 @@
 use Rattle.std.proofs.Common.{rules}
-use Rattle.re_ends.proofs.Prelude.{slice_index, ◌∙◌, arith, ap, get_or, refl, subst, suc, ◌≡◌, ◌+◌, ◌-◌, ◌<◌, ◌≤◌, length}
+use Rattle.re_ends.proofs.Prelude.{slice_index, ◌∙◌, arith, ap, get_or, refl, suc, ◌≡◌, ◌+◌, ◌-◌, ◌<◌, ◌≤◌, length}
 use Rattle.re_ends.specs.declared.list.Run.{Run}
 use Rattle.re_ends.proofs.lemmas.ListLaws.{joined_fits, joined_next, last_joined, no_runs, AreJoined}
 use Rattle.re_ends.proofs.list.join_runs.Goals.{In-runs}
@@ -9,14 +9,14 @@ abbrev none : Run
 none = record { first = 0; more = 0 }
 
 before : (c : In-runs) → (c.runs.k - 1 < length c.args.runs.now) × AreJoined c.args.runs.now c.args.buffer.now c.runs.buffer c.args.base c.runs.at (suc (c.runs.k - 1))
-before c = (omega (arith, c.runs.invariant.some), subst (AreJoined c.args.runs.now c.args.buffer.now c.runs.buffer c.args.base c.runs.at) (let one : c.runs.k ≡ suc (c.runs.k - 1) = omega (arith, c.runs-test.true) in one) c.runs.invariant)
+before c = (omega (arith, c.runs.invariant.some), rw (let one : c.runs.k ≡ suc (c.runs.k - 1) = omega (arith, c.runs-test.true) in one) at c.runs.invariant)
 
 -- the run is below those that are joined, within the elements
 fits : (c : In-runs) → ((get_or c.args.runs.now (c.runs.k - 1) none).first + ((get_or c.args.runs.now (c.runs.k - 1) none).more + 1) ≤ c.runs.at) × (c.args.base + c.runs.at ≤ length c.args.buffer.now)
-fits c = let (lt, a) = before c in joined_fits c.args.runs.now none (c.runs.k - 1) lt c.requires.grow c.args.buffer.now c.runs.buffer c.args.base c.runs.at a
+fits c = let (lt, a) = before c in joined_fits c.args.runs.now none (c.runs.k - 1) lt c.requires.grow _ c.runs.buffer _ _ a
 
 pub runs-init : goal.runs-init
-runs-init c = last_joined c.args.runs.now none (length c.args.runs.now - 1) (omega (arith, c.if-count-eq0.false)) c.requires.grow c.args.buffer.now c.args.base (omega (arith, c.if-count-eq0.false)) c.requires.within
+runs-init c = last_joined _ none _ (omega (arith, c.if-count-eq0.false)) c.requires.grow _ _ (omega (arith, c.if-count-eq0.false)) c.requires.within
 
 pub overflow_sub-at : goal.overflow_sub-at
 overflow_sub-at c = let le = fits (goal.at.overflow_sub-at c).In-runs in omega (arith, le.0)
@@ -33,16 +33,16 @@ copy_within-requires-clause-dest_in_bounds c = let le = fits (goal.at.copy_withi
 pub runs-preserved : goal.runs-preserved
 runs-preserved c =
     let (lt, a) = before (goal.at.runs-preserved c).In-runs in
-    joined_next c.args.runs.now none (c.runs.k - 1) lt c.requires.grow c.args.buffer.now c.runs.buffer c.args.base c.runs.at a c.copy_within.new.self _ (omega arith) c.copy_within.ensures.len c.copy_within.ensures.by_index
+    joined_next _ none _ lt c.requires.grow _ _ _ _ a _ _ (omega arith) c.copy_within.ensures.len c.copy_within.ensures.by_index
 
 pub returns-then-count-eq0 : goal.returns-then-count-eq0
 returns-then-count-eq0 c =
-    let gone = ap length (no_runs c.args.runs.now c.if-count-eq0.true) in
+    let gone = ap length (no_runs _ c.if-count-eq0.true) in
     record { len = refl; within = omega (arith, gone, c.requires.base); joined = λ k lt. absurd (omega (arith, gone, lt)) }
 
 pub returns : goal.returns
 returns c =
-    let a = subst (AreJoined c.args.runs.now c.args.buffer.now c.runs.buffer c.args.base c.runs.at) (let none : c.runs.k ≡ 0 = omega (arith, c.runs-test.false) in none) c.runs.invariant in
+    let a = rw (let none : c.runs.k ≡ 0 = omega (arith, c.runs-test.false) in none) at c.runs.invariant in
     record {
       len = a.len;
       within = omega (arith, a.within);

@@ -7,14 +7,14 @@ use Rattle.re_ends.proofs.preceding.add_before.Goals as goal
 pub returns-then-members-eq0-clause-covers : goal.returns-then-members-eq0-clause-covers
 returns-then-members-eq0-clause-covers c =
     let len = length-set c.args.set.now c.args.k _ in
-    c.with_word-here.ensures c.args.set.now _ c.requires.covers (omega (arith, len, c.requires.word.0)) len (λ q h. elim ((word_added c.args.set.now c.args.k (c.args.members / 2) c.requires.word.0 q).0 h) [ inl old ↦ inl old | inr new ↦ inr new.0 ])
+    c.with_word-here.ensures c.args.set.now _ c.requires.covers (omega (arith, len, c.requires.word.0)) len (λ q h. elim ((word_added _ _ _ c.requires.word.0 q).0 h) [ inl old ↦ inl old | inr new ↦ inr new.0 ])
 
 pub returns-then-members-eq0-clause-added : goal.returns-then-members-eq0-clause-added
 returns-then-members-eq0-clause-added c = λ p.
     let is = before_added c.args.set.now c.args.k c.args.members c.requires.word.0 c.ranges.members.fits p in
     let how : (c.args.members % 2 ≡ 0) ⊎ (c.args.k ≡ 0) = elim c.then-members-eq0.branch [ then-members-eq0-via-then-members-eq0 w ↦ inl w.if-members-eq0.true | then-members-eq0-via-else-members-eq0+then-k-eq0 w ↦ inr w.if-k-eq0.true ] in (
       (λ h. elim (is.0 h) [ inl old ↦ inl old | inr (b, lt, bit, some, same) ↦ inr (b, lt, bit, same) ]),
-      (λ h. elim h [ inl old ↦ is.1 (inl old) | inr (b, lt, bit, same) ↦ is.1 (inr (b, lt, bit, not_first c.args.members c.args.k p b how bit same, same)) ]),
+      (λ h. elim h [ inl old ↦ is.1 (inl old) | inr (b, lt, bit, same) ↦ is.1 (inr (b, lt, bit, not_first _ _ p b how bit same, same)) ]),
     )
 
 pub returns-clause-covers : goal.returns-clause-covers

@@ -1,4 +1,4 @@
-use Rattle.re_ends.proofs.Prelude.{arith, inl, inr, suc, sym, subst, ◌≡◌, ◌<◌, ◌∙◌, ◌↔◌, length, Has, row_of}
+use Rattle.re_ends.proofs.Prelude.{arith, inl, inr, ◌∙◌}
 use Rattle.re_ends.proofs.preceding.add_chained.Goals.{then-is_only, else-is_only}
 use Rattle.re_ends.proofs.preceding.add_chained.Goals as goal
 
@@ -10,7 +10,7 @@ positions-preserved c = elim c.if-is_only.branch [
       | inl old ↦ c.positions.invariant.right q p old
       | inr same ↦
           let is = c.is_only.ensures w.if-is_only.true p in
-          subst (λ y. (y < length c.args.ranges.now) × (Has (row_of c.args.rows.now (length c.args.chained.now) y) p ↔ (suc p ≡ y))) (sym same)
+          rw same
           (omega (arith, c.positions-test.true), ((λ here. let at = is.0 (rw c.row.ensures.is here) in omega (arith, at)), (λ at. rw c.row.ensures.is at (is.1 (omega (arith, at))))))
     ];
   })

@@ -1,4 +1,4 @@
-use Rattle.re_ends.proofs.Prelude.{arith, inl, inr, length, refl, subst, sym, ◌≡◌, expression_of, part_of, cases_lt}
+use Rattle.re_ends.proofs.Prelude.{arith, inl, inr, length, refl, ◌≡◌, expression_of, cases_lt}
 use Rattle.re_auto.proofs.lemmas.FillingLemmas.{none_in_row}
 use Rattle.re_auto.proofs.lemmas.Numbered.{part_numbered}
 use Rattle.re_auto.proofs.lemmas.RowLemmas.{row_within}
@@ -22,12 +22,12 @@ positions-preserved c = record {
           | inl old ↦ let both = was.0 old in (omega (arith, both.0), both.1)
           | inr more ↦ elim ((c.insert.ensures.inserted q).0 more.1) [
             | inl none ↦ absurd (c.clear.ensures.none q none)
-            | inr same ↦ (omega (arith, same), subst (λ y. (part_of (expression_of c.args.automaton.now) 0).follow y x) (sym same) ((c.following.ensures.1 x).0 more.0))
+            | inr same ↦ (omega (arith, same), rw same ((c.following.ensures.1 x).0 more.0))
           ]
         ]),
         (λ h. elim (cases_lt q c.positions.p) [
           | inl less ↦ added.1 (inl (was.1 (less, h.1)))
-          | inr ge ↦ let same : q ≡ c.positions.p = omega (arith, ge, h.0) in added.1 (inr ((c.following.ensures.1 x).1 (subst (λ y. (part_of (expression_of c.args.automaton.now) 0).follow y x) same h.1), (c.insert.ensures.inserted q).1 (inr same)))
+          | inr ge ↦ let same : q ≡ c.positions.p = omega (arith, ge, h.0) in added.1 (inr ((c.following.ensures.1 x).1 (rw same at h.1), (c.insert.ensures.inserted q).1 (inr same)))
         ]),
       );
 }

@@ -1,4 +1,4 @@
-use Rattle.line_chunks.proofs.Prelude.{ℕ, ◌∙◌, ap, subst, Finds, numbers_at, AreBelow}
+use Rattle.line_chunks.proofs.Prelude.{◌∙◌, ap, Finds, numbers_at}
 use Rattle.line_chunks.proofs.lemmas.SeenLaws.{as_many, found_at}
 use Rattle.line_chunks.proofs.chunk.Chunk.matches.Goals as goal
 
@@ -10,5 +10,4 @@ returns-clause-at c =
 
 pub returns-clause-within : goal.returns-clause-within
 returns-clause-within c =
-    subst (λ (n : ℕ). AreBelow n c.matches.result.now)
-    (c.self.invariant.1 ∙ as_many _ _ c.self.view_is) c.matches.ensures.within
+    rw (c.self.invariant.1 ∙ as_many _ _ c.self.view_is) at c.matches.ensures.within

@@ -1,4 +1,4 @@
-use Rattle.line_chunks.proofs.Prelude.{arith, ◌≡◌, ◌∙◌, ap, length, drop, map, take_rest, All-drop, HasNoNewline, lines_of, line_text}
+use Rattle.line_chunks.proofs.Prelude.{arith, ◌∙◌, ap, length, drop, map, take_rest, All-drop, HasNoNewline, lines_of, line_text}
 use Rattle.re_trees.proofs.lemmas.LinesLaws.{lines_of-terminated}
 use Rattle.line_finds.proofs.lemmas.PieceLemmas.{begins_within}
 use Rattle.line_chunks.proofs.lemmas.EndedLemmas.{rest_is, free}

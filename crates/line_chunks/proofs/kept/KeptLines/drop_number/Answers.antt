@@ -1,4 +1,4 @@
-use Rattle.line_chunks.proofs.Prelude.{arith, ap, subst, sym, ◌∙◌, length, AreFilled, all_of, line_without, chunks_of}
+use Rattle.line_chunks.proofs.Prelude.{arith, ap, ◌∙◌, length, all_of, line_without, chunks_of}
 use Rattle.line_chunks.proofs.lemmas.Columns.{lines_mapped, mapped_filled}
 use Rattle.line_chunks.proofs.kept.KeptLines.drop_number.Goals as goal
 
@@ -12,5 +12,5 @@ sum_from-requires-clause-few g c =
 pub invariant_of-self : goal.invariant_of-self
 invariant_of-self g c = (
   c.sum_from.ensures.summed,
-  subst AreFilled (sym (c.sum_from.ensures.chunks ∙ c.drop_in_all.ensures)) (mapped_filled _ _ c.self.invariant.1),
+  rw (c.sum_from.ensures.chunks ∙ c.drop_in_all.ensures) (mapped_filled _ _ c.self.invariant.1),
 )

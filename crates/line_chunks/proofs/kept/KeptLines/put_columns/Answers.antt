@@ -1,4 +1,4 @@
-use Rattle.line_chunks.proofs.Prelude.{arith, ap, subst, sym, ◌∙◌, length, into_iter_items, AreFilled, all_of, chunks_of}
+use Rattle.line_chunks.proofs.Prelude.{arith, ap, ◌∙◌, length, into_iter_items, all_of, chunks_of}
 use Rattle.line_chunks.proofs.lemmas.Columns.{columns_filled, lines_with_columns}
 use Rattle.line_chunks.proofs.kept.KeptLines.put_columns.Goals as goal
 
@@ -12,5 +12,5 @@ sum_from-requires-clause-few g c =
 pub invariant_of-self : goal.invariant_of-self
 invariant_of-self g c = (
   c.sum_from.ensures.summed,
-  subst AreFilled (sym (c.sum_from.ensures.chunks ∙ c.put_all.ensures.chunks)) (columns_filled _ _ c.self.invariant.1),
+  rw (c.sum_from.ensures.chunks ∙ c.put_all.ensures.chunks) (columns_filled _ _ c.self.invariant.1),
 )

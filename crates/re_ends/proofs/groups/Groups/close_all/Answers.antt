@@ -1,8 +1,7 @@
-use Rattle.re_ends.proofs.Prelude.{arith, ap, refl, inl, inr, subst, sym, ℕ, zero, suc, ◌*◌, part_of, false, true≢false, ◌∙◌, ◌≡◌, ◌+◌, ◌-◌, ◌<◌, length, slice_index, cases_lt, with_items_is}
+use Rattle.re_ends.proofs.Prelude.{arith, ap, refl, inl, inr, sym, ℕ, zero, suc, part_of, false, true≢false, ◌∙◌, ◌≡◌, ◌+◌, ◌-◌, ◌<◌, length, slice_index, cases_lt, with_items_is}
 use Rattle.std.proofs.Math.Dec.{eqb}
 use Rattle.std.proofs.lemmas.Bool.{eqb-true}
-use Rattle.re_ends.specs.Working.Closing.{AreClosed}
-use Rattle.re_ends.specs.Working.Groups.{group_of, half_of, Names}
+use Rattle.re_ends.specs.Working.Groups.{group_of, half_of}
 use Rattle.re_ends.proofs.lemmas.ClosingLaws as laws
 use Rattle.re_ends.proofs.groups.Groups.close_all.Goals as goal
 
@@ -12,7 +11,7 @@ add_to-range-requires-clause-made c =
     let m = c.turn-range.ensures b same (c.pieces.invariant.met b same none) in (
       b.e,
       m.made.preceding,
-      (λ k lt bit. m.row.small _ _ (c.pieces.i, rw same c.pieces-test.true, refl, subst (λ xs. Names (slice_index xs c.pieces.i) (c.word_of.result * 64 + k)) (sym same) (subst (λ n. Names (slice_index c.args.after.now c.pieces.i) (n * 64 + k)) (sym c.word_of.ensures) ((c.members_of.ensures k lt).0 bit)))),
+      (λ k lt bit. m.row.small _ _ (c.pieces.i, rw same c.pieces-test.true, refl, rw same (rw c.word_of.ensures ((c.members_of.ensures k lt).0 bit)))),
       ap length c.deref_mut.ensures.value ∙ m.made.met,
     )
 
@@ -48,11 +47,11 @@ pieces-preserved c = record {
 
 pub returns-then-is_empty : goal.returns-then-is_empty
 returns-then-is_empty c = λ b same none.
-    let empty : length c.args.after.now ≡ 0 = eqb-true _ _ (sym (c.if-is_empty.ensures)) in
+    let empty = eqb-true _ _ (sym (c.if-is_empty.ensures)) in
     let m = c.pieces.invariant.met b same none in
-    let start : c.pieces.group ≡ 0 = c.pieces.invariant.first (let le = m.within in omega (arith, le, ap length same, empty)) in
+    let start = c.pieces.invariant.first (let le = m.within in omega (arith, le, ap length same, empty)) in
     let count : 0 ≡ b.count = elim (cases_lt 0 b.count) [ inl some ↦ absurd (let (q, (j, lt, is, at)) = (m.count 0).0 some in omega (arith, lt, ap length same, empty)) | inr ge ↦ omega (arith, ge) ] in
-    (count, m.made, subst (λ k. AreClosed b k c.pieces.self) (start ∙ count) m.closed)
+    (count, m.made, rw (start ∙ count) at m.closed)
 
 -- a member was met
 some : (n : ℕ) → (false ≡ eqb n 0) → 0 < n
@@ -74,4 +73,4 @@ returns c = λ b same none.
     let m = c.pieces.invariant.met b same none in
     let end : c.pieces.i ≡ length b.after = (let le = m.within in omega (arith, le, ap length same, c.pieces-test.false)) in
     let count = laws.all_met m end (let lt = some _ c.if-is_empty.ensures in omega (arith, lt, end, ap length same)) (rw same (c.pieces.invariant.last (let lt = some _ c.if-is_empty.ensures in omega (arith, lt, end, ap length same)))) in
-    (omega (arith, count), c.close.ensures.made b.e m.made, subst (λ k. AreClosed b k c.close.new.self) (sym count) (c.close.ensures.closed b m.made m.closed (laws.is_met m (λ j ge less. absurd (omega (arith, ge, less, end))) (omega (arith, count)))))
+    (omega (arith, count), c.close.ensures.made b.e m.made, rw (← count) at (c.close.ensures.closed b m.made m.closed (laws.is_met m (λ j ge less. absurd (omega (arith, ge, less, end))) (omega (arith, count)))))

@@ -1,4 +1,4 @@
-use Rattle.re_ends.proofs.Prelude.{arith, ap, refl, suc, sym, subst, ◌∙◌, ◌≡◌, length, expression_of, with_items_is}
+use Rattle.re_ends.proofs.Prelude.{arith, ap, refl, suc, sym, ◌∙◌, ◌≡◌, length, expression_of, with_items_is}
 use Rattle.re_auto.proofs.lemmas.BitLemmas.{within}
 use Rattle.re_ends.specs.Working.Closing.{AreClosed, Byte}
 use Rattle.re_ends.specs.Working.Groups.{AreGroupsFor}
@@ -13,7 +13,7 @@ close-requires-clause-made c =
     let b : Byte = record { e = expression_of c.args.automaton.now; code = c.args.byte; at_end = c.args.at_end; after = c.args.after.now; count = c.requires.after.count } in
     let (count, made, closed) = c.close_all-count.ensures b refl (c.begin.ensures c.args.at_end c.args.after.now c.requires.after.count c.requires.after c.requires.after.groups) in
     let met = with_items_is c.close_all-count.new.self.met c.copy.new.into (let e : length c.copy.new.into ≡ c.close_all-count.new.self.met.len = omega (arith, ap length c.copy.ensures, c.ending.ensures.0, made.met, c.close_all-count.new.self.met.ok) in e) in
-    (b, laws.with_met _ made (ap length met ∙ ap length c.copy.ensures ∙ c.ending.ensures.0 ∙ sym made.met), subst (λ k. AreClosed b k c.close_all-count.new.self) (sym count) closed)
+    (b, laws.with_met _ made (ap length met ∙ ap length c.copy.ensures ∙ c.ending.ensures.0 ∙ sym made.met), rw count closed)
 
 pub close-requires-clause-covers : goal.close-requires-clause-covers
 close-requires-clause-covers c =
@@ -41,8 +41,8 @@ module _ (c : goal.After-self-2-1) where
       let met = with_items_is c.close_all-count.new.self.met c.copy.new.into (let e : length c.copy.new.into ≡ c.close_all-count.new.self.met.len = omega (arith, ap length c.copy.ensures, c.ending.ensures.0, made.met, c.close_all-count.new.self.met.ok) in e) in
       let made' = laws.with_met _ made (ap length met ∙ ap length c.copy.ensures ∙ c.ending.ensures.0 ∙ sym made.met) in (
         c.close.ensures.made b.e made',
-        subst (λ k. AreClosed b (suc k) c.close.new.self) count
-            (c.close.ensures.closed b made' (subst (λ k. AreClosed b k c.close_all-count.new.self) (sym count) closed) (rw (met, c.copy.ensures, count) (laws.is_own b c.ending.result.now c.requires.after.groups c.ending.ensures.1))),
+        rw count at
+            (c.close.ensures.closed b made' (rw count closed) (rw (met, c.copy.ensures, count) (laws.is_own b c.ending.result.now c.requires.after.groups c.ending.ensures.1))),
       )
 
 pub returns-clause-made : goal.returns-clause-made

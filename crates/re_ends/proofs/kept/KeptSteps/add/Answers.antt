@@ -1,6 +1,5 @@
-use Rattle.re_ends.proofs.Prelude.{arith, ap, ◌≡◌, ◌+◌, ◌*◌, ◌≤◌, sym, subst, length, ◌∙◌, expression_of, positions}
+use Rattle.re_ends.proofs.Prelude.{arith, ap, ◌≡◌, ◌+◌, ◌*◌, ◌≤◌, sym, length, ◌∙◌, expression_of}
 use Rattle.std.specs.Prelude.{◌^◌}
-use Rattle.re_ends.specs.Working.Groups.{IsRow}
 use Rattle.re_ends.proofs.lemmas.KeptLaws as laws
 use Rattle.re_ends.proofs.kept.KeptSteps.add.Goals as goal
 
@@ -26,7 +25,7 @@ returns-clause-sound c =
     let same = c.in_ok-row.ensures.items ∙ c.deref.ensures.value in
     let filled : c.len-number.result * c.args.self.now.width + c.args.self.now.width ≤ length c.lengthen.new.cells.items = omega (arith, c.in_ok-lengthen.ensures.len) in
     let small : c.len-number.result * c.args.self.now.width + c.args.self.now.width ≤ 2 ^ 30 = omega (arith, c.if-first.false, right.rows.classes.narrow) in (
-      rw (c.count_bytes-2.ensures, c.count_bytes.ensures, c.in_ok-push.ensures.items) (laws.right_more right c.in_ok-row.row c.lengthen.new.cells.items (subst (IsRow (positions e)) (sym same) c.requires.row) (rw number at filled) (rw number at small) (rw number at c.lengthen.ensures.same) (rw number at c.lengthen.ensures.none)),
+      rw (c.count_bytes-2.ensures, c.count_bytes.ensures, c.in_ok-push.ensures.items) (laws.right_more right c.in_ok-row.row c.lengthen.new.cells.items (rw same c.requires.row) (rw number at filled) (rw number at small) (rw number at c.lengthen.ensures.same) (rw number at c.lengthen.ensures.none)),
       rw (c.count_bytes-2.ensures, c.count_bytes.ensures, c.in_ok-push.ensures.items) (laws.row_at c.args.self.now.width c.len-number.result c.in_ok-row.row (omega (arith, ap length right.rows.begin.4, number)) (rw number (laws.get_last c.args.self.now.rows.items c.in_ok-row.row)) (sym same)),
     )
 

@@ -1,8 +1,8 @@
-use Rattle.re_ends.proofs.Prelude.{arith, ap, length, subst, sym, ◌<◌, ◌∙◌, ◌-◌, ◌∷◌, ◌++◌, []}
+use Rattle.re_ends.proofs.Prelude.{arith, ap, length, sym, ◌<◌, ◌∙◌, ◌-◌}
 use Rattle.std.proofs.Common.{rules}
 use Rattle.std.specs.List.{range_with_len}
 use Rattle.std.proofs.lemmas.Option.{get_or_from_slice_get, slice_get_within}
-use Rattle.re_ends.specs.Working.Groups.{Fits, Leaves, numbers_of}
+use Rattle.re_ends.specs.Working.Groups.{numbers_of}
 use Rattle.re_ends.specs.Working.KeptSteps.{listed, unknown}
 use Rattle.re_ends.proofs.lemmas.ListLaws.{run_within}
 use Rattle.re_ends.proofs.kept.KeptSteps.apply.Goals as goal
@@ -17,7 +17,7 @@ cut-requires-clause-few c =
     let le = run_within c.args.step.op (length c.args.list.now.ends) kept first is fits.2 in omega (arith, le, count)
 
 pub returns-then-step-lt-LISTED-clause-moved : goal.returns-then-step-lt-LISTED-clause-moved
-returns-then-step-lt-LISTED-clause-moved c = λ kept operation long yes. subst (λ l. Leaves l (c.args.list.now.ends ++ c.args.place ∷ []) c.cut.new.self.ends) (sym ((operation.0 c.if-step-lt-LISTED.true).1 ∙ ap (range_with_len c.args.step.op) long)) c.cut.ensures.cut
+returns-then-step-lt-LISTED-clause-moved c = λ kept operation long yes. rw ((operation.0 c.if-step-lt-LISTED.true).1 ∙ ap (range_with_len c.args.step.op) long) c.cut.ensures.cut
 
 pub index-requires : goal.index-requires
 index-requires c =
@@ -32,9 +32,9 @@ pick-requires c =
     let (kept, operation, count, fits) = c.requires held in
     let (runs, at, same) = operation.1 (omega (arith, c.if-step-lt-LISTED.false)) in
     let is = same ∙ ap (λ v. numbers_of v.items) (sym (c.index.ensures ∙ get_or_from_slice_get c.args.self.now.lists.items (c.args.step.op - listed) runs c.index.result.now at)) ∙ ap numbers_of (sym c.deref.ensures.value) in
-    record { fits = subst (λ l. Fits l c.args.list.now) is fits; count = sym count ∙ ap length is }
+    record { fits = rw is at fits; count = sym count ∙ ap length is }
 
 pub returns-clause-moved : goal.returns-clause-moved
 returns-clause-moved c = λ kept operation long yes.
     let (runs, at, same) = operation.1 (omega (arith, c.if-step-lt-LISTED.false)) in
-    subst (λ l. Leaves l (c.args.list.now.ends ++ c.args.place ∷ []) c.pick.new.self.ends) (ap numbers_of c.deref.ensures.value ∙ ap (λ v. numbers_of v.items) (c.index.ensures ∙ get_or_from_slice_get c.args.self.now.lists.items (c.args.step.op - listed) runs c.index.result.now at) ∙ sym same) c.pick.ensures.picked
+    rw (ap numbers_of c.deref.ensures.value ∙ ap (λ v. numbers_of v.items) (c.index.ensures ∙ get_or_from_slice_get c.args.self.now.lists.items (c.args.step.op - listed) runs c.index.result.now at) ∙ sym same) at c.pick.ensures.picked

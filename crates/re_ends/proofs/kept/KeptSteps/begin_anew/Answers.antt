@@ -1,8 +1,7 @@
-use Rattle.re_ends.proofs.Prelude.{arith, ap, get_or, refl, slice_get, sym, subst, length, length-replicate, set, take, ◌++◌, ◌≡◌, ◌*◌, ◌≤◌, ◌∙◌, expression_of, positions}
+use Rattle.re_ends.proofs.Prelude.{arith, ap, get_or, refl, slice_get, sym, length, length-replicate, set, take, ◌++◌, ◌≡◌, ◌*◌, ◌≤◌, ◌∙◌, expression_of, positions}
 use Rattle.std.specs.Prelude.{vec_capacity}
 use Rattle.std.proofs.lemmas.List.{length-take}
 use Rattle.re_auto.proofs.lemmas.RowLemmas.{row_within}
-use Rattle.re_ends.specs.Working.Groups.{IsRow}
 use Rattle.re_ends.specs.Working.KeptSteps.{no_step}
 use Rattle.re_ends.proofs.lemmas.KeptLaws as laws
 use Rattle.re_ends.proofs.kept.KeptSteps.begin_anew.Goals.{After-extend_from_slice}
@@ -25,7 +24,7 @@ returns-clause-sound c =
     let three = row_within 2 (length c.args.self.now.rows.items) c.args.self.now.width (omega (arith, ap length is)) in
     let long = length-take (3 * c.args.self.now.width) c.args.self.now.cells.items in
     rw (c.truncate.ensures.items, ap (λ l. set (take 3 l) 2 c.extend_from_slice.new.self) is)
-    (laws.right_three x y c.extend_from_slice.new.self c.clear-2.new.self.items rows.classes none none-2 (subst (IsRow (positions (expression_of c.args.automaton.now))) (sym same) c.requires.row) room
+    (laws.right_three x y c.extend_from_slice.new.self c.clear-2.new.self.items rows.classes none none-2 (rw same c.requires.row) room
     (omega (arith, ap length blank, length-replicate c.truncate-2.new.self.len no_step, c.truncate-2.new.self.ok, ap length c.truncate-2.ensures.items, long, filled, three)) (λ k. ap (λ l. get_or l k no_step) blank ∙ laws.blank_at no_step c.truncate-2.new.self.len k))
 
 pub returns-clause-row : goal.returns-clause-row

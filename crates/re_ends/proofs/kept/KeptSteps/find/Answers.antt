@@ -7,7 +7,7 @@ use Rattle.re_ends.proofs.lemmas.KeptLaws.{row_at}
 use Rattle.re_ends.proofs.kept.KeptSteps.find.Goals as goal
 
 not_false : (b : Bool) → false ≡ not b → true ≡ b
-not_false true is = refl
+not_false true _ = refl
 not_false false is = absurd (false≢true is)
 
 pub overflow_mul-result : goal.overflow_mul-result
@@ -17,6 +17,6 @@ overflow_mul-result c =
 
 pub returns : goal.returns
 returns c =
-    row_at c.args.self.now.width c.in-Some.known.now c.index.result.now (omega (arith, c.if-number-eq0.false))
+    row_at _ _ _ (omega (arith, c.if-number-eq0.false))
     (slice_get_read c.args.self.now.rows.items c.len.result c.in-Some.known.now c.index.result.now (omega (arith, c.len.ensures, c.args.self.now.rows.ok)) c.if-number-len.false c.index.ensures)
     (sym c.as_slice-2.ensures.value ∙ sym (same_text c.as_slice.result.now c.as_slice-2.result.now (not_false _ (sym c.if-ne.false ∙ c.ne.ensures))) ∙ c.as_slice.ensures.value)

@@ -1,6 +1,4 @@
-use Rattle.re_ends.proofs.Prelude.{arith, ap, sym, subst, ◌<◌, ◌∙◌, length, slice_index, expression_of, positions}
-use Rattle.re_auto.specs.Working.StateSets.{AreAlikeInClasses}
-use Rattle.re_ends.specs.Working.Groups.{IsRow}
+use Rattle.re_ends.proofs.Prelude.{arith, ap, ◌∙◌, length, expression_of, positions}
 use Rattle.re_ends.proofs.lemmas.KeptLaws as laws
 use Rattle.re_ends.proofs.kept.KeptSteps.new.Goals as goal
 
@@ -12,7 +10,7 @@ returns c =
     rw (c.in_ok-push-3.ensures.items, c.in_ok-push-2.ensures.items, c.in_ok-push.ensures.items, c.new-rows.ensures.items)
     (laws.right_three c.new.result c.new-2.result c.in_ok-with_capacity.field-0 c.new-3.result.items (record {
       bytes = ap length classes ∙ c.classes.ensures.len;
-      classed = λ k lt. subst (λ l. slice_index l k < c.count_of-width.result) c.deref.ensures.value (c.count_of-width.ensures.above k (omega (arith, lt, ap length c.deref.ensures.value, ap length classes, c.classes.ensures.len)));
+      classed = λ k lt. rw c.deref.ensures.value at (c.count_of-width.ensures.above k (omega (arith, lt, ap length c.deref.ensures.value, ap length classes, c.classes.ensures.len)));
       narrow = c.count_of-width.ensures.few;
-      alike = subst (AreAlikeInClasses e) (sym classes) c.classes.ensures.alike;
-    }) c.new.ensures.items c.new-2.ensures.items (subst (IsRow (positions e)) (sym none) (laws.no_groups (positions e))) (omega (arith, c.in_ok-with_capacity.ensures.exact, c.size.ensures)) (omega (arith, c.in_ok-lengthen.ensures.len)) (λ k. c.lengthen.ensures.none k (omega arith)))
+      alike = rw classes c.classes.ensures.alike;
+    }) c.new.ensures.items c.new-2.ensures.items (rw none (laws.no_groups (positions e))) (omega (arith, c.in_ok-with_capacity.ensures.exact, c.size.ensures)) (omega (arith, c.in_ok-lengthen.ensures.len)) (λ k. c.lengthen.ensures.none k (omega arith)))

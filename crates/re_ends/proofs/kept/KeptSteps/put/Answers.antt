@@ -1,6 +1,6 @@
-use Rattle.re_ends.proofs.Prelude.{arith, false, set, subst, sym, ◌+◌, ◌≡◌, slice_index, expression_of, Has, part_of, positions}
+use Rattle.re_ends.proofs.Prelude.{arith, false, set, sym, ◌+◌, ◌≡◌, slice_index, expression_of, Has, part_of, positions}
 use Rattle.re_ends.specs.Working.Groups.{numbers_of}
-use Rattle.re_ends.specs.Working.KeptSteps.{AreRight, IsOperation}
+use Rattle.re_ends.specs.Working.KeptSteps.{AreRight}
 use Rattle.re_ends.proofs.lemmas.GroupLaws.{first_alike}
 use Rattle.re_ends.proofs.lemmas.KeptLaws as laws
 use Rattle.re_ends.proofs.kept.KeptSteps.put.Goals.{After-index}
@@ -41,10 +41,10 @@ sound c =
       into = c.args.groups.now.row.items;
       row = c.requires.to;
       kept = numbers_of c.args.groups.now.runs.items;
-      op = subst (λ l. IsOperation c.operation_of.new.lists.items c.in-Ok.op (numbers_of l)) c.deref.ensures.value c.in-Ok.ensures.op.1;
+      op = rw c.deref.ensures.value at c.in-Ok.ensures.op.1;
       count = sym c.requires.count;
       right = c.requires.from.3;
-      inside = first_alike (Has c.beginning.result.now) ((part_of e 0).first false) c.args.groups.now.row.items c.beginning.ensures.1 (rw c.deref-2.ensures.value at c.first_in-inside.ensures);
+      inside = first_alike (Has c.beginning.result.now) ((part_of e 0).first false) _ c.beginning.ensures.1 (rw c.deref-2.ensures.value at c.first_in-inside.ensures);
     }))
 
 pub returns-then-op-lt-LISTED-clause-sound : goal.returns-then-op-lt-LISTED-clause-sound

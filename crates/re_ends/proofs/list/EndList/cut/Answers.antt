@@ -14,7 +14,7 @@ returns-clause-cut c =
     let ends = c.args.self.now.ends ++ c.args.place ∷ [] in
     let first = c.args.first in
     let count = c.args.count in
-    let is : take s.count (drop s.base s.buffer.items) ≡ ends = ap (λ e. e.ends) c.self.view_is ∙ c.put_last.ensures.last in
+    let is = ap (λ e. e.ends) c.self.view_is ∙ c.put_last.ensures.last in
     let long = length-append c.args.self.now.ends (c.args.place ∷ []) in
     let rest : s.count ≡ first + (s.count - first) = omega (arith, c.requires.few, ap length is, length-take s.count (drop s.base s.buffer.items), long) in
     sym

@@ -1,4 +1,4 @@
-use Rattle.re_ends.proofs.Prelude.{arith, ap, subst, sym, length, length-append, map, slice_index, take, drop, ◌≡◌, ◌+◌, ◌<◌, ◌∙◌, ◌++◌, ◌∷◌, [], with_items_is}
+use Rattle.re_ends.proofs.Prelude.{arith, ap, sym, length, length-append, map, slice_index, take, drop, ◌≡◌, ◌+◌, ◌<◌, ◌∙◌, ◌++◌, ◌∷◌, [], with_items_is}
 use Rattle.std.proofs.lemmas.List.{ext_get_or, get_or-drop, get_or-map, get_or-take, length-drop, length-map, length-take}
 use Rattle.re_ends.specs.Working.Groups.{numbers_of}
 use Rattle.re_ends.proofs.list.EndList.pick.Goals.{After-self}
@@ -8,7 +8,7 @@ use Rattle.re_ends.proofs.list.EndList.pick.Goals as goal
 held : (c : After-self) → (take c.self.inside.count (drop c.self.inside.base c.self.inside.buffer.items) ≡ c.args.self.now.ends ++ c.args.place ∷ []) × (c.self.inside.count ≡ length c.args.self.now.ends + 1)
 held c =
     let s = c.self.inside in
-    let is : take s.count (drop s.base s.buffer.items) ≡ c.args.self.now.ends ++ c.args.place ∷ [] = ap (λ e. e.ends) c.self.view_is ∙ c.put_last.ensures.last in
+    let is = ap (λ e. e.ends) c.self.view_is ∙ c.put_last.ensures.last in
     (is, omega (arith, ap length is, length-take s.count (drop s.base s.buffer.items), length-drop s.base s.buffer.items, c.self.invariant, length-append c.args.self.now.ends (c.args.place ∷ [])))
 
 pub join_runs-at-requires : goal.join_runs-at-requires
@@ -28,7 +28,7 @@ returns-clause-picked c =
     let j = c.join_runs-at in
     let all = take s.count (drop s.base s.buffer.items) in
     rw (with_items_is s.buffer j.new.buffer (j.ensures.len ∙ c.deref_mut.ensures.len))
-    (subst (λ l. take c.args.count (drop (s.base + j.result) j.new.buffer) ≡ map (λ k. slice_index l k) kept) is (ext_get_or 0 (take c.args.count (drop (s.base + j.result) j.new.buffer)) (map (λ k. slice_index all k) kept) (omega (arith, length-take c.args.count (drop (s.base + j.result) j.new.buffer), length-drop (s.base + j.result) j.new.buffer, length-map kept (λ k. slice_index all k), c.requires.count, j.ensures.within, j.ensures.len))
+    (rw is at (ext_get_or 0 (take c.args.count (drop (s.base + j.result) j.new.buffer)) (map (λ k. slice_index all k) kept) (omega (arith, length-take c.args.count (drop (s.base + j.result) j.new.buffer), length-drop (s.base + j.result) j.new.buffer, length-map kept (λ k. slice_index all k), c.requires.count, j.ensures.within, j.ensures.len))
     (λ i lt.
     let less : i < length kept = omega (arith, lt, length-take c.args.count (drop (s.base + j.result) j.new.buffer), c.requires.count) in
     let le = c.requires.fits.2 i less in

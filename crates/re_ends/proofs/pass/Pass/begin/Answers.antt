@@ -1,5 +1,4 @@
-use Rattle.re_ends.proofs.Prelude.{arith, [], inl, inr, sym, subst, expression_of, part_of}
-use Rattle.re_ends.specs.Working.Groups.{StandAt}
+use Rattle.re_ends.proofs.Prelude.{arith, [], inl, inr, expression_of}
 use Rattle.re_ends.proofs.lemmas.GroupLaws.{stand_begin}
 use Rattle.re_ends.proofs.pass.Pass.begin.Goals as goal
 
@@ -10,6 +9,6 @@ returns-clause-at c = (
     within = elim c.requires.border [ inl is ↦ omega (arith, is) | inr lt ↦ omega (arith, lt.0) ];
     groups = [];
     row = c.first_row-row.ensures;
-    stands = subst (StandAt (part_of (expression_of c.args.asked.now.automaton.now) 0) c.args.asked.now.line.now c.args.end []) (sym c.clear.ensures.none) (stand_begin (expression_of c.args.asked.now.automaton.now) c.args.asked.now.line.now c.args.end c.requires.border);
+    stands = rw c.clear.ensures.none (stand_begin (expression_of c.args.asked.now.automaton.now) c.args.asked.now.line.now c.args.end c.requires.border);
   },
 )

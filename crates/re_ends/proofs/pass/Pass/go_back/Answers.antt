@@ -1,5 +1,4 @@
-use Rattle.re_ends.proofs.Prelude.{arith, refl, subst, inl, inr, ◌≡◌, expression_of}
-use Rattle.re_ends.specs.Working.EndTables.{AddsFrom}
+use Rattle.re_ends.proofs.Prelude.{arith, refl, inl, inr, ◌≡◌}
 use Rattle.re_ends.proofs.pass.Pass.go_back.Goals as goal
 
 pub places-init : goal.places-init
@@ -21,4 +20,4 @@ places-preserved c = record {
 }
 
 pub returns-clause-added : goal.returns-clause-added
-returns-clause-added c = subst (λ n. AddsFrom (expression_of c.args.asked.now.automaton.now) c.args.asked.now.line.now c.args.stop c.args.from.place n c.args.ends.now c.places.ends) (let there : c.places.spot.place ≡ c.args.stop = omega (arith, c.places-test.false, c.places.invariant.stop) in there) c.places.invariant.added
+returns-clause-added c = rw (let there : c.places.spot.place ≡ c.args.stop = omega (arith, c.places-test.false, c.places.invariant.stop) in there) at c.places.invariant.added

@@ -1,6 +1,6 @@
-use Rattle.re_ends.proofs.Prelude.{arith, ap, length, subst, sym, false, ℕ, ◌-◌, ◌∙◌, ◌∷◌, ◌++◌, [], expression_of, is_end}
+use Rattle.re_ends.proofs.Prelude.{arith, ap, length, sym, false, ℕ, ◌-◌, ◌∙◌, expression_of, is_end}
 use Rattle.re_ends.specs.declared.kept.KeptSteps.{KeptSteps}
-use Rattle.re_ends.specs.Working.Groups.{Fits, Leaves, numbers_of}
+use Rattle.re_ends.specs.Working.Groups.{numbers_of}
 use Rattle.re_ends.specs.Working.KeptSteps.{IsRowIn}
 use Rattle.re_ends.specs.Working.EndTables.{IsAtRow}
 use Rattle.re_ends.proofs.lemmas.KeptLaws.{row_is}
@@ -19,14 +19,14 @@ stepped c steps row is =
     let at = c.requires.at.1 in
     let same = c.row-after.ensures (is_end c.args.asked.now.line.now c.args.from.place) at.groups at.row in
     laws.step_stands c.pick.new.self c.args.from.place c.requires.some at.within (rw same at c.step.ensures.right) at.stands
-    (subst (λ l. Leaves (numbers_of l) (c.args.self.now.list.ends ++ c.args.from.place ∷ []) c.pick.new.self.ends) c.deref.ensures.value c.pick.ensures.picked) is
+    (rw c.deref.ensures.value at c.pick.ensures.picked) is
 
 pub pick-requires : goal.pick-requires
 pick-requires c =
     let at = c.requires.at.1 in
     let same = c.row-after.ensures (is_end c.args.asked.now.line.now c.args.from.place) at.groups at.row in
     record {
-      fits = subst (λ l. Fits (numbers_of l) c.args.self.now.list) (sym c.deref.ensures.value) (laws.step_fits _ (row_is c.requires.at.0.steps at.row) (rw same at c.step.ensures.right) at.stands c.requires.at.0.most);
+      fits = rw c.deref.ensures.value (laws.step_fits _ (row_is c.requires.at.0.steps at.row) (rw same at c.step.ensures.right) at.stands c.requires.at.0.most);
       count = c.step.ensures.count ∙ ap (λ l. length (numbers_of l)) (sym c.deref.ensures.value);
     }
 

@@ -3,7 +3,7 @@ use Rattle.re_ends.proofs.preceding.Preceding.of.Goals as goal
 
 pub returns : goal.returns
 returns c =
-    let width : ℕ = length c.taking-width.result.now in
+    let width = length c.taking-width.result.now in
     let rows = with_items_is c.in_ok-rows.rows c.turn.new.rows (c.turn.ensures.len ∙ c.deref_mut-2.ensures.len) in
     let chained = with_items_is c.in_ok-chained.chained c.add_chained.new.chained (c.add_chained.ensures.len ∙ c.deref_mut-3.ensures.len) in
     let turned : (q r : ℕ) → q < positions (expression_of c.args.automaton.now) → Has (row_of c.turn.new.rows width q) r ↔ (part_of (expression_of c.args.automaton.now) 0).follow r q = λ q r lt.

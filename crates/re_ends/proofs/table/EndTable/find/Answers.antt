@@ -1,5 +1,4 @@
-use Rattle.re_ends.proofs.Prelude.{arith, refl, inl, inr, subst, ◌≡◌, expression_of}
-use Rattle.re_ends.specs.Working.EndTables.{IsFirstFrom}
+use Rattle.re_ends.proofs.Prelude.{arith, refl, inl, inr, ◌≡◌}
 use Rattle.re_ends.proofs.table.EndTable.find.Goals as goal
 
 pub pieces-init : goal.pieces-init
@@ -23,9 +22,9 @@ pieces-preserved c = record {
 pub returns-then-seen-eq0-clause-found : goal.returns-then-seen-eq0-clause-found
 returns-then-seen-eq0-clause-found c =
     let there : c.pieces.seen.spot.place ≡ c.args.window.start = omega (arith, c.pieces-test.false, c.pieces.invariant.start) in
-    elim (subst (λ n. IsFirstFrom (expression_of c.args.asked.now.automaton.now) c.args.asked.now.line.now n c.args.window.end c.pieces.seen.first) there c.pieces.invariant.found) [ inl none ↦ none.1 | inr some ↦ absurd (omega (arith, some.0, c.if-seen-eq0.true)) ]
+    elim (rw there at c.pieces.invariant.found) [ inl none ↦ none.1 | inr some ↦ absurd (omega (arith, some.0, c.if-seen-eq0.true)) ]
 
 pub returns-clause-found : goal.returns-clause-found
 returns-clause-found c =
     let there : c.pieces.seen.spot.place ≡ c.args.window.start = omega (arith, c.pieces-test.false, c.pieces.invariant.start) in
-    elim (subst (λ n. IsFirstFrom (expression_of c.args.asked.now.automaton.now) c.args.asked.now.line.now n c.args.window.end c.pieces.seen.first) there c.pieces.invariant.found) [ inl none ↦ absurd (c.if-seen-eq0.false none.0) | inr some ↦ some.1 ]
+    elim (rw there at c.pieces.invariant.found) [ inl none ↦ absurd (c.if-seen-eq0.false none.0) | inr some ↦ some.1 ]

@@ -1,5 +1,4 @@
-use Rattle.re_ends.proofs.Prelude.{arith, ap, ◌∙◌, subst, sym, slice_index, with_items_is, expression_of}
-use Rattle.re_ends.specs.Working.EndTables.{IsFirstFrom}
+use Rattle.re_ends.proofs.Prelude.{arith, ap, ◌∙◌, slice_index, with_items_is, expression_of}
 use Rattle.re_ends.proofs.lemmas.KeptLaws.{blank_at}
 use Rattle.re_ends.proofs.lemmas.TableLaws as laws
 use Rattle.re_ends.proofs.table.EndTable.look_back.Goals as goal
@@ -11,5 +10,5 @@ returns-clause-found c = λ end within was.
     let place = c.args.seen.spot.place in
     let zeros = c.deref_mut.ensures.value ∙ c.fill.ensures.items (λ y h. h) in
     let same = c.deref.ensures.value ∙ with_items_is c.fill.new.self c.go_back-spot.new.ends (c.go_back-spot.ensures.added.0 ∙ c.deref_mut.ensures.len) in
-    subst (λ n. IsFirstFrom e line n end c.first_of-first.result) (sym c.go_back-spot.ensures.place)
+    rw c.go_back-spot.ensures.place
     (laws.first_found e line c.max-stop.result place end c.deref_mut.result.now c.go_back-spot.new.ends c.args.seen.first c.first_of-first.result (omega (arith, c.max-stop.ensures, c.saturating_sub.ensures, c.requires.some)) (λ i. ap (λ l. slice_index l i) zeros ∙ blank_at 0 _ i) c.go_back-spot.ensures.added within (rw same at c.first_of-first.ensures) was)

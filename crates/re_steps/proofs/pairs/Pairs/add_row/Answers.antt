@@ -1,4 +1,4 @@
-use Rattle.re_steps.proofs.Prelude.{◌≡◌, ◌++◌, replicate, sym, ap, ◌∙◌, subst, take-replicate, unknown, Mirrors}
+use Rattle.re_steps.proofs.Prelude.{◌≡◌, ◌++◌, replicate, ap, ◌∙◌, take-replicate, unknown}
 use Rattle.re_steps.proofs.lemmas.PairLemmas.{mirrors_longer}
 use Rattle.re_steps.proofs.pairs.Pairs.add_row.Goals as goal
 
@@ -6,7 +6,7 @@ pub invariant_of-self-2 : goal.invariant_of-self-2
 invariant_of-self-2 c =
     let added : c.extend_from_slice.new.self.items ≡ c.self.inside.cells.items ++ replicate c.args.width unknown =
     c.in_ok-extend_from_slice.ensures.items ∙ ap (λ xs. c.self.inside.cells.items ++ xs) (take-replicate c.args.width 256 unknown c.requires) in
-    subst (Mirrors c.self.inside.entries.entries) (sym added) (mirrors_longer c.self.inside.entries.entries c.self.inside.cells.items c.args.width c.self.invariant)
+    rw added (mirrors_longer _ _ _ c.self.invariant)
 
 pub returns-clause-added : goal.returns-clause-added
 returns-clause-added c =
@@ -18,4 +18,4 @@ pub returns-clause-mirrors : goal.returns-clause-mirrors
 returns-clause-mirrors c =
     let added : c.extend_from_slice.new.self.items ≡ c.self.inside.cells.items ++ replicate c.args.width unknown =
     c.in_ok-extend_from_slice.ensures.items ∙ ap (λ xs. c.self.inside.cells.items ++ xs) (take-replicate c.args.width 256 unknown c.requires) in
-    subst (Mirrors c.self.inside.entries.entries) (sym added) (mirrors_longer c.self.inside.entries.entries c.self.inside.cells.items c.args.width c.self.invariant)
+    rw added (mirrors_longer _ _ _ c.self.invariant)

@@ -1,4 +1,4 @@
-use Rattle.re_steps.proofs.Prelude.{add-one, expression_of, Search}
+use Rattle.re_steps.proofs.Prelude.{add-one, expression_of}
 use Rattle.re_steps.proofs.lemmas.StageLaws.{goes_to, goes_built}
 use Rattle.re_steps.proofs.sets.SetPair.pass.Goals as goal
 
@@ -9,5 +9,5 @@ returns-then-not-begins-clause-goes c = λ first cache none plain goes.
 
 pub returns-clause-goes : goal.returns-clause-goes
 returns-clause-goes c = λ first cache none plain goes.
-    rw (add-one c.args.place) (goes_built (expression_of c.args.automaton.now) Search c.args.line.now c.args.place first cache c.args.self.now.current c.advance.new.self.current c.args.meter.now c.advance.new.meter
+    rw (add-one c.args.place) (goes_built _ _ _ _ _ _ _ _ _ _
     none plain c.advance.ensures.next c.advance.ensures.counted goes)

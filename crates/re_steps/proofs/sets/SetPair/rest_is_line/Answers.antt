@@ -1,4 +1,4 @@
-use Rattle.re_steps.proofs.Prelude.{◌≡◌, inl, inr, refl, arith, add-one, expression_of, Search, Whole}
+use Rattle.re_steps.proofs.Prelude.{◌≡◌, inl, inr, refl, arith, add-one, Search, Whole}
 use Rattle.re_steps.proofs.lemmas.StageLaws.{goes_built}
 use Rattle.re_steps.proofs.sets.SetPair.rest_is_line.Goals as goal
 
@@ -6,7 +6,7 @@ pub places-preserved : goal.places-preserved
 places-preserved c = record {
   made = c.advance.ensures.made;
   goes = λ first cache none goes. rw (add-one c.places.place)
-      (goes_built (expression_of c.args.automaton.now) Whole c.args.line.now c.places.place first cache c.places.self.current c.advance.new.self.current c.places.meter c.advance.new.meter
+      (goes_built _ _ _ _ _ _ _ _ _ _
       none whole_is_plain c.advance.ensures.next c.advance.ensures.counted (c.places.invariant.goes first cache none goes));
 }
   where

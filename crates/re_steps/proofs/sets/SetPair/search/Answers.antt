@@ -1,4 +1,4 @@
-use Rattle.re_steps.proofs.Prelude.{inl, refl, expression_of, Stage}
+use Rattle.re_steps.proofs.Prelude.{inl, refl, Stage}
 use Rattle.re_steps.proofs.lemmas.StageLaws.{goes_nowhere}
 use Rattle.re_steps.proofs.sets.SetPair.search.Goals as goal
 
@@ -10,5 +10,5 @@ returns-clause-searches c = λ cache none.
       stands = c.start.ensures.stands c.args.mode c.args.line.now;
       cache = inl refl;
       steps = refl;
-      finishes = c.rest.ensures.finishes first cache none (goes_nowhere (expression_of c.args.automaton.now) c.args.mode c.args.line.now first);
+      finishes = c.rest.ensures.finishes first cache none (goes_nowhere _ _ _ _);
     }

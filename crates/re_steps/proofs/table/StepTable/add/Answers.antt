@@ -1,4 +1,4 @@
-use Rattle.re_steps.proofs.Prelude.{◌≡◌, ◌++◌, ◌∷◌, [], length, length-append, replicate, refl, ap, ◌∙◌, subst, arith, get_or_append_left, unknown, Mirrors}
+use Rattle.re_steps.proofs.Prelude.{◌≡◌, ◌++◌, ◌∷◌, [], length, length-append, replicate, refl, ap, ◌∙◌, arith, get_or_append_left, unknown}
 use Rattle.re_steps.proofs.lemmas.StateSetKeys.{new_last, new_number}
 use Rattle.re_steps.proofs.lemmas.RowLaws.{sound_longer, get_left, get_last}
 use Rattle.re_steps.proofs.table.StepTable.add.Goals as goal
@@ -36,4 +36,4 @@ returns-clause-sound c =
     (sound_longer c.requires.sound
     c.args.set c.mark_of.result c.requires.made c.mark_of.ensures c.requires.fresh
     (c.has_room.ensures.cells c.if-not-has_room.false) (c.has_room.ensures.sets c.if-not-has_room.false)
-    (subst (λ es. Mirrors es (known.pairs.cells ++ replicate known.stride unknown)) c.in_ok-add_row.ensures.held.0 (subst (Mirrors c.add_row.new.self.entries) cells c.in_ok-add_row.ensures.mirrors)))
+    (rw c.in_ok-add_row.ensures.held.0 at (rw cells at c.in_ok-add_row.ensures.mirrors)))

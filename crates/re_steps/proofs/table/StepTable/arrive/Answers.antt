@@ -1,4 +1,4 @@
-use Rattle.re_steps.proofs.Prelude.{arith, ◌≡◌, ◌*◌, inl, inr, refl, sym, subst, IsNowhere, Goes, Stage, IsPlain, IsRowOf, cache_of, row_under, expression_in}
+use Rattle.re_steps.proofs.Prelude.{arith, ◌≡◌, ◌*◌, inl, inr, refl, Stage, IsPlain, IsRowOf, cache_of, expression_in}
 use Rattle.re_steps.proofs.lemmas.StageLaws.{goes_to}
 use Rattle.re_steps.proofs.lemmas.RowLaws.{row_zero}
 use Rattle.re_steps.proofs.lemmas.WalkLaws.{under_low, under_high, is_whole, is_search}
@@ -12,7 +12,7 @@ returns-then-place-asked-clause-leads c = λ first landed. let is = landed.1 in 
       place = c.args.place;
       within = c.requires.within.1;
       set = lands.set;
-      goes = subst (λ k. Goes (expression_in c.args.asked.now) c.args.asked.now.mode c.args.asked.now.line.now k first last) is lands.goes;
+      goes = rw is at lands.goes;
       decides = inl (record { search = special.0; within = c.if-place-asked.true; accepting = special.1; yes = refl });
     }
 
@@ -22,12 +22,12 @@ returns-then-cell-ge-LIMIT-clause-leads c =
     let under = under_high c.args.cell c.if-cell-ge-LIMIT.true in (
       omega arith,
       c.requires.within.1,
-      (c.requires.row.0, subst (λ r. IsRowOf known.sets.keys known.stride r c.requires.row.0) under c.requires.row.1),
+      (c.requires.row.0, rw under at c.requires.row.1),
       λ first landed. let is = landed.1 in let lands = landed.2 in record {
         set = lands.set;
-        row = subst (λ r. IsRowOf known.sets.keys known.stride r lands.set) under lands.row;
+        row = rw under at lands.row;
         plain = λ lt. absurd (omega (arith, lt, c.if-place-asked.false));
-        goes = let last : Stage = record { set = lands.set; cache = cache_of known; steps = c.args.meter.now } in subst (λ k. Goes (expression_in c.args.asked.now) c.args.asked.now.mode c.args.asked.now.line.now k first last) is lands.goes;
+        goes = let last : Stage = record { set = lands.set; cache = cache_of known; steps = c.args.meter.now } in rw is at lands.goes;
       },
     )
 
@@ -37,12 +37,12 @@ returns-then-cell-gt0-clause-leads c =
     let under = under_low c.args.cell (omega (arith, c.if-cell-ge-LIMIT.false)) in (
       omega arith,
       c.requires.within.1,
-      (c.requires.row.0, subst (λ r. IsRowOf known.sets.keys known.stride r c.requires.row.0) under c.requires.row.1),
+      (c.requires.row.0, rw under at c.requires.row.1),
       λ first landed. let is = landed.1 in let lands = landed.2 in record {
         set = lands.set;
-        row = subst (λ r. IsRowOf known.sets.keys known.stride r lands.set) under lands.row;
+        row = rw under at lands.row;
         plain = λ _. lands.plain (omega (arith, c.if-cell-ge-LIMIT.false));
-        goes = let last : Stage = record { set = lands.set; cache = cache_of known; steps = c.args.meter.now } in subst (λ k. Goes (expression_in c.args.asked.now) c.args.asked.now.mode c.args.asked.now.line.now k first last) is lands.goes;
+        goes = let last : Stage = record { set = lands.set; cache = cache_of known; steps = c.args.meter.now } in rw is at lands.goes;
       },
     )
 
@@ -51,7 +51,7 @@ returns-then-eq-clause-leads c = λ first landed. let is = landed.1 in let lands
     let known = c.args.self.now in
     let e = expression_in c.args.asked.now in
     let zero : c.args.cell ≡ 0 = omega (arith, c.if-cell-gt0.false) in
-    let row : IsRowOf known.sets.keys known.stride 0 lands.set = subst (λ cell. IsRowOf known.sets.keys known.stride (row_under cell) lands.set) zero lands.row in
+    let row : IsRowOf known.sets.keys known.stride 0 lands.set = rw zero at lands.row in
     let rows = c.requires.right.first in
     let same = row_zero c.requires.right.sound lands.set rows.nowhere row rows.is_nowhere in
     let last : Stage = record { set = lands.set; cache = cache_of known; steps = c.args.meter.now } in
@@ -59,8 +59,8 @@ returns-then-eq-clause-leads c = λ first landed. let is = landed.1 in let lands
       place = c.args.place;
       within = c.requires.within.1;
       set = lands.set;
-      goes = subst (λ k. Goes e c.args.asked.now.mode c.args.asked.now.line.now k first last) is lands.goes;
-      decides = inr (inl (record { whole = is_whole c.args.asked.now.mode c.if-eq.ensures; nowhere = subst IsNowhere (sym same) rows.empty; no = refl }));
+      goes = rw is at lands.goes;
+      decides = inr (inl (record { whole = is_whole _ c.if-eq.ensures; nowhere = rw same rows.empty; no = refl }));
     }
 
 pub returns-clause-leads : goal.returns-clause-leads
@@ -76,17 +76,17 @@ returns-clause-leads c =
       c.next_beginning-next.ensures.within.1,
       (rows.nowhere, zeroth),
       λ first landed. let is = landed.1 in let lands = landed.2 in
-          let row : IsRowOf known.sets.keys known.stride 0 lands.set = subst (λ cell. IsRowOf known.sets.keys known.stride (row_under cell) lands.set) zero lands.row in
+          let row : IsRowOf known.sets.keys known.stride 0 lands.set = rw zero at lands.row in
           let same = row_zero c.requires.right.sound lands.set rows.nowhere row rows.is_nowhere in
           let plain : IsPlain e c.args.asked.now.mode lands.set = lands.plain (omega (arith, zero)) in
           record {
             set = lands.set;
             row = row;
             plain = λ _. plain;
-            goes = subst (λ m. Goes e m c.args.asked.now.line.now next first (record { set = lands.set; cache = cache_of known; steps = c.next_beginning-next.new.meter })) (sym search)
+            goes = rw search
                 (goes_to e c.args.asked.now.line.now first lands.set (cache_of known) c.args.place next c.args.meter.now c.next_beginning-next.new.meter c.next_beginning-next.ensures.within.0
-                (subst IsNowhere (sym same) rows.empty) (subst (λ m. IsPlain e m lands.set) search plain) c.next_beginning-next.ensures.passed c.next_beginning-next.ensures.counted c.next_beginning-next.ensures.none
-                (subst (λ m. Goes e m c.args.asked.now.line.now c.args.place first (record { set = lands.set; cache = cache_of known; steps = c.args.meter.now })) search
-                (subst (λ k. Goes e c.args.asked.now.mode c.args.asked.now.line.now k first (record { set = lands.set; cache = cache_of known; steps = c.args.meter.now })) is lands.goes)));
+                (rw same rows.empty) (rw search at plain) c.next_beginning-next.ensures.passed c.next_beginning-next.ensures.counted c.next_beginning-next.ensures.none
+                (rw search at
+                (rw is at lands.goes)));
           },
     )

@@ -1,9 +1,9 @@
-use Rattle.re_steps.proofs.Prelude.{arith, refl, sym, ◌∙◌, subst, slice_get_within, IsMadeFor, IsSame, expression_in, rows_of}
+use Rattle.re_steps.proofs.Prelude.{arith, refl, ◌∙◌, slice_get_within, expression_in}
 use Rattle.re_steps.proofs.lemmas.RowLaws.{first_later, says_cell, row_small}
 use Rattle.re_steps.proofs.table.StepTable.begin_anew.Goals as goal
 
 pub number_of-requires-clause-made : goal.number_of-requires-clause-made
-number_of-requires-clause-made c = subst (IsMadeFor (expression_in c.args.asked.now)) (sym (c.begin.ensures.keeps.scratch ∙ c.clear.ensures.keeps.scratch)) c.requires.made
+number_of-requires-clause-made c = rw (c.begin.ensures.keeps.scratch ∙ c.clear.ensures.keeps.scratch) c.requires.made
 
 pub cell_of-requires-clause-within : goal.cell_of-requires-clause-within
 cell_of-requires-clause-within c =
@@ -12,12 +12,12 @@ cell_of-requires-clause-within c =
 
 pub cell_of-requires-clause-small : goal.cell_of-requires-clause-small
 cell_of-requires-clause-small c =
-    row_small c.in_ok-number.ensures.sound c.in_ok-number.number c.in_ok-number.ensures.number.0 c.in_ok-number.ensures.number.1
+    row_small c.in_ok-number.ensures.sound _ _ c.in_ok-number.ensures.number.1
 
 pub returns-clause-right : goal.returns-clause-right
 returns-clause-right c = record {
   sound = c.in_ok-number.ensures.sound;
-  first = first_later (expression_in c.args.asked.now) c.args.asked.now.mode (rows_of c.begin.new.self) (rows_of c.number_of.new.self) c.in_ok-number.ensures.kept (c.if-not-begin.ensures.right refl).first;
+  first = first_later _ _ _ _ c.in_ok-number.ensures.kept (c.if-not-begin.ensures.right refl).first;
 }
 
 pub returns-clause-cell : goal.returns-clause-cell
@@ -25,7 +25,7 @@ returns-clause-cell c = λ from byte next.
     let known = c.number_of.new.self in
     let e = expression_in c.args.asked.now in
     let same = c.in_ok-number.ensures.number in
-    let alike = subst (IsSame same.0) (c.begin.ensures.keeps.scratch ∙ c.clear.ensures.keeps.scratch) same.2 in
+    let alike = rw (c.begin.ensures.keeps.scratch ∙ c.clear.ensures.keeps.scratch) at same.2 in
     let mark = c.in_ok-number.ensures.sound.marked c.in_ok-number.number same.0 same.1 in
-    says_cell e c.args.asked.now.mode known.sets.keys known.stride from c.args.self.now.scratch same.0 byte c.in_ok-number.number c.cell_of.result mark.mark same.1 alike next mark.reported_too
-    (row_small c.in_ok-number.ensures.sound c.in_ok-number.number same.0 same.1) (c.cell_of.ensures mark.mark mark.is)
+    says_cell e _ _ _ _ _ _ _ _ _ _ same.1 alike next mark.reported_too
+    (row_small c.in_ok-number.ensures.sound _ _ same.1) (c.cell_of.ensures mark.mark mark.is)

@@ -1,4 +1,4 @@
-use Rattle.re_steps.proofs.Prelude.{arith, ◌≡◌, ◌<◌, ◌⊎◌, ℕ, inl, inr, length, false, eq-eqb, refl, sym, ◌∙◌, subst, false≢true, Text, IsAccepting, expression_in}
+use Rattle.re_steps.proofs.Prelude.{arith, ◌≡◌, ◌<◌, ◌⊎◌, ℕ, inl, inr, length, eq-eqb, refl, sym, ◌∙◌, false≢true, Text, expression_in}
 use Rattle.re_steps.proofs.lemmas.RowLaws.{mark_of_set}
 use Rattle.re_steps.proofs.lemmas.WalkLaws.{is_search}
 use Rattle.re_steps.proofs.table.StepTable.is_matched_at_once.Goals as goal
@@ -16,8 +16,8 @@ returns-clause-yes c = λ start is yes.
     let mark = mark_of_set c.requires.right.sound 1 start c.mark.result is c.mark.ensures in
     record {
       search = search;
-      within = positive c.args.asked.now.line.now (λ none. false≢true (c.if-is_empty.ensures ∙ eq-eqb (length c.args.asked.now.line.now) 0 none));
-      accepting = subst (λ m. IsAccepting e m start false) search (mark.inside.0 yes);
+      within = positive _ (λ none. false≢true (c.if-is_empty.ensures ∙ eq-eqb (length c.args.asked.now.line.now) 0 none));
+      accepting = rw search at (mark.inside.0 yes);
       yes = refl;
     }
 
@@ -25,4 +25,4 @@ pub returns-clause-no : goal.returns-clause-no
 returns-clause-no c = λ start is no some search accepts.
     let e = expression_in c.args.asked.now in
     let mark = mark_of_set c.requires.right.sound 1 start c.mark.result is c.mark.ensures in
-    false≢true (sym no ∙ mark.inside.1 (subst (λ m. IsAccepting e m start false) (sym search) accepts))
+    false≢true (sym no ∙ mark.inside.1 (rw search accepts))

@@ -1,4 +1,4 @@
-use Rattle.re_steps.proofs.Prelude.{arith, ◌≡◌, ◌+◌, ◌*◌, ◌⊎◌, ℕ, List, slice_index, sym, ap, ◌∙◌, subst, slice_get_within, IsMadeFor, IsNextSet, StepTable, unknown, IsKeptOrLost, HoldsNoOther, Rows, IsRowOf, AreSound, cache_of, expression_in, rows_of}
+use Rattle.re_steps.proofs.Prelude.{arith, ◌≡◌, ◌+◌, ◌*◌, ℕ, List, slice_index, sym, ap, ◌∙◌, slice_get_within, StepTable, Rows, IsRowOf, AreSound, expression_in}
 use Rattle.re_steps.proofs.lemmas.RowLaws.{first_later, cell_within, sound_held, says_cell, set_of_row, row_small}
 use Rattle.re_steps.proofs.lemmas.WalkLaws.{holds_no_other}
 use Rattle.re_steps.proofs.table.StepTable.learn.Goals as goal
@@ -6,20 +6,18 @@ use Rattle.re_steps.proofs.table.StepTable.learn.Goals as goal
 pub advance-requires-clause-from : goal.advance-requires-clause-from
 advance-requires-clause-from c =
     let row = c.requires.row in
-    subst (IsMadeFor (expression_in c.args.asked.now)) (sym (set_of_row c.requires.ready.0.sound c.args.row c.number.result row.0 c.index-as_slice-number.result c.as_slice.result.now row.1 c.as_slice.ensures.keys c.number.ensures c.index-as_slice-number.is)) (c.requires.ready.0.sound.made row.1.number row.0 row.1.is)
+    rw (set_of_row c.requires.ready.0.sound _ _ _ _ _ row.1 c.as_slice.ensures.keys c.number.ensures c.index-as_slice-number.is) (c.requires.ready.0.sound.made row.1.number row.0 row.1.is)
 
 pub returns-in_err-number-clause-next : goal.returns-in_err-number-clause-next
 returns-in_err-number-clause-next c = λ set row.
-    subst (IsNextSet (expression_in c.args.asked.now) c.args.asked.now.mode set c.args.byte) (sym c.number_of.ensures.keeps.scratch)
-    (subst (λ s. IsNextSet (expression_in c.args.asked.now) c.args.asked.now.mode s c.args.byte c.advance.new.into)
-    (set_of_row c.requires.ready.0.sound c.args.row c.number.result set c.index-as_slice-number.result c.as_slice.result.now row c.as_slice.ensures.keys c.number.ensures c.index-as_slice-number.is)
+    rw c.number_of.ensures.keeps.scratch
+    (rw (set_of_row c.requires.ready.0.sound _ _ _ _ _ row c.as_slice.ensures.keys c.number.ensures c.index-as_slice-number.is) at
     c.advance.ensures.next)
 
 pub returns-clause-next : goal.returns-clause-next
 returns-clause-next c = λ set row.
-    subst (IsNextSet (expression_in c.args.asked.now) c.args.asked.now.mode set c.args.byte) (sym c.number_of.ensures.keeps.scratch)
-    (subst (λ s. IsNextSet (expression_in c.args.asked.now) c.args.asked.now.mode s c.args.byte c.advance.new.into)
-    (set_of_row c.requires.ready.0.sound c.args.row c.number.result set c.index-as_slice-number.result c.as_slice.result.now row c.as_slice.ensures.keys c.number.ensures c.index-as_slice-number.is)
+    rw c.number_of.ensures.keeps.scratch
+    (rw (set_of_row c.requires.ready.0.sound _ _ _ _ _ row c.as_slice.ensures.keys c.number.ensures c.index-as_slice-number.is) at
     c.advance.ensures.next)
 
 pub cell_of-cell-requires-clause-within : goal.cell_of-cell-requires-clause-within
@@ -29,7 +27,7 @@ cell_of-cell-requires-clause-within c =
 
 pub cell_of-cell-requires-clause-small : goal.cell_of-cell-requires-clause-small
 cell_of-cell-requires-clause-small c =
-    row_small c.in_ok-number.ensures.sound c.in_ok-number.number c.in_ok-number.ensures.number.0 c.in_ok-number.ensures.number.1
+    row_small c.in_ok-number.ensures.sound _ _ c.in_ok-number.ensures.number.1
 
 pub put-requires-clause-known : goal.put-requires-clause-known
 put-requires-clause-known c =
@@ -38,11 +36,10 @@ put-requires-clause-known c =
     let row = c.requires.row in
     let same = c.in_ok-number.ensures.number in
     let mark = c.in_ok-number.ensures.sound.marked c.in_ok-number.number same.0 same.1 in
-    let next = subst (λ s. IsNextSet (expression_in c.args.asked.now) c.args.asked.now.mode s c.args.byte c.advance.new.into)
-    (set_of_row c.requires.ready.0.sound c.args.row c.number.result row.0 c.index-as_slice-number.result c.as_slice.result.now row.1 c.as_slice.ensures.keys c.number.ensures c.index-as_slice-number.is)
+    let next = rw (set_of_row c.requires.ready.0.sound _ _ _ _ _ row.1 c.as_slice.ensures.keys c.number.ensures c.index-as_slice-number.is) at
     c.advance.ensures.next in
-    (says_cell e c.args.asked.now.mode known.sets.keys known.stride row.0 c.advance.new.into same.0 c.args.byte c.in_ok-number.number c.cell_of-cell.result mark.mark same.1 same.2 next mark.reported_too
-    (row_small c.in_ok-number.ensures.sound c.in_ok-number.number same.0 same.1) (c.cell_of-cell.ensures mark.mark mark.is)).0
+    (says_cell e _ _ _ _ _ _ _ _ _ _ same.1 same.2 next mark.reported_too
+    (row_small c.in_ok-number.ensures.sound _ _ same.1) (c.cell_of-cell.ensures mark.mark mark.is)).0
 
 pub returns-clause-found : goal.returns-clause-found
 returns-clause-found c = λ set row.
@@ -50,11 +47,10 @@ returns-clause-found c = λ set row.
     let e = expression_in c.args.asked.now in
     let same = c.in_ok-number.ensures.number in
     let mark = c.in_ok-number.ensures.sound.marked c.in_ok-number.number same.0 same.1 in
-    let next = subst (λ s. IsNextSet (expression_in c.args.asked.now) c.args.asked.now.mode s c.args.byte c.advance.new.into)
-    (set_of_row c.requires.ready.0.sound c.args.row c.number.result set c.index-as_slice-number.result c.as_slice.result.now row c.as_slice.ensures.keys c.number.ensures c.index-as_slice-number.is)
+    let next = rw (set_of_row c.requires.ready.0.sound _ _ _ _ _ row c.as_slice.ensures.keys c.number.ensures c.index-as_slice-number.is) at
     c.advance.ensures.next in
-    says_cell e c.args.asked.now.mode known.sets.keys known.stride set c.advance.new.into same.0 c.args.byte c.in_ok-number.number c.cell_of-cell.result mark.mark same.1 same.2 next mark.reported_too
-    (row_small c.in_ok-number.ensures.sound c.in_ok-number.number same.0 same.1) (c.cell_of-cell.ensures mark.mark mark.is)
+    says_cell e _ _ _ _ _ _ _ _ _ _ same.1 same.2 next mark.reported_too
+    (row_small c.in_ok-number.ensures.sound _ _ same.1) (c.cell_of-cell.ensures mark.mark mark.is)
 
 pub returns-clause-right : goal.returns-clause-right
 returns-clause-right c =
@@ -64,12 +60,12 @@ returns-clause-right c =
     let kept = c.in_ok-number.ensures.kept in
     let later : IsRowOf new.sets.keys new.stride c.args.row row.0 = record { number = row.1.number; row = row.1.row ∙ ap (λ n. row.1.number * n) (sym kept.stride); is = kept.sets row.1.number row.0 row.1.is } in
     record {
-      sound = rw c.put.ensures.most (sound_held c.in_ok-number.ensures.sound c.put.new.self.cells c.put.new.self.entries c.args.row c.args.byte c.cell_of-cell.result row.0
+      sound = rw c.put.ensures.most (sound_held c.in_ok-number.ensures.sound _ _ _ _ _ _
           later c.ranges.byte.fits (returns-clause-found c row.0 row.1).1 c.put.ensures.len
-          (subst (λ classes. (slice_index c.put.new.self.cells (c.args.row + slice_index classes c.args.byte) ≡ c.cell_of-cell.result) ⊎ (slice_index c.put.new.self.cells (c.args.row + slice_index classes c.args.byte) ≡ unknown)) c.as_slice-2.ensures.value c.put.ensures.here)
-          (subst (λ classes. (k : ℕ) → (k ≡ c.args.row + slice_index classes c.args.byte → ⊥) → IsKeptOrLost (slice_index new.pairs.cells k) (slice_index c.put.new.self.cells k)) c.as_slice-2.ensures.value c.put.ensures.others)
+          (rw c.as_slice-2.ensures.value at c.put.ensures.here)
+          (rw c.as_slice-2.ensures.value at c.put.ensures.others)
           c.put.ensures.mirrors);
-      first = first_later e c.args.asked.now.mode (rows_of c.args.self.now) (rows_of new) kept c.requires.ready.0.first;
+      first = first_later e _ _ _ kept c.requires.ready.0.first;
     }
 
 -- the sets of a table with other classes and entries
@@ -83,14 +79,14 @@ returns-clause-others c = λ set row.
     let e = expression_in c.args.asked.now in
     let kept = c.in_ok-number.ensures.kept in
     let sound : AreSound e c.args.asked.now.mode (rows_with known.classes.items known.stride new known.pairs.entries) =
-    subst (λ es. AreSound e c.args.asked.now.mode (rows_with known.classes.items known.stride new es)) kept.entries
-    (subst (λ n. AreSound e c.args.asked.now.mode (rows_with known.classes.items n new new.pairs.entries)) kept.stride
-    (subst (λ cs. AreSound e c.args.asked.now.mode (rows_with cs new.stride new new.pairs.entries)) kept.classes c.in_ok-number.ensures.sound)) in
-    subst (λ cs. HoldsNoOther e (cache_of known) set c.args.byte (record { classes = cs; stride = new.stride; sets = new.sets.keys; entries = c.put.new.self.entries })) (sym kept.classes)
-    (subst (λ n. HoldsNoOther e (cache_of known) set c.args.byte (record { classes = known.classes.items; stride = n; sets = new.sets.keys; entries = c.put.new.self.entries })) (sym kept.stride)
+    rw kept.entries at
+    (rw kept.stride at
+    (rw kept.classes at c.in_ok-number.ensures.sound)) in
+    rw kept.classes
+    (rw kept.stride
     (holds_no_other c.requires.ready.0.sound new.sets.keys new.marks.items new.pairs.cells new.pairs.most sound
     (λ r other at. record { number = at.number; row = at.row; is = kept.sets at.number other at.is }) c.put.new.self.cells c.put.new.self.entries c.put.ensures.mirrors c.args.row c.args.byte set row c.ranges.byte.fits
-    (subst (λ classes. (k : ℕ) → (k ≡ c.args.row + slice_index classes c.args.byte → ⊥) → IsKeptOrLost (slice_index new.pairs.cells k) (slice_index c.put.new.self.cells k)) (c.as_slice-2.ensures.value ∙ kept.classes) c.put.ensures.others)
+    (rw (c.as_slice-2.ensures.value ∙ kept.classes) at c.put.ensures.others)
     c.put.ensures.len))
 
 pub number_of-requires-clause-sound : goal.number_of-requires-clause-sound
@@ -101,7 +97,7 @@ number_of-requires-clause-made c = c.advance.ensures.made
 
 pub returns-in_err-number-clause-lasts : goal.returns-in_err-number-clause-lasts
 returns-in_err-number-clause-lasts c = record {
-  made = subst (IsMadeFor (expression_in c.args.asked.now)) (sym c.number_of.ensures.keeps.scratch) c.advance.ensures.made;
+  made = rw c.number_of.ensures.keeps.scratch c.advance.ensures.made;
   most = c.number_of.ensures.keeps.most;
 }
 
@@ -140,6 +136,6 @@ returns-clause-counted c = c.advance.ensures.counted
 
 pub returns-clause-lasts : goal.returns-clause-lasts
 returns-clause-lasts c = record {
-  made = subst (IsMadeFor (expression_in c.args.asked.now)) (sym c.number_of.ensures.keeps.scratch) c.advance.ensures.made;
+  made = rw c.number_of.ensures.keeps.scratch c.advance.ensures.made;
   most = c.put.ensures.most ∙ c.number_of.ensures.keeps.most;
 }

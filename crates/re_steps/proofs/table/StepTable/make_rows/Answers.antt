@@ -1,4 +1,4 @@
-use Rattle.re_steps.proofs.Prelude.{◌≡◌, ◌++◌, ◌∷◌, [], List, Some, true, slice_get, inl, inr, refl, sym, ap, ◌∙◌, subst, false≢true, Text, Expression, Mode, StateSet, StandsAt, expression_in}
+use Rattle.re_steps.proofs.Prelude.{◌≡◌, ◌++◌, ◌∷◌, [], List, true, inl, inr, refl, sym, ap, ◌∙◌, false≢true, Text, Expression, Mode, StateSet, StandsAt, expression_in}
 use Rattle.re_steps.proofs.lemmas.RowLaws.{get_cases}
 use Rattle.re_steps.proofs.table.StepTable.make_rows.Goals as goal
 
@@ -14,7 +14,7 @@ only old new set none is = is ∙ ap (λ ks. ks ++ set ∷ []) none
 pub add-requires-2-clause-fresh : goal.add-requires-2-clause-fresh
 add-requires-2-clause-fresh c = λ t other is same.
     let nowhere = c.in_ok-nowhere.nowhere in
-    elim (get_cases [] nowhere t other (subst (λ ks. slice_get ks t ≡ Some other) (only c.args.self.now.sets.keys c.add.new.self.sets.keys nowhere c.requires.blank.sets c.in_ok-add.ensures.added) is)) [
+    elim (get_cases [] _ t _ (rw (only _ _ _ c.requires.blank.sets c.in_ok-add.ensures.added) at is)) [
       | inl early ↦ cc
       | inr last ↦
           let mark : nowhere.at_begin ≡ true = ap (λ (s : StateSet). s.at_begin) last.1 ∙ same.1 ∙ marked (expression_in c.args.asked.now) c.args.asked.now.mode c.start.new.into (c.start.ensures.stands c.args.asked.now.mode) in
@@ -25,7 +25,7 @@ pub returns-clause-right : goal.returns-clause-right
 returns-clause-right c =
     let nowhere = c.in_ok-nowhere.nowhere in
     let start = c.start.new.into in
-    let keys : c.add-2.new.self.sets.keys ≡ nowhere ∷ start ∷ [] = c.in_ok-add-2.ensures.added ∙ ap (λ ks. ks ++ start ∷ []) (only c.args.self.now.sets.keys c.add.new.self.sets.keys nowhere c.requires.blank.sets c.in_ok-add.ensures.added) in
+    let keys : c.add-2.new.self.sets.keys ≡ nowhere ∷ start ∷ [] = c.in_ok-add-2.ensures.added ∙ ap (λ ks. ks ++ start ∷ []) (only _ _ _ c.requires.blank.sets c.in_ok-add.ensures.added) in
     record {
       sound = c.in_ok-add-2.ensures.sound;
       first = record {

@@ -1,4 +1,4 @@
-use Rattle.re_steps.proofs.Prelude.{arith, ◌∙◌, ◌+◌, ◌-◌, ◌<◌, length, sym, subst, add-one, slice_get-get_or, IsMadeFor, expression_in, IsAt}
+use Rattle.re_steps.proofs.Prelude.{arith, ◌∙◌, ◌+◌, ◌-◌, ◌<◌, length, sym, add-one, slice_get-get_or}
 use Rattle.re_steps.proofs.lemmas.WalkLaws.{walked_is, arrives_on}
 use Rattle.re_steps.proofs.table.StepTable.onward.Goals as goal
 
@@ -15,12 +15,12 @@ returns-in-Some-clause-arrives c =
       walk.place,
       sym (add-one walk.place),
       c.in-Some.ensures.lands line first walk.place (slice_get-get_or line walk.place 0 inside)
-          (subst (λ s. IsAt c.args.asked.now first known s walk.place walk.row) (sym counted) (c.walk-walk.ensures.comes first c.args.meter.now came)),
+          (rw counted (c.walk-walk.ensures.comes first c.args.meter.now came)),
     ))
 
 pub returns-in-Some-clause-lasts : goal.returns-in-Some-clause-lasts
 returns-in-Some-clause-lasts c = record {
-  made = subst (IsMadeFor (expression_in c.args.asked.now)) (sym c.arrive.ensures.keeps.scratch) c.step.ensures.lasts.made;
+  made = rw c.arrive.ensures.keeps.scratch c.step.ensures.lasts.made;
   most = c.arrive.ensures.keeps.most ∙ c.step.ensures.lasts.most;
 }
 
@@ -34,7 +34,7 @@ returns-in-None-clause-arrives c =
     record {
       within = omega (arith, inside);
       goes = λ first cache none came. rw (add-one walk.place) (c.in-None.ensures.alone line first walk.place (slice_get-get_or line walk.place 0 inside)
-          (subst (λ s. IsAt c.args.asked.now first known s walk.place walk.row) (sym counted) (c.walk-walk.ensures.comes first c.args.meter.now came)) cache none);
+          (rw counted (c.walk-walk.ensures.comes first c.args.meter.now came)) cache none);
     }
 
 pub step-requires-clause-row : goal.step-requires-clause-row
@@ -54,5 +54,5 @@ returns-then-walk-asked-clause-arrives c =
       within = c.walk-walk.ensures.on.1;
       row = c.walk-walk.ensures.row;
       comes = λ first came.
-          subst (λ s. IsAt c.args.asked.now first known s walk.place walk.row) (sym counted) (c.walk-walk.ensures.comes first c.args.meter.now came);
+          rw counted (c.walk-walk.ensures.comes first c.args.meter.now came);
     }

@@ -1,4 +1,4 @@
-use Rattle.re_steps.proofs.Prelude.{arith, ◌≡◌, ◌<◌, [], Option, None, Some, IfSome, refl, sym, ◌∙◌, subst, IfNone, unknown, Lands, LandsAlone, IsRow, IsRightFor, IsKnownCell, cell_at, cache_of, row_under, expression_in, many_reused, IsMadeFor}
+use Rattle.re_steps.proofs.Prelude.{arith, ◌≡◌, ◌<◌, Option, None, Some, IfSome, refl, sym, ◌∙◌, IfNone, unknown, IsRow, cell_at, cache_of, row_under, expression_in}
 use Rattle.re_steps.proofs.lemmas.StageLaws.{nothing_held}
 use Rattle.re_steps.proofs.lemmas.WalkLaws.{lands_held, lands_learned, lands_alone, row_below}
 use Rattle.re_steps.proofs.table.StepTable.step.Goals as goal
@@ -16,9 +16,9 @@ pub returns-then-walk-ne-UNKNOWN-clause-cell : goal.returns-then-walk-ne-UNKNOWN
 returns-then-walk-ne-UNKNOWN-clause-cell c =
     let known = c.args.self.now in
     let held : cell_at known.classes.items known.pairs.cells c.args.walk.row c.args.byte < unknown = omega (arith, c.if-walk-ne-UNKNOWN.true, c.requires.cell, c.ranges) in
-    subst (λ cell. (cell < unknown) × IsRow known (row_under cell)) (sym c.requires.cell) (
+    rw c.requires.cell (
       held,
-      row_below c.requires.ready.0.sound c.requires.row.0 c.args.byte (cell_at known.classes.items known.pairs.cells c.args.walk.row c.args.byte)
+      row_below c.requires.ready.0.sound _ _ _
           (c.requires.ready.0.sound.reported_too c.args.walk.row c.requires.row.0 c.args.byte c.requires.row.1 c.ranges.byte.fits) held,
     )
 
@@ -27,15 +27,15 @@ returns-then-walk-ne-UNKNOWN-clause-lands c = λ line first j is came.
     let known = c.args.self.now in
     let e = expression_in c.args.asked.now in
     let held : cell_at known.classes.items known.pairs.cells c.args.walk.row c.args.byte < unknown = omega (arith, c.if-walk-ne-UNKNOWN.true, c.requires.cell, c.ranges) in
-    rw c.add_reused.ensures (subst (λ cell. Lands e c.args.asked.now.mode line first (cache_of known) (many_reused 1 c.args.meter.now) j cell) (sym c.requires.cell)
-    (lands_held c.requires.ready.0.sound line first c.args.meter.now j c.args.walk.row c.args.byte c.ranges.byte.fits is held came))
+    rw c.add_reused.ensures (rw c.requires.cell
+    (lands_held c.requires.ready.0.sound _ _ _ j _ _ c.ranges.byte.fits is held came))
 
 pub returns-then-affords_miss-clause-cell : goal.returns-then-affords_miss-clause-cell
 returns-then-affords_miss-clause-cell c =
     let found = c.in-Some.ensures.found c.requires.row.0 c.requires.row.1 in (
       found.0,
       row_below c.in-Some.ensures.right.sound
-          c.requires.row.0 c.args.byte c.in-Some.cell found.1 found.0,
+          _ _ _ found.1 found.0,
     )
 
 pub returns-then-affords_miss-clause-lands : goal.returns-then-affords_miss-clause-lands
@@ -52,32 +52,32 @@ pub returns-in_default-clause-cell : goal.returns-in_default-clause-cell
 returns-in_default-clause-cell c =
     let new = c.begin_anew.new.self in
     let next = c.learn.ensures.next c.requires.row.0 c.requires.row.1 in
-    each c.begin_anew.result (λ cell. (cell < unknown) × IsRow new (row_under cell)) (λ cell is.
-    let right = subst (λ o. IfSome o (λ _. IsRightFor c.args.asked.now new)) is c.begin_anew.ensures.right in
-    let reported = subst (λ o. IfSome o (IsKnownCell c.args.asked.now new c.requires.row.0 c.args.byte)) is (c.begin_anew.ensures.cell c.requires.row.0 c.args.byte next) in (
+    each _ (λ cell. (cell < unknown) × IsRow new (row_under cell)) (λ cell is.
+    let right = rw is at c.begin_anew.ensures.right in
+    let reported = rw is at (c.begin_anew.ensures.cell c.requires.row.0 c.args.byte next) in (
       reported.0,
-      row_below right.sound c.requires.row.0 c.args.byte cell reported.1 reported.0,
+      row_below right.sound _ _ _ reported.1 reported.0,
     ))
 
 pub returns-in_default-clause-lands : goal.returns-in_default-clause-lands
 returns-in_default-clause-lands c =
     let new = c.begin_anew.new.self in
     each c.begin_anew.result _ (λ cell is line first j at came.
-    let empty = subst (λ o. IfSome o (λ _. new.pairs.entries ≡ [])) is c.begin_anew.ensures.none in
+    let empty = rw is at c.begin_anew.ensures.none in
     lands_learned c.requires.ready.0.sound line first (cache_of new) c.args.meter.now c.learn.new.meter j c.args.walk.row c.args.byte cell c.ranges.byte.fits at
     (sym c.requires.cell ∙ omega (arith, c.if-walk-ne-UNKNOWN.false))
-    (λ set row. subst (λ o. IfSome o (IsKnownCell c.args.asked.now new set c.args.byte)) is (c.begin_anew.ensures.cell set c.args.byte (c.learn.ensures.next set row)))
+    (λ set row. rw is at (c.begin_anew.ensures.cell set c.args.byte (c.learn.ensures.next set row)))
     (λ set row other b lt held. absurd (nothing_held (cache_of new) other b empty held))
     c.learn.ensures.counted came)
 
 pub returns-in_default-clause-lasts : goal.returns-in_default-clause-lasts
 returns-in_default-clause-lasts c = record {
-  made = subst (IsMadeFor (expression_in c.args.asked.now)) (sym c.begin_anew.ensures.keeps.scratch) c.learn.ensures.lasts.made;
+  made = rw c.begin_anew.ensures.keeps.scratch c.learn.ensures.lasts.made;
   most = c.begin_anew.ensures.keeps.most ∙ c.learn.ensures.lasts.most;
 }
 
 pub returns-in_default-clause-alone : goal.returns-in_default-clause-alone
 returns-in_default-clause-alone c = in_any_case c.begin_anew.result _ (λ line first j is came.
-    subst (λ set. LandsAlone (expression_in c.args.asked.now) c.args.asked.now.mode line first set c.learn.new.meter j) (sym c.begin_anew.ensures.keeps.scratch)
+    rw c.begin_anew.ensures.keeps.scratch
     (lands_alone c.requires.ready.0.sound line first c.learn.new.self.scratch c.args.meter.now c.learn.new.meter j c.args.walk.row c.args.byte c.ranges.byte.fits is
     (sym c.requires.cell ∙ omega (arith, c.if-walk-ne-UNKNOWN.false)) c.learn.ensures.next c.learn.ensures.counted came))

@@ -1,4 +1,4 @@
-use Rattle.re_steps.proofs.Prelude.{arith, ◌≡◌, suc, ◌+◌, ◌-◌, ◌<◌, slice_index, sym, subst, add-one, IsRow, cell_at, walked, IsAt}
+use Rattle.re_steps.proofs.Prelude.{arith, ◌≡◌, suc, ◌+◌, ◌-◌, ◌<◌, slice_index, subst, add-one, cell_at, walked, IsAt}
 use Rattle.re_steps.proofs.lemmas.WalkLaws.{comes_on, walked_on, walked_none}
 use Rattle.re_steps.proofs.table.StepTable.walk.Goals as goal
 
@@ -17,13 +17,13 @@ places-preserved c =
       cells = c.places.invariant.cells;
       low = omega (arith, c.places.invariant.low);
       high = omega arith;
-      row = subst (IsRow known) (sym same) (on.into, on.row);
+      row = rw same (on.into, on.row);
       comes = λ first steps came.
           let n = c.places.place - c.args.from.place in
           let there = comes_on c.requires.right.sound line first
           (walked n steps) c.places.place at c.places-test.true small (omega (arith, same, c.if-cell-ge-LIMIT.false)) (c.places.invariant.comes first steps came) in
           let count : suc n ≡ c.places.place + 1 - c.args.from.place = omega (arith, c.places.invariant.low) in
-          subst (λ r. IsAt c.args.asked.now first known (walked (c.places.place + 1 - c.args.from.place) steps) (c.places.place + 1) r) (sym same)
+          rw same
           (subst (λ k. IsAt c.args.asked.now first known (walked k steps) (c.places.place + 1) (cell_at known.classes.items known.pairs.cells at byte)) count
           (rw (add-one c.places.place) (subst (λ s. IsAt c.args.asked.now first known s (suc c.places.place) (cell_at known.classes.items known.pairs.cells at byte)) (walked_on n 1 (suc n) steps (omega arith)) there)));
     }
@@ -38,7 +38,7 @@ places-init c =
       high = c.requires.within;
       row = c.requires.row;
       comes = λ first steps came.
-          subst (λ s. IsAt c.args.asked.now first known s c.args.from.place c.args.from.row) (sym (walked_none c.args.from.place steps)) came;
+          rw (walked_none c.args.from.place steps) came;
     }
 
 pub returns-then-cell-floor-clause-on : goal.returns-then-cell-floor-clause-on

@@ -1,4 +1,4 @@
-use Rattle.re_steps.proofs.Prelude.{arith, false, Text, Matches, ◌≡◌, ◌+◌, ◌<◌, slice_index, sym, subst, expression_in, cell_at, StepTable, GoesOverLines}
+use Rattle.re_steps.proofs.Prelude.{arith, false, Text, Matches, ◌≡◌, ◌<◌, slice_index, sym, expression_in, cell_at}
 use Rattle.re_runs.proofs.lemmas.BlockLemmas.{passes_none}
 use Rattle.re_steps.proofs.lemmas.RowLaws.{cell_within}
 use Rattle.re_steps.proofs.lemmas.LineWalks.{marked, walks_from, walks_on, walks_over}
@@ -13,7 +13,7 @@ places-init c =
       cells = c.cells-cells.ensures.cells;
       marks = c.as_slice-marks.ensures.value;
       goes =
-          subst (λ r. GoesOverLines c.args.asked.now c.args.self.now (record { start = 0; place = 0; row = r })) (sym c.row-first.ensures)
+          rw c.row-first.ensures
           (walks_from c.args.asked.now c.args.self.now c.requires.ready.0 c.requires.plain 0 (passes_none (λ (line : Text). ¬ Matches (expression_in c.args.asked.now) line false) c.args.asked.now.line.now) (omega (arith, within)));
     }
 
@@ -31,7 +31,7 @@ places-preserved-then-byte-eq10 c =
       cells = i.cells;
       marks = i.marks;
       goes =
-          subst (λ r. GoesOverLines c.args.asked.now c.args.self.now (record { start = c.places.lines.place + 1; place = c.places.lines.place + 1; row = r })) (sym c.row-first.ensures)
+          rw c.row-first.ensures
           (walks_over c.args.asked.now c.args.self.now c.requires.ready.0 c.requires.plain c.places.lines _ c.requires.search i.goes c.if-byte-eq10.true (rw (i.marks, c.number.ensures) at c.if-marks-number.false) (omega (arith, c.requires.within, c.if-lines-most.false)));
     }
 
@@ -53,7 +53,7 @@ places-preserved c =
       cells = i.cells;
       marks = i.marks;
       goes =
-          subst (λ r. GoesOverLines c.args.asked.now known (record { start = c.places.lines.start; place = c.places.lines.place + 1; row = r })) (sym same)
+          rw same
           (walks_on c.args.asked.now known c.requires.ready.0 c.requires.plain c.places.lines c.requires.block i.goes c.if-byte-eq10.false (omega (arith, c.type_inv.block c.places.lines.place)) (omega (arith, same, c.if-cell-ge-LIMIT.false)));
     }
 
@@ -63,5 +63,5 @@ returns-clause-goes c =
       | then-byte-eq10+then-lines-most w ↦ sym w.self-is
       | else-byte-eq10+then-cell-ge-LIMIT w ↦ sym w.self-is
     ] in
-    let goes = subst (λ (t : StepTable). GoesOverLines c.args.asked.now t c.places.lines) same c.places.invariant.goes in
+    let goes = rw same at c.places.invariant.goes in
     record { passed = goes.passed; low = goes.low; within = goes.within; free = goes.free; row = goes.row; comes = goes.comes }
