@@ -29,7 +29,7 @@ module _ (strings : List Text) (b : ℕ) where
     low = s.low;
     high = s.high;
     is = s.is;
-    none = λ j low lt front. s.none j low lt (front_shorter strings (drop j w) (b ∷ []) front);
+    none = λ j low lt front. s.none j low lt (front_shorter _ _ _ front);
   }
 
   -- the label goes on with the byte
@@ -37,25 +37,25 @@ module _ (strings : List Text) (b : ℕ) where
   goes_on label w from s = record {
     start = s.start;
     low = s.low;
-    high = let h = s.high in omega (arith, length-append w (b ∷ []), h);
-    is = ap (λ t. t ++ b ∷ []) s.is ∙ sym (drop-append-le s.start w (b ∷ []) s.high);
-    none = λ j low lt front. s.none j low lt (subst (IsFront strings) (drop-append-le j w (b ∷ []) (let h = s.high in omega (arith, h))) front);
+    high = let h = s.high in omega (arith, length-append w (b ∷ []));
+    is = cc (s.is, drop-append-le s.start w (b ∷ []) s.high);
+    none = λ j low lt front. s.none j low lt (rw (drop-append-le j w (b ∷ []) (let h = s.high in omega arith)) at front);
   }
 
   -- the empty label can't go on with it: the end after the byte is left
   pub nothing_left : (w : Text) (from : ℕ) → MayStandFor strings [] w b from → (IsFront strings (b ∷ []) → ⊥) → StandsFor strings [] (w ++ b ∷ []) from
   nothing_left w from s none = record {
     start = length w + 1;
-    low = let l = s.low in let h = s.high in omega (arith, l, h);
+    low = let l = s.low in let h = s.high in omega arith;
     high = omega (arith, length-append w (b ∷ []));
     is = sym (drop_of_length-le (w ++ b ∷ []) (omega (arith, length-append w (b ∷ []))));
     none = λ j low lt front.
         let near : j ≤ length w = omega arith in
-        let open_front : IsFront strings (drop j w ++ b ∷ []) = subst (IsFront strings) (drop-append-le j w (b ∷ []) near) front in
-        let start : s.start ≡ length w = empty_end w s.start s.high s.is in
-        elim (before j s.start) [
+        let open_front = rw (drop-append-le j w (b ∷ []) near) at front in
+        let start = empty_end w s.start s.high s.is in
+        elim (before j _) [
           | inl early ↦ s.none j low early open_front
-          | inr late ↦ none (subst (λ t. IsFront strings (t ++ b ∷ [])) (drop_of_length-le w (let l : length w ≤ j = omega (arith, start, late) in l)) open_front)
+          | inr late ↦ none (rw (drop_of_length-le w (let l : length w ≤ j = omega arith in l)) at open_front)
         ];
   }
 

@@ -1,4 +1,4 @@
-use Rattle.re_strings.proofs.Prelude.{rules, ◌≡◌, ◌+◌, ◌<◌, [], ◌∷◌, ◌++◌, length, slice_index, sym, ap, subst, ◌∙◌, arith, length-append, get_or_default_zero, AreLinked, StandsFor, own_or}
+use Rattle.re_strings.proofs.Prelude.{rules, ◌≡◌, ◌+◌, ◌<◌, [], ◌∷◌, ◌++◌, length, slice_index, sym, ap, subst, ◌∙◌, arith, length-append, get_or_default_zero, StandsFor, own_or}
 use Rattle.re_strings.proofs.lemmas.SetLinks.{own_or_within, linked_more, linked_right}
 use Rattle.re_strings.proofs.lemmas.SetSearch.{row_read}
 use Rattle.re_strings.proofs.links.link_children.Goals as goal
@@ -49,19 +49,19 @@ children-init c =
     let all = c.requires.linked.all_fails in
     let ordered = c.requires.trie.ordered c.args.node c.requires.within in
     record {
-      low = omega (arith, all);
-      high = omega (arith, all, ordered);
-      linked = subst (λ n. AreLinked n c.args.links.now.fails.items c.args.links.now.outputs.items) (sym all) c.requires.linked;
+      low = omega arith;
+      high = omega arith;
+      linked = rw all c.requires.linked;
       right = λ _ _ _ _ linked. linked;
     }
 
 pub returns-clause-linked : goal.returns-clause-linked
 returns-clause-linked c =
     let first = c.args.trie.now.first.items in
-    let end : c.index.result.now ≡ slice_index first (c.args.node + 1) =
-    c.index.ensures ∙ get_or_default_zero first (c.args.node + 1) c.index.result.now (let r = c.requires.trie.rows in let w = c.requires.within in omega (arith, r, w)) in
-    let all : length c.children.links.fails.items ≡ slice_index first (c.args.node + 1) = omega (arith, end, c.children.invariant.high, c.children-test.false, c.len.ensures) in
-    subst (λ n. AreLinked n c.children.links.fails.items c.children.links.outputs.items) all c.children.invariant.linked
+    let end =
+    c.index.ensures ∙ get_or_default_zero first (c.args.node + 1) c.index.result.now (let r = c.requires.trie.rows in let w = c.requires.within in omega arith) in
+    let all : length c.children.links.fails.items ≡ slice_index first (c.args.node + 1) = omega (arith, c.children.invariant.high, c.children-test.false, c.len.ensures) in
+    rw all at c.children.invariant.linked
 
 pub returns-clause-right : goal.returns-clause-right
 returns-clause-right c = c.children.invariant.right
