@@ -61,7 +61,7 @@ part_first (an_item i) is = item i is
 part_first {p} {k = k} {v = v} {es = es} (an_end {u = u} a) is = subst (λ n. Items p n (codes "$" ++ u) v (end ∷ es)) (omega arith) (ended a is)
 
 part_repeated : {g : Bool} {p : ItemPlace} {h : ℕ} {t u v : Text} {e : Expression} {least : ℕ} {most : Option ℕ} → IsPart p h t u e → BasicToken g Later u v (times least most) → IsPart p (suc h) t v (repeat e least most)
-part_repeated {p = p} {h} {t} {e = e} (an_item i) x = let (q, d, dup, f) = says x in an_item (repeated (subst (λ s. Item p h t s e) f i) dup)
+part_repeated {p = p} {h} {t} {e = e} (an_item i) x = let (q, d, dup, f) = says x in an_item (repeated (rw f at i) dup)
 part_repeated (an_end a) x = absurd (at_end x a refl)
 
 grammar : IsGrammar Basic (λ g. Branches) (λ g. Items) (λ g. IsPart)

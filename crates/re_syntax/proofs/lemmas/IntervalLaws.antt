@@ -53,7 +53,7 @@ digits_lack c (b ∷ t) n h =
 -- nothing between the braces closes them
 pub interval_lacks : (c : ℕ) {t : Text} {least : ℕ} {most : Option ℕ} → in_class Digit c ≡ false → lacks c (codes ",") ≡ true → Interval t least most → lacks c t ≡ true
 interval_lacks c n k (exactly m h) = digits_lack c m n h.digits
-interval_lacks c n k (at_least m h) = lacks-append c m (codes ",") (digits_lack c m n h.digits) k
+interval_lacks c n k (at_least m h) = lacks-append c m _ (digits_lack c m n h.digits) k
 interval_lacks c n k (between m p h q) =
     lacks-append c (m ++ codes ",") p (lacks-append c m (codes ",") (digits_lack c m n h.digits) k) (digits_lack c p n q.digits)
 interval_lacks c n k (up_to m h) = lacks-append c (codes ",") m k (digits_lack c m n h.digits)

@@ -44,14 +44,14 @@ goes {close} {u} {t} m {r} {least} {most} no_part c e digits stop = go c.inside 
   where
     go : (inside : Text) (least : ℕ) (most : Option ℕ) → Interval inside least most → t ≡ inside ++ (close ++ u) → Goes close u r
     go inside least most (exactly n h) w =
-        closes (digits-cut m n digits h.digits stop (closing_no_digit close u no_part) (sym e ∙ w))
+        closes (digits-cut m n digits h.digits stop (closing_no_digit _ u no_part) (sym e ∙ w))
     go inside least most (at_least n h) w =
-        opens_end (digits-cut m n digits h.digits stop (comma_no_digit (close ++ u)) (sym e ∙ w ∙ append_assoc n (codes ",") (close ++ u)))
+        opens_end (digits-cut m n digits h.digits stop (comma_no_digit _) (sym e ∙ w ∙ append_assoc n (codes ",") (close ++ u)))
     go inside least most (between n o h k) w =
-        goes_to o k (digits-cut m n digits h.digits stop (comma_no_digit (o ++ (close ++ u)))
+        goes_to o k (digits-cut m n digits h.digits stop (comma_no_digit _)
         (sym e ∙ w ∙ simp append_assoc))
     go inside least most (up_to n h) w =
-        goes_to n h (digits-cut m [] digits refl stop (comma_no_digit (n ++ (close ++ u))) (sym e ∙ w))
+        goes_to n h (digits-cut m [] digits refl stop (comma_no_digit _) (sym e ∙ w))
 
 -- where there is neither a number nor a comma, there is no interval
 pub none_without_number : {close : Text} (t : Text) → HasNoDigit t → ¬ Begins (codes ",") t → HasNoInterval close t
@@ -88,7 +88,7 @@ pub no_greatest_end : {text : Text} {at count beyond : ℕ} {close : Text} → I
     HasNoGreatest close (drop at text)
 no_greatest_end {text} {at} {count} {beyond} {close} no_part s no_close = record {
   none = λ n u h e.
-      no_close (u, digits-cut s.digits n s.number.digits h.digits s.stops (closing_no_digit close u no_part) (sym s.front ∙ e));
+      no_close (u, digits-cut _ n s.number.digits h.digits s.stops (closing_no_digit _ u no_part) (sym s.front ∙ e));
 }
 
 -- a number follows the comma, and what closes it follows the number
@@ -98,9 +98,9 @@ greatest_stands {text} {at} {count} {beyond} {end'} s c = record {
   within = c.within;
   digits = s.digits;
   number = s.number;
-  front = s.front ∙ ap (λ t. s.digits ++ t) c.front;
+  front = cc (s.front, c.front);
   least_is = refl;
-  most_is = ap Some s.count_is;
+  most_is = rw s.count_is;
 }
 
 -- such a number is an interval, with the comma before it
@@ -125,7 +125,7 @@ up_to_found close c (Some it) h = stands_up_to c h
 -- a number, and then nothing that an interval may go on with
 none_by : {text : Text} {at count beyond : ℕ} {close : Text} → IsNoPart close → NumberStands text at count beyond → ((u : Text) → Goes close u (drop beyond text) → ⊥) → HasNoInterval close (drop at text)
 none_by {text} {at} {beyond = beyond} {close} no_part s f =
-    record { none = λ u least most c. f u (goes s.digits no_part c s.front s.number.digits s.stops) }
+    record { none = λ u least most c. f u (goes _ no_part c s.front s.number.digits s.stops) }
 
 -- a number, and then neither what closes it nor a comma
 pub none_after_number : {text : Text} {at count beyond : ℕ} {close : Text} → IsNoPart close → NumberStands text at count beyond → ¬ Begins close (drop beyond text) →
@@ -145,7 +145,7 @@ none_after_comma {text} {at} {count} {beyond} {comma} {close} no_part s no_close
     go : (u : Text) → Goes close u (drop beyond text) → ⊥
     go u (closes e) = no_close (u, e)
     go u (opens_end e) = no_end (u, tails (sym c.front ∙ e))
-    go u (goes_to n h e) = number_first n (close ++ u) h (rw (tails (sym c.front ∙ e)) at no_digit)
+    go u (goes_to n h e) = number_first n _ h (rw (tails (sym c.front ∙ e)) at no_digit)
 
 -- two numbers, and what follows does not close them
 pub none_after_numbers : {text : Text} {at count beyond comma other last : ℕ} {close : Text} → IsNoPart close → NumberStands text at count beyond →
@@ -156,9 +156,9 @@ none_after_numbers {text} {at} {count} {beyond} {comma} {other} {last} {close} n
     go : (u : Text) → Goes close u (drop beyond text) → ⊥
     go u (closes e) = no_close (u, e)
     go u (opens_end e) =
-        number_first o.digits (drop last text) o.number (rw (sym (tails (sym c.front ∙ e)) ∙ o.front) at (closing_no_digit close u no_part))
+        number_first _ _ o.number (rw (sym (tails (sym c.front ∙ e)) ∙ o.front) at (closing_no_digit _ u no_part))
     go u (goes_to n h e) =
-        no_end (u, digits-cut o.digits n o.number.digits h.digits o.stops (closing_no_digit close u no_part) (sym o.front ∙ tails (sym c.front ∙ e)))
+        no_end (u, digits-cut _ n o.number.digits h.digits o.stops (closing_no_digit _ u no_part) (sym o.front ∙ tails (sym c.front ∙ e)))
 
 -- the three forms, read
 pub stands_exactly : {text : Text} {at count beyond end' : ℕ} {close : Text} → NumberStands text at count beyond → IsAfter close text beyond end' →
@@ -169,7 +169,7 @@ stands_exactly {text} {at} {count} {beyond} {end'} s c = record {
   most = Some (value s.digits);
   stands = record { inside = s.digits; form = exactly s.digits s.number; whole = s.front ∙ ap (λ t. s.digits ++ t) c.front };
   least_is = s.count_is;
-  most_is = ap Some s.count_is;
+  most_is = rw s.count_is;
 }
 
 -- a number and a comma
@@ -182,7 +182,7 @@ stands_at_least {text} {at} {count} {beyond} {comma} {end'} {close} s c l = reco
   stands = record {
     inside = s.digits ++ codes ",";
     form = at_least s.digits s.number;
-    whole = s.front ∙ ap (λ t. s.digits ++ t) (c.front ∙ ap (λ t. 44 ∷ t) l.front) ∙ sym (append_assoc s.digits (codes ",") (close ++ drop end' text));
+    whole = cc (s.front, c.front ∙ ap (λ t. 44 ∷ t) l.front, append_assoc s.digits (codes ",") (close ++ drop end' text));
   };
   least_is = s.count_is;
   most_is = refl;
@@ -201,7 +201,7 @@ stands_between {text} {at} {count} {beyond} {comma} {other} {last} {end'} s c o 
     whole = s.front ∙ ap (λ t. s.digits ++ t) (c.front ∙ ap (λ t. 44 ∷ t) (o.front ∙ ap (λ t. o.digits ++ t) l.front)) ∙ simp append_assoc;
   };
   least_is = s.count_is;
-  most_is = ap Some o.count_is;
+  most_is = rw o.count_is;
 }
 
 -- a number is the digits that come first
@@ -211,7 +211,7 @@ number_stands {text} {at} {n} h count more e = record {
   within = omega (arith, simp length-drop at count.within);
   digits = take n (drop at text);
   number = record { not_empty = λ f. absurd (omega (arith, ap length f, length-take n (drop at text), count.within)); digits = count.digits };
-  front = sym (take-append-drop n (drop at text)) ∙ ap (λ t. take n (drop at text) ++ t) (drop-drop n at text);
+  front = cc (take-append-drop n (drop at text), drop-drop n at text);
   count_is = e;
   stops = rw (sym (drop-drop n at text)) count.stops;
 }

@@ -1,5 +1,5 @@
 -- Lists of open groups and levels, from the end of one and the front of the other.
-use Rattle.re_syntax.proofs.Prelude.{◌≡◌, List, [], ◌∷◌, ◌++◌, length, length-append, sym, ap, ◌∙◌, refl, subst, arith}
+use Rattle.re_syntax.proofs.Prelude.{◌≡◌, List, [], ◌∷◌, ◌++◌, length, length-append, sym, ap, ◌∙◌, refl, arith}
 use Rattle.re_syntax.specs.Working.Mirrors.{Mirrors, neither, both}
 
 -- a list with a last element is not empty
@@ -37,7 +37,7 @@ module _ {A B : Type 0} {R : List A → A → B → Type 0} where
   partner {xs = xs} {x} neither e = absurd (no_last xs x e)
   partner {xs = xs} {x} (both {xs = zs} {ys = ys} {y = y} z m r f) e =
       let same = same_last zs xs (sym f ∙ e) in
-      record { first = y; others = ys; are = refl; is = subst (λ ws. R ws x y) same.0 (subst (λ w. R zs w y) same.1 r); mirrors = subst (λ ws. Mirrors R ws ys) same.0 m }
+      record { first = y; others = ys; are = refl; is = rw same.0 at (rw same.1 at r); mirrors = rw same.0 at m }
 
   pub none_mirrors : {all : List A} {ys : List B} → Mirrors R all ys → all ≡ [] → ys ≡ []
   none_mirrors neither e = refl

@@ -8,7 +8,7 @@ use Rattle.re_syntax.proofs.lemmas.PartsLaws.{ArePartsFrom-unique}
 
 -- a text spells one expression
 pub IsSpelled-unique : {syntax : Syntax} {t : Text} {d e : Expression} → IsSpelled syntax t d → IsSpelled syntax t e → d ≡ e
-IsSpelled-unique {syntax} {t} {d} {e} p q = one_meaning (keeps_spelled syntax p) (keeps_spelled syntax q)
+IsSpelled-unique {syntax} {t} {d} {e} p q = one_meaning (keeps_spelled _ p) (keeps_spelled _ q)
 
 -- the law on what a text spells
 pub spells_one : (text : Text) → SpellsOne text

@@ -54,10 +54,10 @@ module _ (syntax : Syntax) where
 module _ {syntax : Syntax} where
   -- tokens grouped to the left, and to the right
   to_left : {c : Context} {t : Text} (ks ls ms : List Token) → Cut syntax c t (ks ++ (ls ++ ms)) → Cut syntax c t ((ks ++ ls) ++ ms)
-  to_left {c} {t} ks ls ms x = subst (Cut syntax c t) (sym (append_assoc ks ls ms)) x
+  to_left {c} {t} ks ls ms x = rw (append_assoc ks ls ms) x
 
   to_right : {c : Context} {t : Text} (ks ls ms : List Token) → Cut syntax c t ((ks ++ ls) ++ ms) → Cut syntax c t (ks ++ (ls ++ ms))
-  to_right {c} {t} ks ls ms x = subst (Cut syntax c t) (append_assoc ks ls ms) x
+  to_right {c} {t} ks ls ms x = rw (append_assoc ks ls ms) at x
 
   pub token_item : {g : Bool} {p : ItemPlace} {t u : Text} {e : Expression} → IsToken syntax g p t u (atom e) → ItemReads syntax g p 0 t u e
   token_item {e = e} x c r = record { tokens = atom e ∷ []; high = c.height; is_high = omega arith; leads = λ ls y. next (rw (r.in_group, r.place) x) (λ d. may_be_deep d) y; reads = single e }
@@ -66,13 +66,13 @@ module _ {syntax : Syntax} where
       ItemReads syntax g p (suc h) t w (choice es)
   group_item {h = h} {t = t} {u = u} {v = v} {w = w} x bs y c r =
       let (q, n, s) = bs (after t opening c) (record { in_group = refl; place = refl; fits = omega (arith, r.fits) }) in
-      let same : s.high ≡ h = s.is_high ∙ omega arith in
+      let same = s.is_high ∙ omega arith in
       record {
         tokens = opening ∷ s.tokens ++ closing ∷ [];
         high = max c.height (suc s.high);
-        is_high = omega (arith, same);
+        is_high = omega arith;
         leads = λ ls z. next (rw (r.in_group, r.place) x) (group_fits (omega (arith, r.fits)))
-            (to_left s.tokens (closing ∷ []) ls
+            (to_left _ _ ls
             (s.leads (closing ∷ ls) (next (y q) (λ d. may_be_deep d) (subst (λ m. Cut syntax (on c Later (suc m) (max c.height (suc s.high))) w ls) (sym same) z))));
         reads = group s.reads;
       }
@@ -136,7 +136,7 @@ module _ {syntax : Syntax} where
   pub spells : {h : ℕ} {t : Text} {es : List Expression} → BranchesRead syntax false h t [] es → h ≤ most_levels → Spells syntax t (choice es)
   spells {t = t} {es = es} bs fits =
       let (q, n, s) = bs start (record { in_group = refl; place = refl; fits = omega (arith, fits) }) in
-      record { tokens = s.tokens; cut = subst (Cut syntax start t) (append-nil s.tokens) (s.leads [] (whole refl)); branches = es; read = s.reads; whole = refl }
+      record { tokens = s.tokens; cut = rw (append-nil s.tokens) at (s.leads [] (whole refl)); branches = es; read = s.reads; whole = refl }
 
 -- the first token of a cut
 record Begun (syntax : Syntax) (c : Context) (t : Text) (k : Token) (ls : List Token) : Type 0 where
