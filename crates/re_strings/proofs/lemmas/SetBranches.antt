@@ -120,7 +120,7 @@ module _ (texts : List Text) (ascends : AreAscending texts) (br : Branch) (is : 
           elim (cases_lt i end) [
             | inl inside ↦ inside
             | inr beyond ↦
-                let inside : end < br.high = let h = own.1 in omega arith in
+                let inside : end < br.high = omega arith in
                 let up = keys_ascend at end low (omega arith) inside in
                 let down = keys_ascend end i (omega arith) beyond own.1 in
                 absurd (other inside (rank_some _ c (omega arith) ∙ sym here))
@@ -130,7 +130,7 @@ module _ (texts : List Text) (ascends : AreAscending texts) (br : Branch) (is : 
     pub run_branch : IsBranch texts (record { byte = c; depth = br.depth + 1; low = at; high = end })
     run_branch =
         record {
-          within = let a = is.within in omega arith;
+          within = omega arith;
           deep = ap length run_text ∙ length-append (branch_text texts br) (c ∷ []) ∙ ap (λ n. n + 1) is.deep;
           exact = λ i in_texts front. run_exact i in_texts (rw run_text at front);
           shared = λ i from to. rw run_text (run_shares i from to);

@@ -15,7 +15,7 @@ module _ (strings : List Text) (line : Text) where
   -- nothing is passed yet
   pub none_begins_at_first : (place : ℕ) → NoneBegins strings line place place
   none_begins_at_first place = record {
-    begins = λ i j lt o. let low = o.0 in omega arith;
+    begins = λ i j lt o. omega arith;
     over = λ i k j low lt. let none : ⊥ = omega arith in absurd none;
   }
 
@@ -23,7 +23,7 @@ module _ (strings : List Text) (line : Text) where
   pub none_begins_on : (place at next : ℕ) → at ≤ next → NoneBegins strings line place at → NoneBegins strings line at next → NoneBegins strings line place next
   none_begins_on place at next on before more = record {
     begins = λ i j lt o. elim (cases_lt i at) [ inl early ↦ before.begins i j early o | inr late ↦ more.begins i j lt (late, o.1, o.2, o.3) ];
-    over = λ i k j low lt o. elim (cases_lt i at) [ inl early ↦ before.over i k j low early (let beyond = o.0 in omega arith, o.1, o.2, o.3) | inr late ↦ more.over i k j late lt o ];
+    over = λ i k j low lt o. elim (cases_lt i at) [ inl early ↦ before.over i k j low early (omega arith, o.1, o.2, o.3) | inr late ↦ more.over i k j late lt o ];
   }
 
   -- no string goes on with a part that has a window's last two bytes
@@ -82,7 +82,7 @@ module _ (strings : List Text) (line : Text) where
               let size = part_length line i j o.2 in
               omega (arith, o.1, o.2)
         ];
-    over = λ i k j low lt o. let beyond = o.0 in let inside = o.1 in let end = o.2 in omega arith;
+    over = λ i k j low lt o. omega arith;
   }
 
 -- ---- at the root
@@ -119,8 +119,8 @@ module _ (all : Labels) (from : ℕ) (line : Text) (root : all.label 0 ≡ []) (
   pub leap_stands : (next : ℕ) → from ≤ place → place ≤ next → next ≤ length line → NoneBegins all.strings line place next → StandsSince all from line next node
   leap_stands next low le high none = record {
     since = next;
-    low = omega (arith, low, le);
-    none = λ i j beyond lt o. none_over next none i j (omega (arith, le, beyond)) lt o;
+    low = omega arith;
+    none = λ i j beyond lt o. none_over next none i j (omega arith) lt o;
     over = λ i k j first lt o.
         let beyond = o.0 in
         let inside = o.1 in
@@ -132,8 +132,8 @@ module _ (all : Labels) (from : ℕ) (line : Text) (root : all.label 0 ≡ []) (
                     let start = g.stands.low in
                     let end = g.stands.high in
                     let read = read_length line place within in
-                    g.over i k j first before (omega (arith, start, end, read, le, beyond), o.1, o.2, o.3)
-                | inr since ↦ none_goes_on i j (omega (arith, le, beyond, inside)) since early
+                    g.over i k j first before (omega arith, o.1, o.2, o.3)
+                | inr since ↦ none_goes_on i j (omega arith) since early
               ]
         ];
     stands = subst (StandsAtNode all next line next) (sym zero) (nothing_read all next line root high);

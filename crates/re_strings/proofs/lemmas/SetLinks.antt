@@ -109,17 +109,17 @@ linked_right all fails outputs newf newo f own a isf iso lt s is_own own_is old 
     record {
       fallbacks = λ n inside below.
           elim (cases_lt n (length fails)) [
-            | inl early ↦ subst (λ m. StandsFor all.strings (all.label m) (all.label n) 1) (sym (ap (λ l. slice_index l n) isf ∙ get_or_append_left fails (f ∷ []) 0 n early)) (old.fallbacks n inside early)
+            | inl early ↦ rw (ap (λ l. slice_index l n) isf ∙ get_or_append_left fails (f ∷ []) 0 n early) (old.fallbacks n inside early)
             | inr late ↦
-                let at : length fails ≡ n = omega (arith, late, below, ap length isf, length-append fails (f ∷ [])) in
-                subst (λ m. StandsFor all.strings (all.label m) (all.label n) 1) (sym (ap (λ l. slice_index l n) isf ∙ get_or_push fails f 0 n at)) (subst (λ k. StandsFor all.strings (all.label f) (all.label k) 1) at s)
+                let at : length fails ≡ n = omega (arith, ap length isf, length-append fails (f ∷ [])) in
+                rw (ap (λ l. slice_index l n) isf ∙ get_or_push fails f 0 n at) (subst (λ k. StandsFor all.strings (all.label f) (all.label k) 1) at s)
           ];
       ended = λ n below.
           let e = own_or own (length fails) (slice_index outputs f) in
           elim (cases_lt n (length outputs)) [
             | inl early ↦ subst (IsOutput all (all.label n)) (sym (ap (λ l. slice_index l n) iso ∙ get_or_append_left outputs (e ∷ []) 0 n early)) (old.ended n early)
             | inr late ↦
-                let at : length outputs ≡ n = omega (arith, late, below, ap length iso, length-append outputs (e ∷ [])) in
+                let at : length outputs ≡ n = omega (arith, ap length iso, length-append outputs (e ∷ [])) in
                 let here : length fails ≡ n = omega (arith, at, same) in
                 subst (IsOutput all (all.label n)) (sym (ap (λ l. slice_index l n) iso ∙ get_or_push outputs e 0 n at))
                 (subst (λ k. IsOutput all (all.label k) e) here
@@ -148,9 +148,9 @@ root_linked_right all fails outputs root is_fails is_outputs =
     let few : length fails ≡ 1 = ap length is_fails in
     let same : length outputs ≡ 1 = ap length is_outputs in
     record {
-      fallbacks = λ n some below. let none : ⊥ = omega (arith, some, below, few) in absurd none;
+      fallbacks = λ n some below. let none : ⊥ = omega arith in absurd none;
       ended = λ n below.
-          let first : n ≡ 0 = omega (arith, below, same) in
+          let first : n ≡ 0 = omega (arith, same) in
           let out : slice_index outputs n ≡ 0 = ap (slice_index outputs) first ∙ ap (λ l. slice_index l 0) is_outputs in
           let empty : length (all.label 0) ≡ 0 = ap length root in
           subst (λ k. IsOutput all (all.label k) (slice_index outputs n)) (sym first)
@@ -158,8 +158,8 @@ root_linked_right all fails outputs root is_fails is_outputs =
           (record {
             ends = record {
               within = omega arith;
-              ends = λ some. let none : ⊥ = omega (arith, some, empty) in absurd none;
-              longest = λ j inside _. omega (arith, inside);
+              ends = λ some. let none : ⊥ = omega arith in absurd none;
+              longest = λ j inside _. omega arith;
             };
             is = let none : length (all.label 0) - length (all.label 0) ≡ 0 = omega arith in ap (λ k. drop k (all.label 0)) (sym none);
             some = λ inside. absurd (omega (arith, inside));

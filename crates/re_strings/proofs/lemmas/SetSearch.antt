@@ -96,7 +96,7 @@ module _ (all : Labels) (from : ℕ) (line : Text) where
   stands_at_first root within = record {
     since = from;
     low = omega arith;
-    none = λ i j le lt o. let low = o.0 in omega arith;
+    none = λ i j le lt o. omega arith;
     over = λ i k j low lt. let none : ⊥ = omega arith in absurd none;
     stands = nothing_read all from line root within;
   }
@@ -128,7 +128,7 @@ module _ (all : Labels) (from : ℕ) (line : Text) where
   begun_at place n e within g ends some =
       let o = longest_ends all g.since line place n e within g.stands ends some in record {
         start = g.stands.start;
-        low = let low = g.low in let since = g.stands.low in omega arith;
+        low = omega arith;
         high = g.stands.high;
         is = g.stands.is;
         none = λ j low lt. elim (cases_lt j g.since) [ inl early ↦ g.over j (place - e) place low early o | inr late ↦ g.stands.none j late lt ];
@@ -192,7 +192,7 @@ module _ (all : Labels) (from : ℕ) (line : Text) where
   pub best_on : (place next n e : ℕ) (best result : Option Span) → place < next → next ≤ length line → IsBestOccurrence all.strings from line place best → NoneBetween all.strings from line place next
       → StandsSince all from line next n → EndsIn all.strings (all.label n) e → result ≡ better_ending best next e → IsBestOccurrence all.strings from line next result
   unfolding IsBestOccurrence
-  best_on place zero n e best result lt within old between s ends is = absurd (omega (arith, lt))
+  best_on place zero n e best result lt within old between s ends is = absurd (omega arith)
   best_on place (suc to) n e best result lt within old between s ends is =
       rw is (subst (IsBest (Occurs all.strings from line) (suc to)) (sym (ending_places best (suc to) e))
       (best_so_far (Occurs all.strings from line) to (places best) (ending (suc to) e)

@@ -46,7 +46,7 @@ first_byte : (r q : Text) → Comes r q → rank (slice_get r 0) ≤ rank (slice
 first_byte [] q c = omega arith
 first_byte (x ∷ r) [] c = absurd c
 first_byte (x ∷ r) (y ∷ q) (inl lt) = omega arith
-first_byte (x ∷ r) (y ∷ q) (inr same) = let e = same.0 in omega arith
+first_byte (x ∷ r) (y ∷ q) (inr same) = omega arith
 
 ranked : (w s t : Text) → Comes s t → Begins w s → Begins w t → rank (slice_get s (length w)) ≤ rank (slice_get t (length w))
 ranked w s t c (r, a) (q, b) =
@@ -76,7 +76,7 @@ module _ {X : Type 0} (v : X → Text) where
   -- a sorted list ascends
   pub sorted_ascends : (xs : List X) → ((k : ℕ) (d : X) → 0 ≤ k → k + 1 < length xs → is_lt (slice_cmp nat_cmp (v (get_or xs (k + 1) d)) (v (get_or xs k d))) ≡ false) → AreAscending (map v xs)
   sorted_ascends xs sorted w i j le lt a b =
-      let place : i + (j - i) ≡ j = omega (arith, le) in
+      let place : i + (j - i) ≡ j = omega arith in
       let near = λ (k : ℕ) (h : k + 1 < length (map v xs)). neighbours xs sorted k (omega (arith, h, length-map xs v)) in
       ranked w (text_at (map v xs) i) (text_at (map v xs) j) (subst (λ n. Comes (text_at (map v xs) i) (text_at (map v xs) n)) place (chain (map v xs) near i (j - i) (omega (arith, place, lt)))) a b
 

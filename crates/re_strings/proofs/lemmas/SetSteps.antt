@@ -39,14 +39,14 @@ module _ (strings : List Text) (b : ℕ) where
     low = s.low;
     high = let h = s.high in omega (arith, length-append w (b ∷ []));
     is = cc (s.is, drop-append-le s.start w (b ∷ []) s.high);
-    none = λ j low lt front. s.none j low lt (rw (drop-append-le j w (b ∷ []) (let h = s.high in omega arith)) at front);
+    none = λ j low lt front. s.none j low lt (rw (drop-append-le j w (b ∷ []) (omega arith)) at front);
   }
 
   -- the empty label can't go on with it: the end after the byte is left
   pub nothing_left : (w : Text) (from : ℕ) → MayStandFor strings [] w b from → (IsFront strings (b ∷ []) → ⊥) → StandsFor strings [] (w ++ b ∷ []) from
   nothing_left w from s none = record {
     start = length w + 1;
-    low = let l = s.low in let h = s.high in omega arith;
+    low = omega arith;
     high = omega (arith, length-append w (b ∷ []));
     is = sym (drop_of_length-le (w ++ b ∷ []) (omega (arith, length-append w (b ∷ []))));
     none = λ j low lt front.
@@ -63,14 +63,14 @@ module _ (strings : List Text) (b : ℕ) where
   pub falls_back : (label shorter w : Text) (from : ℕ) → MayStandFor strings label w b from → (IsFront strings (label ++ b ∷ []) → ⊥) → StandsFor strings shorter label 1 → MayStandFor strings shorter w b from
   falls_back label shorter w from s none f = record {
     start = s.start + f.start;
-    low = let l = s.low in omega (arith, l);
-    high = let h = s.high in let g = f.high in omega (arith, h, g, ap length s.is, length-drop s.start w);
+    low = omega arith;
+    high = let h = s.high in let g = f.high in omega (arith, ap length s.is, length-drop s.start w);
     is = f.is ∙ ap (drop f.start) s.is ∙ drop-drop f.start s.start w;
     none = λ j low lt front.
         elim (before j s.start) [
           | inl early ↦ s.none j low early front
           | inr late ↦
-              let place : s.start + (j - s.start) ≡ j = omega (arith, late) in
+              let place : s.start + (j - s.start) ≡ j = omega arith in
               let end : drop (j - s.start) label ≡ drop j w = ap (drop (j - s.start)) s.is ∙ drop-drop (j - s.start) s.start w ∙ ap (λ n. drop n w) place in
               let own : IsFront strings (drop (j - s.start) label ++ b ∷ []) = subst (λ t. IsFront strings (t ++ b ∷ [])) (sym end) front in
               elim (before 0 (j - s.start)) [

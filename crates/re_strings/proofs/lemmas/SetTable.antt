@@ -66,7 +66,7 @@ module _ (texts strings : List Text) (same : HaveSame texts strings) (bs : List 
             | inr le ↦ le
           ] in
           let long : length (branch_text texts b) ≤ length (text_at texts b.low) = let t = length-take b.depth (text_at texts b.low) in omega arith in
-          let whole : length (text_at texts b.low) ≡ b.depth = let d = is.deep in omega arith in
+          let whole : length (text_at texts b.low) ≡ b.depth = omega arith in
           equal_own (nat_eq (length (text_at texts b.low)) b.depth) refl whole
         where
           equal_own : (e : Bool) → nat_eq (length (text_at texts b.low)) b.depth ≡ e → length (text_at texts b.low) ≡ b.depth → (if e then b.depth else 0) ≡ length (branch_text texts b)

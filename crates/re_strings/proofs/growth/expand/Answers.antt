@@ -14,7 +14,7 @@ runs-preserved-in_ok-add_branch c =
     let here = sym key ∙ c.in-Some.is in
     let end : ℕ = c.run_end-end.result in
     let on : c.runs.at < end = c.run_end-end.ensures.within.0 in
-    let top : end ≤ br.high = let t = c.run_end-end.ensures.within.1 in omega arith in
+    let top : end ≤ br.high = omega arith in
     let before = c.runs.invariant.before c.runs-test.true in
     let same : (i : ℕ) → c.runs.at < i → i < end → slice_get (text_at texts i) br.depth ≡ slice_get (text_at texts c.runs.at) br.depth =
     λ i a b. cc (c.run_end-end.ensures.same i a b) in
@@ -26,7 +26,7 @@ runs-preserved-in_ok-add_branch c =
     (run_branch _ c.requires.ordered br is _ _ _ c.runs.invariant.low on top here before same other) in
     let grown : c.add_branch.new.branches.items ≡ c.runs.branches.items ++ nb ∷ [] = c.in_ok-add_branch.ensures in
     rw grown (record {
-      low = let l = c.runs.invariant.low in omega arith;
+      low = omega arith;
       grown = (c.runs.invariant.grown.0 ++ nb ∷ [], ap (λ xs. xs ++ nb ∷ []) c.runs.invariant.grown.1 ∙ append_assoc c.args.branches.now.items c.runs.invariant.grown.0 (nb ∷ []));
       are = All-push (IsBranch texts) c.runs.branches.items nb c.runs.invariant.are made;
       before = λ lt. run_after texts c.requires.ordered br is c.runs.at end c.runs.invariant.low on before same other (omega arith);

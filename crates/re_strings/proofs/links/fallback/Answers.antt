@@ -8,7 +8,7 @@ returns-clause-before c =
     let first = c.args.trie.now.first.items in
     let inside : 0 < c.args.node = omega arith in
     let earlier = c.requires.fails c.args.node inside c.requires.within in
-    let up = ascends first c.args.trie.now.bytes.items c.requires.trie (slice_index c.args.fails.now c.args.node) (c.args.node - 1) (omega arith) (let a = c.requires.within in let b = c.requires.few in omega arith) in
+    let up = ascends first c.args.trie.now.bytes.items c.requires.trie (slice_index c.args.fails.now c.args.node) (c.args.node - 1) (omega arith) (omega arith) in
     let same : c.args.node - 1 + 1 ≡ c.args.node = omega arith in
     let top = rw same at up in
     let near = c.step.ensures.near in
@@ -22,7 +22,7 @@ returns-clause-right c = λ all t s f.
 
 pub returns-then-node-eq0-clause-before : goal.returns-then-node-eq0-clause-before
 returns-then-node-eq0-clause-before c =
-    let beyond = c.requires.trie.beyond c.args.node (let few = c.requires.few in let within = c.requires.within in omega arith) in omega arith
+    let beyond = c.requires.trie.beyond c.args.node (omega arith) in omega arith
 
 pub step-requires-clause-within : goal.step-requires-clause-within
 step-requires-clause-within c =

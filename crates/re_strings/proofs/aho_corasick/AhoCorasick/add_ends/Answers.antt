@@ -9,7 +9,7 @@ places-init c = record {
   in_trie = c.requires.table.trie.some;
   stands = λ all t. nothing_read all 0 (keys c.args.self.now.fold c.args.line.now) t.trie.root (omega arith);
   added = λ all t. adds_no_ends (OccursBy all c.args.start (keys c.args.self.now.fold c.args.line.now) 0) c.args.line.now c.args.ends.now c.requires.fits
-      (λ i m lt p. let end = p.2 in let o = p.3 in let low = o.0 in let on = o.1 in omega arith);
+      (λ i m lt p. omega arith);
 }
 
 -- the ends of the strings that end at one place more

@@ -7,7 +7,7 @@ places-init c = record {
   within = omega arith;
   in_trie = c.requires.table.trie.some;
   stands = λ all t. stands_at_first all 0 (keys c.args.self.now.fold c.args.line.now) t.trie.root (omega arith);
-  none = λ all t i j le o. let on = o.1 in omega arith;
+  none = λ all t i j le o. omega arith;
 }
 
 pub returns-then-index-gt0-clause-ends : goal.returns-then-index-gt0-clause-ends
@@ -16,13 +16,13 @@ returns-then-index-gt0-clause-ends c = λ all t.
     let size = length-map c.args.line.now (key c.args.self.now.fold) in
     let outputs = c.args.self.now.outputs.items in
     let node = c.pass-beyond.result.1 in
-    let in_rows : node < length outputs = let r = c.requires.table.outputs in let w = c.pass-beyond.ensures.in_trie in omega arith in
+    let in_rows : node < length outputs = omega arith in
     let read = row_read outputs node c.index.result.now in_rows c.index.ensures in
     let stands = c.pass-beyond.ensures.stands all t 0 (omega arith) (c.places.invariant.stands all t) in
     let e = length (all.label (slice_index outputs node)) in (
       (
         c.pass-beyond.result.0 - e,
-        longest_ends_since _ 0 _ _ _ e (let w = c.pass-beyond.ensures.on.1 in omega arith) stands
+        longest_ends_since _ 0 _ _ _ e (omega arith) stands
             (t.outputs node c.pass-beyond.ensures.in_trie).ends ((t.outputs node c.pass-beyond.ensures.in_trie).some (omega (arith, c.if-index-gt0.true))),
       ),
       λ i j below o. before_here all t i j below o,
@@ -42,7 +42,7 @@ places-preserved c =
     let size = length-map c.args.line.now (key c.args.self.now.fold) in
     let outputs = c.args.self.now.outputs.items in
     let node = c.pass-beyond.result.1 in
-    let in_rows : node < length outputs = let r = c.requires.table.outputs in let w = c.pass-beyond.ensures.in_trie in omega arith in
+    let in_rows : node < length outputs = omega arith in
     let read = row_read outputs node c.index.result.now in_rows c.index.ensures in
     record {
       within = c.pass-beyond.ensures.on.1;
@@ -50,7 +50,7 @@ places-preserved c =
       stands = λ all t. c.pass-beyond.ensures.stands all t 0 (omega arith) (c.places.invariant.stands all t);
       none = λ all t.
           none_up_to all 0 (keys c.args.self.now.fold c.args.line.now) c.places.place c.pass-beyond.result.0 c.pass-beyond.result.1 (length (all.label (slice_index outputs node)))
-          (let w = c.pass-beyond.ensures.on.1 in omega arith) (c.places.invariant.none all t)
+          (omega arith) (c.places.invariant.none all t)
           (c.pass-beyond.ensures.between all t 0 (omega arith) (c.places.invariant.stands all t))
           (c.pass-beyond.ensures.stands all t 0 (omega arith) (c.places.invariant.stands all t))
           (t.outputs node c.pass-beyond.ensures.in_trie).ends

@@ -10,7 +10,7 @@ places-init c =
       after = omega arith;
       within = c.requires.within;
       in_trie = c.requires.table.trie.some;
-      stands = λ all t. stands_at_first all c.args.from (keys c.args.self.now.fold c.args.line.now) t.trie.root (let w = c.requires.within in omega arith);
+      stands = λ all t. stands_at_first all c.args.from (keys c.args.self.now.fold c.args.line.now) t.trie.root (omega arith);
       best = λ all t. best_at_first all c.args.from (keys c.args.self.now.fold c.args.line.now);
       begun = λ all t known none. absurd (none-some known none);
       uncounted = refl;
@@ -19,13 +19,13 @@ places-init c =
 pub returns-then-begins_before-clause-best : goal.returns-then-begins_before-clause-best
 returns-then-begins_before-clause-best c = λ all t.
     let size = length-map c.args.line.now (key c.args.self.now.fold) in
-    let in_rows : c.pass-beyond.result.1 < length c.args.self.now.depths.items = let r = c.requires.table.depths in let w = c.pass-beyond.ensures.in_trie in omega arith in
+    let in_rows : c.pass-beyond.result.1 < length c.args.self.now.depths.items = omega arith in
     let read = row_read c.args.self.now.depths.items c.pass-beyond.result.1 c.index.result.now in_rows c.index.ensures in
     let early = c.begins_before.ensures.0 c.if-begins_before.true in
     let stands = c.pass-beyond.ensures.stands all t c.args.from c.places.invariant.after (c.places.invariant.stands all t) in
     rw size at
     (best_settled _ _ _ _ _ _ _ _
-    c.pass-beyond.ensures.on.0 (let w = c.pass-beyond.ensures.on.1 in omega arith) (c.places.invariant.best all t)
+    c.pass-beyond.ensures.on.0 (omega arith) (c.places.invariant.best all t)
     (c.pass-beyond.ensures.between all t c.args.from c.places.invariant.after (c.places.invariant.stands all t)) stands
     (sym read ∙ t.depths c.pass-beyond.result.1 c.pass-beyond.ensures.in_trie)
     (early.0, early.1, (let h = early.2 in omega (arith, c.saturating_sub.ensures))))
@@ -33,7 +33,7 @@ returns-then-begins_before-clause-best c = λ all t.
 pub places-preserved : goal.places-preserved
 places-preserved c =
     let size : length (keys c.args.self.now.fold c.args.line.now) ≡ length c.args.line.now = length-map c.args.line.now (key c.args.self.now.fold) in
-    let in_depths : c.pass-beyond.result.1 < length c.args.self.now.depths.items = let r = c.requires.table.depths in let w = c.pass-beyond.ensures.in_trie in omega (arith, r, w) in
+    let in_depths : c.pass-beyond.result.1 < length c.args.self.now.depths.items = omega arith in
     record {
       after = omega (arith, c.places.invariant.after, c.pass-beyond.ensures.on.0);
       within = c.pass-beyond.ensures.on.1;
@@ -41,7 +41,7 @@ places-preserved c =
       stands = λ all t. c.pass-beyond.ensures.stands all t c.args.from c.places.invariant.after (c.places.invariant.stands all t);
       best = λ all t.
           best_on all c.args.from (keys c.args.self.now.fold c.args.line.now) c.places.place c.pass-beyond.result.0 c.pass-beyond.result.1 c.ending.result c.places.best c.better-best.result
-          c.pass-beyond.ensures.on.0 (let w = c.pass-beyond.ensures.on.1 in omega (arith, size, w)) (c.places.invariant.best all t)
+          c.pass-beyond.ensures.on.0 (omega arith) (c.places.invariant.best all t)
           (c.pass-beyond.ensures.between all t c.args.from c.places.invariant.after (c.places.invariant.stands all t))
           (c.pass-beyond.ensures.stands all t c.args.from c.places.invariant.after (c.places.invariant.stands all t))
           (c.ending.ensures all t)
@@ -50,13 +50,13 @@ places-preserved c =
           let deep = row_read c.args.self.now.depths.items c.pass-beyond.result.1 c.index.result.now in_depths c.index.ensures in
           begun_on all c.args.from (keys c.args.self.now.fold c.args.line.now) t.trie.root c.places.place c.pass-beyond.result.0 c.places.node c.pass-beyond.result.1 c.ending.result
           c.index.result.now c.places.best c.better-best.result
-          c.pass-beyond.ensures.on.0 (let w = c.pass-beyond.ensures.on.1 in omega (arith, size, w)) (c.places.invariant.best all t) (c.places.invariant.begun all t) (c.pass-beyond.ensures.begun all t c.args.from)
+          c.pass-beyond.ensures.on.0 (omega arith) (c.places.invariant.best all t) (c.places.invariant.begun all t) (c.pass-beyond.ensures.begun all t c.args.from)
           (c.pass-beyond.ensures.stands all t c.args.from c.places.invariant.after (c.places.invariant.stands all t))
           (c.ending.ensures all t)
           (sym deep ∙ t.depths c.pass-beyond.result.1 c.pass-beyond.ensures.in_trie)
           (λ known is.
           elim (cases_lt known.start (c.pass-beyond.result.0 - c.index.result.now)) [
-            | inl early ↦ let settled = c.begins_before.ensures.1 (known, is, (omega (arith, early, c.saturating_sub.ensures))) in absurd (false≢true (sym c.if-begins_before.false ∙ settled))
+            | inl early ↦ let settled = c.begins_before.ensures.1 (known, is, (omega (arith, c.saturating_sub.ensures))) in absurd (false≢true (sym c.if-begins_before.false ∙ settled))
             | inr late ↦ late
           ])
           c.better-best.ensures;
@@ -67,13 +67,13 @@ pub returns-then-begins_before-clause-reached : goal.returns-then-begins_before-
 returns-then-begins_before-clause-reached c =
     let line = keys c.args.self.now.fold c.args.line.now in
     let size = length-map c.args.line.now (key c.args.self.now.fold) in
-    let in_rows : c.pass-beyond.result.1 < length c.args.self.now.depths.items = let r = c.requires.table.depths in let w = c.pass-beyond.ensures.in_trie in omega arith in
+    let in_rows : c.pass-beyond.result.1 < length c.args.self.now.depths.items = omega arith in
     let read = row_read c.args.self.now.depths.items c.pass-beyond.result.1 c.index.result.now in_rows c.index.ensures in
     let early = c.begins_before.ensures.0 c.if-begins_before.true in
     let low = c.places.invariant.after in
     record {
       place = c.pass-beyond.result.0;
-      low = let on = c.pass-beyond.ensures.on.0 in omega arith;
+      low = omega arith;
       within = c.pass-beyond.ensures.on.1;
       passed = cc (c.add_passed.ensures, c.places.invariant.uncounted);
       over = inr (
@@ -81,7 +81,7 @@ returns-then-begins_before-clause-reached c =
         early.1,
         (λ all t.
             let begun = c.places.invariant.begun all t early.0 early.1 in
-            settled all c.args.from line c.pass-beyond.result.0 c.pass-beyond.result.1 c.index.result.now early.0.start (let w = c.pass-beyond.ensures.on.1 in omega arith)
+            settled all c.args.from line c.pass-beyond.result.0 c.pass-beyond.result.1 c.index.result.now early.0.start (omega arith)
             (c.pass-beyond.ensures.begun all t c.args.from begun.0 begun.1) (sym read ∙ t.depths c.pass-beyond.result.1 c.pass-beyond.ensures.in_trie)
             (let h = early.2 in omega (arith, c.saturating_sub.ensures))),
       );

@@ -11,7 +11,7 @@ returns-in_default c = λ all t.
     let here = c.key_of.ensures ∙ sym (key_at _ _ _ c.places-test.true) in
     let none = rw here at (c.in_default.ensures.reported all t.trie) in (
       (λ h. absurd (false≢true h)),
-      (λ whole. absurd (goes_on_in_line _ _ _ _ (let lt = c.places-test.true in omega arith) (c.places.invariant.read all t) none whole)),
+      (λ whole. absurd (goes_on_in_line _ _ _ _ (omega arith) (c.places.invariant.read all t) none whole)),
     )
 
 pub places-preserved : goal.places-preserved
@@ -24,7 +24,7 @@ places-preserved c =
       in_trie = c.in-Some.ensures.beyond.1;
       read = λ all t.
           c.in-Some.ensures.reported all t.trie ∙ ap (λ b. all.label c.places.node ++ b ∷ []) here ∙ ap (λ w. w ++ slice_index line c.places.place ∷ []) (c.places.invariant.read all t)
-          ∙ sym (one_more_byte _ _ (let lt = c.places-test.true in omega arith));
+          ∙ sym (one_more_byte _ _ (omega arith));
     }
 
 pub returns : goal.returns
@@ -33,4 +33,4 @@ returns c = λ all t.
     let size = length-map c.args.line.now (key c.args.self.now.fold) in
     let is = c.places.invariant.read all t ∙ all_read line c.places.place (omega arith) in
     rw size at
-    (ends_whole _ _ _ _ (let s = c.requires.some in omega arith) is (c.ending.ensures all t))
+    (ends_whole _ _ _ _ (omega arith) is (c.ending.ensures all t))

@@ -14,7 +14,7 @@ windows-preserved c =
     let low = c.windows.invariant.low in
     let on = c.stride-at-in-windows.ensures.within in
     record {
-      low = let far = on.0 in omega arith;
+      low = omega arith;
       high = on.1;
       none = λ strings a b.
           let line = keys c.args.fold c.args.line.now in

@@ -9,7 +9,7 @@ returns-clause-short c =
     let full = c.requires.leaps.full in
     let row : c.row_of.result < 32896 = omega (arith, c.row_of.ensures) in
     let read = row_read c.args.self.now.shifts.items c.row_of.result c.index.result.now (omega arith) c.index.ensures in
-    let short = c.requires.leaps.short (let p = c.requires.pair in omega arith) c.row_of.result row in
+    let short = c.requires.leaps.short (omega arith) c.row_of.result row in
     omega arith
 
 pub returns-clause-none : goal.returns-clause-none

@@ -7,16 +7,16 @@ returns-clause-reported c = λ all t front.
     let found = t.complete c.args.node c.args.byte c.requires.within front in
     let ordered = c.requires.trie.ordered c.args.node c.requires.within in
     let i =
-    c.index.ensures ∙ get_or_default_zero c.args.self.now.first.items c.args.node c.index.result.now (let r = c.requires.trie.rows in let w = c.requires.within in omega arith) in
+    c.index.ensures ∙ get_or_default_zero c.args.self.now.first.items c.args.node c.index.result.now (omega arith) in
     let j =
-    c.index-2.ensures ∙ get_or_default_zero c.args.self.now.first.items (c.args.node + 1) c.index-2.result.now (let r = c.requires.trie.rows in let w = c.requires.within in omega arith) in
-    c.children.invariant found.0 (let low = found.1.0 in omega arith) (let high = found.1.1 in let past = c.children-test.false in omega arith) found.2
+    c.index-2.ensures ∙ get_or_default_zero c.args.self.now.first.items (c.args.node + 1) c.index-2.result.now (omega arith) in
+    c.children.invariant found.0 (omega arith) (omega arith) found.2
 
 low_of : (c : goal.Then-index-byte) → c.index.result.now ≡ slice_index c.args.self.now.first.items c.args.node
-low_of c = c.index.ensures ∙ get_or_default_zero c.args.self.now.first.items c.args.node c.index.result.now (let r = c.requires.trie.rows in let w = c.requires.within in omega arith)
+low_of c = c.index.ensures ∙ get_or_default_zero c.args.self.now.first.items c.args.node c.index.result.now (omega arith)
 
 high_of : (c : goal.Then-index-byte) → c.index-2.result.now ≡ slice_index c.args.self.now.first.items (c.args.node + 1)
-high_of c = c.index-2.ensures ∙ get_or_default_zero c.args.self.now.first.items (c.args.node + 1) c.index-2.result.now (let r = c.requires.trie.rows in let w = c.requires.within in omega arith)
+high_of c = c.index-2.ensures ∙ get_or_default_zero c.args.self.now.first.items (c.args.node + 1) c.index-2.result.now (omega arith)
 
 pub returns-then-index-byte-clause-reported : goal.returns-then-index-byte-clause-reported
 returns-then-index-byte-clause-reported c = λ all t.
@@ -40,20 +40,20 @@ pub returns-in_err-place-clause-reported : goal.returns-in_err-place-clause-repo
 returns-in_err-place-clause-reported c = λ all t. rw c.from_residual.ensures (λ front.
     let found = t.complete c.args.node c.args.byte c.requires.within front in
     let i : c.index.result.now ≡ slice_index c.args.self.now.first.items c.args.node =
-    c.index.ensures ∙ get_or_default_zero c.args.self.now.first.items c.args.node c.index.result.now (let r = c.requires.trie.rows in let w = c.requires.within in omega (arith, r, w)) in
+    c.index.ensures ∙ get_or_default_zero c.args.self.now.first.items c.args.node c.index.result.now (omega arith) in
     let j : c.index-2.result.now ≡ slice_index c.args.self.now.first.items (c.args.node + 1) =
-    c.index-2.ensures ∙ get_or_default_zero c.args.self.now.first.items (c.args.node + 1) c.index-2.result.now (let r = c.requires.trie.rows in let w = c.requires.within in omega (arith, r, w)) in
+    c.index-2.ensures ∙ get_or_default_zero c.args.self.now.first.items (c.args.node + 1) c.index-2.result.now (omega arith) in
     not_between c.deref.result.now c.index.result.now c.index-2.result.now c.args.byte
     (let o = c.requires.trie.ordered c.args.node c.requires.within in omega (arith, i, j, o))
     (let o = c.requires.trie.within c.args.node c.requires.within in let e = ap length c.deref.ensures.value in omega (arith, j, o, e))
     c.in_err-place.ensures
-    found.0 (let low = found.1.0 in omega (arith, i, low)) (let high = found.1.1 in omega (arith, j, high)) (ap (λ xs. slice_index xs found.0) c.deref.ensures.value ∙ found.2))
+    found.0 (omega arith) (omega arith) (ap (λ xs. slice_index xs found.0) c.deref.ensures.value ∙ found.2))
 
 first_of : (c : goal.In_ok-place) → c.index.result.now ≡ slice_index c.args.self.now.first.items c.args.node
-first_of c = c.index.ensures ∙ get_or_default_zero c.args.self.now.first.items c.args.node c.index.result.now (let r = c.requires.trie.rows in let w = c.requires.within in omega arith)
+first_of c = c.index.ensures ∙ get_or_default_zero c.args.self.now.first.items c.args.node c.index.result.now (omega arith)
 
 end_of : (c : goal.In_ok-place) → c.index-2.result.now ≡ slice_index c.args.self.now.first.items (c.args.node + 1)
-end_of c = c.index-2.ensures ∙ get_or_default_zero c.args.self.now.first.items (c.args.node + 1) c.index-2.result.now (let r = c.requires.trie.rows in let w = c.requires.within in omega arith)
+end_of c = c.index-2.ensures ∙ get_or_default_zero c.args.self.now.first.items (c.args.node + 1) c.index-2.result.now (omega arith)
 
 found_of : (c : goal.In_ok-place) → (c.index.result.now + c.in_ok-place.place < c.index-2.result.now) × (slice_index c.deref.result.now (c.index.result.now + c.in_ok-place.place) ≡ c.args.byte)
 found_of c =
