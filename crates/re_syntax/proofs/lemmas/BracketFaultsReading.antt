@@ -8,7 +8,7 @@ use Rattle.re_syntax.proofs.lemmas.BracketsUnique.{apart, point-unique}
 
 -- a fault at the cursor's place
 pub fault_here : (P : Text → FaultKind → Text → Type 0) (c : Cursor) {t : Text} {kind : FaultKind} {at : ℕ} → at ≡ c.at → left c ≡ t → P t kind t → Fails (P (left c)) c (record { kind = kind; at = at })
-fault_here P c {kind = kind} e f x = record { within = rw e c.in_text; is_fault = rw e (rw f x) }
+fault_here P c e f x = record { within = rw e c.in_text; is_fault = rw e (rw f x) }
 
 -- what follows from a fault is one
 pub fault_as : {P Q : FaultKind → Text → Type 0} {text : Text} {fault : PatternFault} → IsAt P text fault → ((kind : FaultKind) (from : Text) → P kind from → Q kind from) → IsAt Q text fault
@@ -21,7 +21,7 @@ hyphen_within c t e = omega (arith, simp length-drop at (ap length e))
 -- a fault of a range, at its hyphen
 pub bad_range_at : {opening : Text} {first : ℕ} (c : Cursor) {hyphen : ℕ} → IsHyphenBefore hyphen c → RangeFault opening first (left c) BadRange (codes "-" ++ left c) →
     Fails (RangeFault opening first (left c)) c (record { kind = BadRange; at = hyphen })
-bad_range_at {opening} {first} c {hyphen} e f =
+bad_range_at c e f =
     record { within = hyphen_within c _ e; is_fault = rw e f }
 
 -- the fault of two hyphens, where the first was read as a point
@@ -65,8 +65,8 @@ opened_fault {bytes} {opening} {old} {new} {fault} e past f h =
 
 -- the opening is in the text
 pub opening_in : {opening : ℕ} (old new : Cursor) → opening ≡ old.at → new.text ≡ old.text → IsIn opening new
-opening_in {opening} old new e same = rw same (rw e old.in_text)
+opening_in old new e same = rw same (rw e old.in_text)
 
 -- the fault of the bracket expression at a place
 pub exact_at : {text : Text} (from : ℕ) (c : Cursor) {fault : PatternFault} → c.text.now ≡ text → left c ≡ drop from text → Fails (BracketFault (left c)) c fault → IsAt (BracketFault (drop from text)) text fault
-exact_at {text} from c {fault} e f h = subst (λ t. IsAt (BracketFault t) text fault) f (subst (λ t. IsAt (BracketFault (left c)) t fault) e h)
+exact_at {text} _ c {fault} e f h = subst (λ t. IsAt (BracketFault t) text fault) f (subst (λ t. IsAt (BracketFault (left c)) t fault) e h)

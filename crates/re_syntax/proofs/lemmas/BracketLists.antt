@@ -16,7 +16,7 @@ pub record GoesOn (opening t v : Text) (p : ListPlace) (done : Bytes) : Type 0 w
 
 -- a list adds equal bytes
 rest_along : {p : ListPlace} {t u : Text} {x y : Bytes} → x ≡ y → Rest p t u x → Rest p t u y
-rest_along {p} {t} {u} e r = rw e at r
+rest_along e r = rw e at r
 
 -- no place after an element is the first, and after a point a hyphen is the last
 after_element : {p q : ListPlace} {t v : Text} {a : Bytes} → Element p t v a q → (q ≢ First) × (Begins (codes "-") v → (q ≢ AfterPoint) ⊎ Begins (codes "-]") v)

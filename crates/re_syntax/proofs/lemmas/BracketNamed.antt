@@ -3,7 +3,7 @@ use Rattle.re_syntax.proofs.Prelude.{◌≡◌, ℕ, ◌∷◌, ◌++◌, codes,
 
 -- an element of a text is one of an equal text
 element_along : {p q : ListPlace} {t u v : Text} {a : Bytes} → t ≡ u → Element p u v a q → Element p t v a q
-element_along {p} {q} {v = v} {a = a} e h = rw e h
+element_along e h = rw e h
 
 -- a class was passed
 pub class_passed : {p : ListPlace} {a b d : Cursor} (c : Class) → Passes (codes "[:") a b → Passes (class_name c ++ codes ":]") b d →

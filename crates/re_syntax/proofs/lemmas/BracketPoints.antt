@@ -7,7 +7,7 @@ not_begins_along h e k (rest, q) = h (rest, k ∙ q ∙ ap (λ x. x ++ rest) (sy
 
 -- a point of a text is one of an equal text
 pub point_along : {t u v : Text} {b : ℕ} → t ≡ u → Point u v b → Point t v b
-point_along {v = v} {b = b} e h = rw e h
+point_along e h = rw e h
 
 -- `[.c.]` was passed
 pub symbol_passed : {a b d : Cursor} {c : ℕ} → Passes (codes "[.") a b → Passes (c ∷ codes ".]") b d → Point (left a) (left d) c

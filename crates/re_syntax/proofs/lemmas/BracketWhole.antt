@@ -17,11 +17,11 @@ set_stands {u = u} {s = s} e h r = rw e (matching (λ (w, f). h (w, e ∙ ap (λ
 
 -- a cursor at a place has the text from there on left
 pub left_at : {text : Text} {at : ℕ} {c : Cursor} → IsAt text at c → left c ≡ drop at text
-left_at {text} {at} {c} h = cc (h.text_is, h.place_is)
+left_at h = cc (h.text_is, h.place_is)
 
 -- the byte at a place comes next there
 pub next_byte : {text : Text} {from : ℕ} (b : ℕ) {c : Cursor} → slice_get text from ≡ Some b → IsAt text from c → left c ≡ b ∷ drop (from + 1) text
-next_byte {text} {from} b {c} e h =
+next_byte {text} {from} b e h =
     left_at h ∙ drop_more text from b (slice_get_within text from b e) ∙ ap (λ x. x ∷ drop (from + 1) text) (get_or_from_slice_get text from b b e)
 
 -- the reported place is that of the cursor

@@ -125,4 +125,4 @@ bracket_front (non_matching r) = (_, refl)
 
 -- the law of the definitions
 pub begins_with_one_bracket : (text : Text) → BeginsWithOneBracket text
-begins_with_one_bracket text u v d e x y = let same = IsBracket-unique x y refl in (same.rests, same.expressions)
+begins_with_one_bracket _ u v d e x y = let same = IsBracket-unique x y refl in (same.rests, same.expressions)

@@ -12,7 +12,7 @@ use Rattle.re_syntax.proofs.lemmas.Mirrored.{partner, none_mirrors}
 -- a group is left
 pub left_means : {old new : Building} (last : TreeFrame) (tree : Tree) → old.outer.items ≡ new.outer.items ++ last ∷ [] → ((l : Frame) → FrameMeans old.level l → expression_of tree ≡ choice (branches_of l)) →
     ((l : Frame) → FrameMeans last l → FrameMeans new.level (with_item (expression_of tree) l)) → BuildsOn closing old new
-left_means {new} last tree e h k = record {
+left_means last tree e h k = record {
   on = λ b m.
       let around = partner m.outer e in
       let level = rw (h b.level m.level) at (k around.first around.is) in
@@ -39,10 +39,10 @@ repeated_trees rest new last least most e f h =
 
 -- one token more was built
 pub builds_more : (done : List Token) {k : Token} {old new : Building} → Builds old (build_all done nothing_built) → BuildsOn k old new → Builds new (build_all (done ++ k ∷ []) nothing_built)
-builds_more done {k} {new} m on =
+builds_more done {k} m on =
     rw (build-append _ _ _ ∙ build-one k (build_all done nothing_built)) (on.on (build_all done nothing_built) m)
 
 -- the text spells what was built of its cut
 pub built_spelled : {syntax : Syntax} {text : Text} {done : List Token} → IsCut syntax text done → IsSpelled syntax text (choice (branches_of (build_all done nothing_built).level))
-built_spelled {syntax} {text} {done} cut =
+built_spelled {done = done} cut =
     adds_none _ (record { tokens = done; cut = cut; branches = branches_of (build_all done nothing_built).level; read = cut_branches cut; whole = refl })

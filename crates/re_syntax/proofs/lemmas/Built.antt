@@ -9,7 +9,7 @@ use Rattle.re_syntax.specs.Working.Builds.{Frame, Built, nothing_built, repeat_l
 
 pub build-append : (ks ls : List Token) (b : Built) → build_all (ks ++ ls) b ≡ build_all ls (build_all ks b)
 unfolding build_all
-build-append [] ls b = refl
+build-append [] _ b = refl
 build-append (k ∷ ks) ls b = build-append ks ls _
 
 pub build-one : (k : Token) (b : Built) → build_all (k ∷ []) b ≡ build k b
@@ -18,7 +18,7 @@ build-one k b = refl
 
 build-more : (k : Token) (ks : List Token) (b : Built) → build_all (k ∷ ks) b ≡ build_all ks (build k b)
 unfolding build_all
-build-more k ks b = refl
+build-more k _ b = refl
 
 build-none : (b : Built) → build_all [] b ≡ b
 unfolding build_all
@@ -26,8 +26,8 @@ build-none b = refl
 
 -- the last of some items repeated
 pub repeat-snoc : (least : ℕ) (most : Option ℕ) (es : List Expression) (e : Expression) → repeat_last least most (es ++ e ∷ []) ≡ es ++ repeat e least most ∷ []
-repeat-snoc least most [] e = refl
-repeat-snoc least most (d ∷ []) e = refl
+repeat-snoc _ _ [] e = refl
+repeat-snoc _ _ (d ∷ []) e = refl
 repeat-snoc least most (d ∷ f ∷ es) e = ap (λ xs. d ∷ xs) (repeat-snoc least most (f ∷ es) e)
 
 abbrev built_of : List Expression → List Frame → List Expression → Built
@@ -112,7 +112,7 @@ MeansIn (suc n) p ks = (inside : List Token) × (others : List Token) × (ks ≡
 
 -- some tokens more in front
 more_first : (n : ℕ) (ms : List Token) (p q : ItemPlace) (ks : List Token) → ((ls : List Token) → MeansAt p ls → MeansAt q (ms ++ ls)) → MeansIn n p ks → MeansIn n q (ms ++ ks)
-more_first zero ms p q ks f m = f ks m
+more_first zero _ p q ks f m = f ks m
 more_first (suc n) ms p q ks f (inside, others, e, m, rest) = (ms ++ inside, others, ap (λ ks. ms ++ ks) e ∙ sym (append_assoc ms inside (closing ∷ others)), f inside m, rest)
 
 item_in : (n : ℕ) {ms : List Token} (p : ItemPlace) {e : Expression} (ks : List Token) → Item ms e → MeansIn n Later ks → MeansIn n p (ms ++ ks)

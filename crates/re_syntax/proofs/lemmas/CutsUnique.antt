@@ -44,9 +44,9 @@ same_faults f g p q = ap (λ k. fault_of k f.at) p ∙ ap (fault_of g.kind) q
 module _ {syntax : Syntax} (exact : IsExact syntax) where
   pub cuts-unique : {c : Context} {t : Text} {ks ls : List Token} → Cut syntax c t ks → Cut syntax c t ls → ks ≡ ls
   cuts-unique (whole e) (whole f) = refl
-  cuts-unique {c} (whole e) (next x n y) = absurd (exact.token_not_end _ _ _ _ x)
-  cuts-unique {c} (next x n y) (whole e) = absurd (exact.token_not_end _ _ _ _ x)
-  cuts-unique {c} {t} (next {k = j} {ks = ks} x n y) (next {u = v} {k = l} {ks = ls} z m w) =
+  cuts-unique (whole e) (next x n y) = absurd (exact.token_not_end _ _ _ _ x)
+  cuts-unique (next x n y) (whole e) = absurd (exact.token_not_end _ _ _ _ x)
+  cuts-unique (next {k = j} {ks = ks} x n y) (next {u = v} {k = l} {ks = ls} z m w) =
       let same = exact.token _ _ _ _ _ _ _ x z in
       same_next same.tokens (cuts-unique y (rw same.rests (rw same.tokens w)))
 
@@ -58,15 +58,15 @@ module _ {syntax : Syntax} (exact : IsExact syntax) where
   fault-unique (too_deep u x d) (no_token f) = absurd (exact.either _ _ _ _ _ _ _ x f)
   fault-unique (too_deep u x d) (too_deep w z b) = record { kinds = refl; places = refl }
   fault-unique (too_deep u x d) (unclosed e) = absurd (exact.token_not_end _ _ _ _ x)
-  fault-unique {c} (too_deep u x d) (later z n y) = absurd (n (rw (exact.token _ _ _ _ _ _ _ x z).tokens at d))
+  fault-unique (too_deep u x d) (later z n y) = absurd (n (rw (exact.token _ _ _ _ _ _ _ x z).tokens at d))
   fault-unique (unclosed e) (no_token f) = absurd (exact.fault_not_end _ _ _ _ f)
   fault-unique (unclosed e) (too_deep u x d) = absurd (exact.token_not_end _ _ _ _ x)
   fault-unique (unclosed e) (unclosed f) = record { kinds = refl; places = ap (λ a. a.from) (same_around e f) }
   fault-unique (unclosed e) (later x n y) = absurd (exact.token_not_end _ _ _ _ x)
   fault-unique (later x n y) (no_token f) = absurd (exact.either _ _ _ _ _ _ _ x f)
-  fault-unique {c} (later x n y) (too_deep w z d) = absurd (n (rw (exact.token _ _ _ _ _ _ _ z x).tokens at d))
+  fault-unique (later x n y) (too_deep w z d) = absurd (n (rw (exact.token _ _ _ _ _ _ _ z x).tokens at d))
   fault-unique (later x n y) (unclosed e) = absurd (exact.token_not_end _ _ _ _ x)
-  fault-unique {c} {t} {v = w} {k = i} (later {k = j} x n y) (later {u = r} z m b) =
+  fault-unique (later {k = j} x n y) (later {u = r} z m b) =
       let same = exact.token _ _ _ _ _ _ _ x z in
       fault-unique y (rw same.rests (rw same.tokens b))
 
@@ -74,7 +74,7 @@ module _ {syntax : Syntax} (exact : IsExact syntax) where
   fault-no_cut (no_token f) (whole e) = exact.fault_not_end _ _ _ _ f
   fault-no_cut (no_token f) (next x n y) = exact.either _ _ _ _ _ _ _ x f
   fault-no_cut (too_deep u x d) (whole e) = exact.token_not_end _ _ _ _ x
-  fault-no_cut {c} (too_deep u x d) (next z n y) = n (rw (exact.token _ _ _ _ _ _ _ x z).tokens at d)
+  fault-no_cut (too_deep u x d) (next z n y) = n (rw (exact.token _ _ _ _ _ _ _ x z).tokens at d)
   fault-no_cut (unclosed e) (whole f) = let g = sym e ∙ f in cc
   fault-no_cut (unclosed e) (next x n y) = exact.token_not_end _ _ _ _ x
   fault-no_cut (later x n y) (whole e) = exact.token_not_end _ _ _ _ x

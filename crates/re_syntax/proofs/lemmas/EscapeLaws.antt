@@ -57,5 +57,5 @@ escape_fault-unique (reference h) (reference i) e = record { kinds = refl; place
 
 pub escape-no_fault : {others t u v : Text} {b : ℕ} {k : FaultKind} → EscapeFault others t k v → t ≡ 92 ∷ b ∷ u → IsTrue (is_undefined others b)
 escape-no_fault trailing e = let f = tails e in absurd (cc)
-escape-no_fault {others} (undefined h n) e = rw (sym (heads (tails e))) h
-escape-no_fault {others} (reference {b = b} h) e = rw (sym (heads (tails e))) (reference_undefined _ b h)
+escape-no_fault (undefined h n) e = rw (sym (heads (tails e))) h
+escape-no_fault (reference {b = b} h) e = rw (sym (heads (tails e))) (reference_undefined _ b h)

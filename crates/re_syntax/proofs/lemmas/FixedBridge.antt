@@ -56,7 +56,7 @@ grammar = record {
 
 bytes_read : (t : Text) {p : ItemPlace} {g : Bool} → ItemsRead Fixed g p 0 t [] (map byte t)
 bytes_read [] = no_items
-bytes_read (b ∷ t) {g} = more_items (token_item (one_byte b)) (bytes_read t)
+bytes_read (b ∷ t) = more_items (token_item (one_byte b)) (bytes_read t)
 
 pub fixed_spells : {t : Text} {e : Expression} → IsSpelled Fixed t e → Spells Fixed t e
 fixed_spells {t} as_fixed = spells (last_branch (bytes_read t)) (omega arith)

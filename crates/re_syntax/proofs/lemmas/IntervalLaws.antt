@@ -22,7 +22,7 @@ pub cut-unique : (c : ℕ) (t u : Text) {r s : Text} → lacks c t ≡ true → 
 cut-unique c [] [] h k e = (refl, cc)
 cut-unique c [] (b ∷ u) h k e = absurd (lacks_head u k (cc))
 cut-unique c (a ∷ t) [] h k e = absurd (lacks_head t h (cc))
-cut-unique c (a ∷ t) (b ∷ u) {r} {s} h k e =
+cut-unique c (a ∷ t) (b ∷ u) h k e =
     let same = cut-unique c t u (lacks_tail c a t h) (lacks_tail c b u k) (cc) in
     let parts : t ≡ u = same.0 in
     (cc, same.1)

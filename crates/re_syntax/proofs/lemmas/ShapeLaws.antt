@@ -62,15 +62,15 @@ last-snoc (d ∷ []) e = refl
 last-snoc (d ∷ f ∷ es) e = last-snoc (f ∷ es) e
 
 rest-repeated : (least : ℕ) (most : Option ℕ) (es : List Expression) → rest_positions (repeat_last least most es) ≡ rest_positions es
-rest-repeated least most [] = refl
-rest-repeated least most (e ∷ []) = refl
-rest-repeated least most (e ∷ f ∷ []) = refl
+rest-repeated _ _ [] = refl
+rest-repeated _ _ (e ∷ []) = refl
+rest-repeated _ _ (e ∷ f ∷ []) = refl
 rest-repeated least most (e ∷ f ∷ g ∷ es) = ap (λ n. positions e + n) (rest-repeated least most (f ∷ g ∷ es))
 
 last-repeated : (least : ℕ) (most : Option ℕ) (es : List Expression) → last_positions (repeat_last least most es) ≡ copies least most * last_positions es
 last-repeated least most [] = omega arith
-last-repeated least most (e ∷ []) = refl
-last-repeated least most (e ∷ f ∷ []) = refl
+last-repeated _ _ (e ∷ []) = refl
+last-repeated _ _ (e ∷ f ∷ []) = refl
 last-repeated least most (e ∷ f ∷ g ∷ es) = last-repeated least most (f ∷ g ∷ es)
 
 -- a product of a word that keeps only the greatest
@@ -84,7 +84,7 @@ times_up (suc c) n = go (cases_lt (2 ^ 64 - 1) n)
 
 -- the positions of a level together
 counted : {shape : Shape} {b : Built} → Counts shape b → up_to_word (shape.before + shape.item) ≡ up_to_word (level_positions b.level)
-counted {shape} {b} h = omega (arith, h.before, h.item, rest-and-last b.level.items)
+counted {b = b} h = omega (arith, h.before, h.item, rest-and-last b.level.items)
 
 -- Tokens that are taken.
 
@@ -196,7 +196,7 @@ none_left {shape} e = record {
 -- a token without a height was taken
 flat : {text : Text} {c : Context} {old new : Shape} {place : ItemPlace} {m n : ℕ} → new ≡ record old { place = place; last = 0; before = m; item = n } → Shows text old c →
     Shows text new (record { place = place; last = 0; height = c.height; around = c.around })
-flat {text} {c} {place = place} e s = rw e
+flat e s = rw e
     (record { place_is = refl; last_is = refl; height_is = s.height_is; around = s.around; bounded = record { last_fits = omega (arith, s.bounded.height_fits); height_fits = s.bounded.height_fits } })
 
 pub bar_taken : {at : ℕ} {old new : Shape} → new ≡ record old { place = First; last = 0; before = up_to_word (old.before + old.item); item = 0 } → Takes bar at old new
@@ -209,7 +209,7 @@ bar_taken e = record {
 -- an item without parts was taken
 one_taken : {old new : Shape} {place : ItemPlace} {n : ℕ} {b : Built} (e : Expression) → new ≡ record old { place = place; last = 0; before = up_to_word (old.before + old.item); item = n } →
     n ≡ up_to_word (positions e) → Counts old b → Counts new (record { level = with_item e b.level; outer = b.outer })
-one_taken {b} x e p h = rw e (record {
+one_taken x e p h = rw e (record {
   before = cc (counted h, rest-snoc _ x);
   item = cc (last-snoc _ x);
   around = h.around;
@@ -233,13 +233,13 @@ open_is s {n} e = go s.around n e
 
 module _ {syntax : Syntax} {text : Text} {at : ℕ} {old : Shape} {done : List Token} (r : Reaches syntax text at old done) (n : ℕ) (is_open : n ≡ length old.groups.items) where
   here : {token : Read} {beyond : ℕ} → Stands syntax (nat_lt 0 n) old.place text at token beyond → IsToken syntax (is_group r.context.around) r.context.place (drop at text) (drop beyond text) (token_of token)
-  here {token} {beyond} t = rw (open_is r.shows is_open)
+  here t = rw (open_is r.shows is_open)
       (rw r.shows.place_is at t.stands)
 
   -- a token was read and taken
   pub reaches_on : {token : Read} {beyond : ℕ} {new : Shape} → Stands syntax (nat_lt 0 n) old.place text at token beyond → Takes (token_of token) at old new →
       Reaches syntax text beyond new (done ++ token_of token ∷ [])
-  reaches_on {token} {new = new} t k =
+  reaches_on {token} t k =
       let (light, shows) = k.shows text r.context r.within r.shows in
       record {
         within = t.within;
@@ -281,7 +281,7 @@ ends_whole e none = record {
 }
 
 pub ends_open : (shape : Shape) (fault : PatternFault) (others : List OpenGroup) (last : OpenGroup) → shape.groups.items ≡ others ++ last ∷ [] → fault ≡ record { kind = UnclosedGroup; at = last.opening } → EndsOpen shape fault
-ends_open shape fault others last e f = record {
+ends_open _ fault _ last e f = record {
   ends = λ syntax text done r.
       let inner = partner r.shows.around e in
       subst (IsFirstFault syntax text) (sym f) (record {

@@ -25,7 +25,7 @@ module _ {syntax : Syntax} {g : Bool} {p : ItemPlace} {text : Text} {at : ℕ} w
   bytes_stand token some s x = stands_by (omega (arith, s.place)) s.within s.front x
 
   pub byte_stands : {b : ℕ} {token : Read} → at < length text → get_or text at 0 ≡ b → IsToken syntax g p (b ∷ drop (at + 1) text) (drop (at + 1) text) (token_of token) → Stands syntax g p text at token (at + 1)
-  byte_stands {b} {token} h e x = stands_by (omega arith) (omega arith) (front_here text at h e) x
+  byte_stands h e x = stands_by (omega arith) (omega arith) (front_here text at h e) x
 
   pub escape_stands : {others : Text} {b : ℕ} (it : Atom) → EscapeStands others text at b → atom_expression it ≡ byte b → IsToken syntax g p (92 ∷ b ∷ drop (at + 2) text) (drop (at + 2) text) (atom (byte b)) →
       Stands syntax g p text at (Atomic it) (at + 2)
@@ -57,7 +57,7 @@ module _ {opening close text : Text} {at inside beyond : ℕ} {counts : Counts} 
 
   pub bad_interval : {kind : FaultKind} (P : Text → FaultKind → Text → Type 0) → at ≤ length text → IsDisallowed kind counts.least counts.most →
       (IsDisallowed kind i.least i.most → P (opening ++ drop inside text) kind (opening ++ drop inside text)) → IsAt (P (drop at text)) text (record { kind = kind; at = at })
-  bad_interval {kind} P h bad f = record { within = h; is_fault = rw s.front (f (disallowed_too bad _ i.least_is i.most_is)) }
+  bad_interval P h bad f = record { within = h; is_fault = rw s.front (f (disallowed_too bad _ i.least_is i.most_is)) }
 
 -- what closes an interval is no part of it
 pub closing_no_part : (b : ℕ) (t : Text) → in_class Digit b ≡ false → nat_eq b 44 ≡ false → IsNoPart (b ∷ t)
