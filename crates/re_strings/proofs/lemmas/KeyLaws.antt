@@ -6,10 +6,10 @@ inside : (low high b : ℕ) → low ≤ b → b ≤ high → range low high b �
 inside low high b from to = and_from _ _ (le-leb low b from) (le-leb b high to)
 
 below : (low high b : ℕ) → b < low → range low high b ≡ false
-below low high b lt = and_left _ _ (lt-leb low b lt)
+below low _ b lt = and_left _ _ (lt-leb low b lt)
 
 above : (low high b : ℕ) → high < b → range low high b ≡ false
-above low high b lt = and_right _ _ (lt-leb b high lt)
+above _ high b lt = and_right _ _ (lt-leb b high lt)
 
 -- ---- one byte
 
@@ -145,13 +145,13 @@ pub key_at : (fold : Bool) (line : Text) (k : ℕ) → k < length line → slice
 key_at fold line k lt = get_or-map (key fold) line k 0 0 lt
 
 put_keys : (fold : Bool) (b : ℕ) (ts : List Text) → put_before (key fold b) (map (keys fold) ts) ≡ map (keys fold) (put_before b ts)
-put_keys fold b [] = refl
-put_keys fold b (t ∷ ts) = refl
+put_keys _ b [] = refl
+put_keys _ b (t ∷ ts) = refl
 
 -- lines are compared as the lines of what is compared
 pub lines_of-keys : (fold : Bool) (t : Text) → lines_of (keys fold t) ≡ map (keys fold) (lines_of t)
 unfolding lines_of
-lines_of-keys fold [] = refl
+lines_of-keys _ [] = refl
 lines_of-keys fold (b ∷ t) =
     let rest = lines_of-keys fold t in
     elim (cases_eq b newline) [

@@ -3,8 +3,8 @@ use Rattle.re_strings.proofs.Prelude.{◌≡◌, ◌↔◌, ℕ, ◌+◌, ◌<�
 
 module _ (text line : Text) where
   -- the text stands where the length is its own
-  pub stands_whole : (place n : ℕ) → CommonLength text line place n → OccursAt line text place ↔ (n ≡ length text)
-  stands_whole place n c = (
+  pub stands_whole : {place n : ℕ} → CommonLength text line place n → OccursAt line text place ↔ (n ≡ length text)
+  stands_whole {n = n} c = (
     (λ o.
         let short = c.agrees.short in
         elim (cases_lt n (length text)) [
@@ -20,16 +20,16 @@ module _ (text line : Text) where
   )
 
 -- one more place is put, if the text stands there
-pub one_place_put : (start : ℕ) (text line : Text) (place n : ℕ) → CommonLength text line place n → (i m : ℕ)
+pub one_place_put : (start : ℕ) {text line : Text} {place : ℕ} (n : ℕ) → CommonLength text line place n → (i m : ℕ)
     → ((i < place) × (m < start + (i + length text)) × OccursAt line text i ⊎ (i ≡ place) × (n ≡ length text) × (m < start + (place + n))) ↔ ((i < place + 1) × (m < start + (i + length text)) × OccursAt line text i)
-one_place_put start text line place n c i m = (
+one_place_put start {place = place} n c i m = (
   (λ h. elim h [
     | inl p ↦ let early = p.0 in (omega arith, p.1, p.2)
     | inr q ↦
         let here = q.0 in
         let whole = q.1 in
         let lt = q.2 in
-        (omega arith, omega arith, rw here ((stands_whole _ _ _ n c).1 whole))
+        (omega arith, omega arith, rw here ((stands_whole _ _ c).1 whole))
   ]),
   (λ p.
       let (near, lt, o) = p in
@@ -37,7 +37,7 @@ one_place_put start text line place n c i m = (
         | inl early ↦ inl (early, lt, o)
         | inr late ↦
             let here : i ≡ place = omega arith in
-            let whole = (stands_whole _ _ _ n c).0 (rw here at o) in
+            let whole = (stands_whole _ _ c).0 (rw here at o) in
             inr (here, whole, omega arith)
       ]),
 )

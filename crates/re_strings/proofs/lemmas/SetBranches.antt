@@ -4,7 +4,7 @@ use Rattle.re_strings.proofs.Prelude.{◌≡◌, ℕ, ◌+◌, ◌<◌, ◌≤�
 -- ---- texts
 
 pub begins_take : (w rest : Text) → take (length w) (w ++ rest) ≡ w
-begins_take [] rest = refl
+begins_take [] _ = refl
 begins_take (c ∷ w) rest = rw (begins_take w rest)
 
 -- a text begins with another that is its front
@@ -12,7 +12,7 @@ pub front_is : (w t : Text) → Begins w t → take (length w) t ≡ w
 front_is w t b = cc (b.1, begins_take w b.0)
 
 byte_after : (w : Text) (c : ℕ) (rest : Text) → slice_get (w ++ c ∷ rest) (length w) ≡ Some c
-byte_after [] c rest = refl
+byte_after [] c _ = refl
 byte_after (d ∷ w) c rest = byte_after w c rest
 
 one_group : (w : Text) (c : ℕ) (rest : Text) → w ++ c ∷ [] ++ rest ≡ w ++ c ∷ rest
@@ -160,8 +160,8 @@ module _ (texts : List Text) (br : Branch) (bs : List Branch) (nb : Branch) (sta
   found_still b (m, from, lt, is) = (m, from, (omega (arith, length-append bs (nb ∷ []))), ap (λ (x : Branch). x.byte) (branch_stays bs nb m lt) ∙ is)
 
   -- and the new one
-  pub found_last : (b : ℕ) → start ≤ length bs → nb.byte ≡ b → (m : ℕ) × (start ≤ m) × (m < length (bs ++ nb ∷ [])) × ((branch_at (bs ++ nb ∷ []) m).byte ≡ b)
-  found_last b from is = (length bs, from, (omega (arith, length-append bs (nb ∷ []))), ap (λ (x : Branch). x.byte) (branch_last bs nb _ refl) ∙ is)
+  pub found_last : {b : ℕ} → start ≤ length bs → nb.byte ≡ b → (m : ℕ) × (start ≤ m) × (m < length (bs ++ nb ∷ [])) × ((branch_at (bs ++ nb ∷ []) m).byte ≡ b)
+  found_last from is = (length bs, from, (omega (arith, length-append bs (nb ∷ []))), ap (λ (x : Branch). x.byte) (branch_last bs nb _ refl) ∙ is)
 
 -- the bytes of a run are its own
 pub run_found : (texts : List Text) (depth at end c : ℕ) → slice_get (text_at texts at) depth ≡ Some c
@@ -191,14 +191,14 @@ row_done texts br is bs start at all child covered = record {
 }
 
 -- a list that goes on is no shorter
-pub longer : {A : Type 0} (xs ys more : List A) → xs ≡ ys ++ more → length ys ≤ length xs
-longer xs ys more is = omega (arith, ap length is, length-append ys more)
+pub longer : {A : Type 0} {xs : List A} (ys more : List A) → xs ≡ ys ++ more → length ys ≤ length xs
+longer ys more is = omega (arith, ap length is, length-append ys more)
 
 -- ---- rows
 
 -- a row stays one among more branches
-row_stays : (texts : List Text) (bs more : List Branch) (b d : Branch) (from to : ℕ) → to ≤ length bs → d ≡ b → IsRow texts bs b from to → IsRow texts (bs ++ more) d from to
-row_stays texts bs more b d from to in_bs same row = rw same (record {
+row_stays : (texts : List Text) (bs more : List Branch) {b d : Branch} (from to : ℕ) → to ≤ length bs → d ≡ b → IsRow texts bs b from to → IsRow texts (bs ++ more) d from to
+row_stays texts bs more from to in_bs same row = rw same (record {
   child = λ m low lt. rw (get_or_append_left bs more no_branch m (omega arith)) (row.child m low lt);
   complete = λ c front. let (m, low, lt, is) = row.complete c front in (m, low, lt, ap (λ (x : Branch). x.byte) (get_or_append_left bs more no_branch m (omega arith)) ∙ is);
 })
@@ -207,7 +207,7 @@ row_stays texts bs more b d from to in_bs same row = rw same (record {
 pub rows_more : (texts : List Text) (bs more new : List Branch) (first next : List ℕ) (done : ℕ) → AreRows texts bs first done → done < length bs → new ≡ bs ++ more → All (IsBranch texts) new
     → IsRow texts new (branch_at bs done) (length bs) (length new) → next ≡ first ++ length new ∷ [] → AreRows texts new next (done + 1)
 rows_more texts bs more new first next done a lt is are row added =
-    let long = longer new bs more is in
+    let long = longer bs more is in
     let entries = a.entries in
     let old : (n : ℕ) → n ≤ done → slice_index next n ≡ slice_index first n = λ n le. cc (get_or_append_left first (length new ∷ []) 0 n (omega arith)) in
     let last : slice_index next (done + 1) ≡ length new = cc (get_or_push first (length new) 0 (done + 1) entries) in
@@ -240,7 +240,7 @@ rows_more texts bs more new first next done a lt is are row added =
             let few = a.few in
             let moved =
             subst (λ l. IsRow texts l (branch_at new n) (slice_index first n) (slice_index first (n + 1))) (sym is)
-            (row_stays texts bs more (branch_at bs n) (branch_at new n) (slice_index first n) (slice_index first (n + 1)) within (kept n (omega (arith, early, few))) (a.rows n early)) in
+            (row_stays texts bs more (slice_index first n) (slice_index first (n + 1)) within (kept n (omega (arith, early, few))) (a.rows n early)) in
             rw (old (n + 1) (omega arith))
             (rw (old n (omega arith)) moved)
         | inr at ↦

@@ -5,7 +5,7 @@ use Rattle.re_strings.proofs.lemmas.SetSearch.{read_length, node_length, same_en
 
 -- nothing is put
 pub adds_no_ends : (P : ℕ → ℕ → Type 0) (line : Text) (ends : List ℕ) → length ends ≡ length line → ((i m : ℕ) → i < length line → ¬ P i m) → AddsEnds P line ends ends
-adds_no_ends P line ends size none = (size, λ i m lt. ((λ h. inl h), (λ h. elim h [ inl old ↦ old | inr p ↦ absurd (none i m lt p) ])))
+adds_no_ends P _ _ size none = (size, λ i m lt. ((λ h. inl h), (λ h. elim h [ inl old ↦ old | inr p ↦ absurd (none i m lt p) ])))
 
 -- some are put, then more
 pub adds_more_ends : (P Q R : ℕ → ℕ → Type 0) (line rows : Text) (old mid new : List ℕ) → length rows ≡ length line → AddsEnds P line old mid → AddsEnds Q rows mid new
@@ -27,7 +27,7 @@ adds_more_ends P Q R line rows old mid new size first next all = (
 
 -- the same ends, said otherwise
 pub same_ends_added : (P R : ℕ → ℕ → Type 0) (line : Text) (old new : List ℕ) → AddsEnds P line old new → ((i m : ℕ) → i < length line → P i m ↔ R i m) → AddsEnds R line old new
-same_ends_added P R line old new added same = (
+same_ends_added P R _ _ _ added same = (
   added.0,
   λ i m lt. (
     (λ h. elim ((added.1 i m lt).0 h) [ inl o ↦ inl o | inr p ↦ inr ((same i m lt).0 p) ]),
@@ -56,12 +56,12 @@ module _ (all : Labels) (node : ℕ) where
       ap (drop (length (all.label output) - n)) f.is ∙ drop-drop (length (all.label output) - n) (length (all.label node) - length (all.label output)) (all.label node) ∙ ap (λ k. drop k (all.label node)) place
 
   -- an output is a string
-  output_string : (label : Text) (output : ℕ) → IsOutput all label output → 0 < output → (0 < length (all.label output)) × IsString all.strings (all.label output)
-  output_string label output o inside = (o.some inside, rw o.is (o.ends.ends (o.some inside)))
+  output_string : {label : Text} {output : ℕ} → IsOutput all label output → 0 < output → (0 < length (all.label output)) × IsString all.strings (all.label output)
+  output_string o inside = (o.some inside, rw o.is (o.ends.ends (o.some inside)))
 
   -- the first is the node's own output
-  pub first_output : (output : ℕ) → IsOutput all (all.label node) output → Follows all node output
-  first_output output o = record { low = o.ends.within; is = o.is; some = output_string (all.label node) output o }
+  pub first_output : {output : ℕ} → IsOutput all (all.label node) output → Follows all node output
+  first_output {output} o = record { low = o.ends.within; is = o.is; some = output_string o }
 
   -- no string that the node ends with is longer than that
   pub none_longer : (output end top : ℕ) → IsOutput all (all.label node) output → (i m : ℕ) → ¬ PutsLonger all node end top output i m
@@ -88,7 +88,7 @@ module _ (all : Labels) (node : ℕ) where
           low = omega (arith, shorter, low);
           is = o.is ∙ ap (drop (length (all.label fail) - length (all.label next))) s.is ∙ drop-drop (length (all.label fail) - length (all.label next)) s.start (all.label output)
               ∙ ap (λ k. drop k (all.label output)) place ∙ end_of_output output (length (all.label next)) f (omega (arith, shorter));
-          some = output_string (all.label fail) next o;
+          some = output_string o;
         }
 
     -- of the strings that the node ends with none is between them

@@ -107,17 +107,17 @@ module _ (all : Labels) (from : ℕ) (line : Text) (root : all.label 0 ≡ []) (
       elim (cases_lt i place) [
         | inr late ↦ late
         | inl early ↦
-            let own = from_since all from line place node g i j le o in
+            let own = from_since all from line place g i j le o in
             absurd (none_goes_on i j le own.0 early (string_front _ _ o.3))
       ]
 
   -- none begins before a place up to which none begins from here on
   none_over : (next : ℕ) → NoneBegins all.strings line place next → (i j : ℕ) → place ≤ j → i < next → ¬ Occurs all.strings from line i j
-  none_over next none i j le lt o = none.begins i j lt (begins_after i j le o, o.1, o.2, o.3)
+  none_over _ none i j le lt o = none.begins i j lt (begins_after i j le o, o.1, o.2, o.3)
 
   -- the search is at the root there too
-  pub leap_stands : (next : ℕ) → from ≤ place → place ≤ next → next ≤ length line → NoneBegins all.strings line place next → StandsSince all from line next node
-  leap_stands next low le high none = record {
+  pub leap_stands : {next : ℕ} → from ≤ place → place ≤ next → next ≤ length line → NoneBegins all.strings line place next → StandsSince all from line next node
+  leap_stands {next} low le high none = record {
     since = next;
     low = omega arith;
     none = λ i j beyond lt o. none_over next none i j (omega arith) lt o;
@@ -146,8 +146,8 @@ module _ (all : Labels) (from : ℕ) (line : Text) (root : all.label 0 ≡ []) (
 -- ---- making
 
 -- the leaps for strings are those for any list with the same ones
-pub same_leaps : (texts strings : List Text) → HaveSame texts strings → (l : Leaps) → AreLeapsOf texts l → AreLeapsOf strings l
-same_leaps texts strings same l a = record {
+pub same_leaps : (texts strings : List Text) → HaveSame texts strings → {l : Leaps} → AreLeapsOf texts l → AreLeapsOf strings l
+same_leaps _ _ same a = record {
   long = λ s own. a.long s ((same s).1 own);
   right = λ s own j le. a.right s ((same s).1 own) j le;
 }

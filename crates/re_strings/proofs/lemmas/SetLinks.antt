@@ -3,9 +3,9 @@ use Rattle.re_strings.proofs.Prelude.{◌≡◌, ℕ, ◌+◌, ◌-◌, ◌<◌,
 use Rattle.re_strings.proofs.lemmas.SetSteps.{string_front}
 
 -- the longest string that a node ends with: the node if it is one, else that of its fallback
-pub output_is : (all : Labels) (n f own out : ℕ) → StandsFor all.strings (all.label f) (all.label n) 1 → IsOutput all (all.label f) out
+pub output_is : {all : Labels} (n f own out : ℕ) → StandsFor all.strings (all.label f) (all.label n) 1 → IsOutput all (all.label f) out
     → (0 < own → (own ≡ length (all.label n)) × IsString all.strings (all.label n)) → (IsString all.strings (all.label n) → own ≡ length (all.label n)) → IsOutput all (all.label n) (own_or own n out)
-output_is all n f own out s e is_own own_is = go _ refl
+output_is {all} n f own out s e is_own own_is = go _ refl
   where
     label : Text
     label = all.label n
@@ -75,9 +75,9 @@ own_or_within own node out le = go (nat_lt 0 own)
     go false = le
 
 -- one more row
-pub linked_more : (fails outputs newf newo : List ℕ) (f e : ℕ) → AreLinked (length fails) fails outputs → 0 < length fails → f < length fails → e ≤ length fails → newf ≡ fails ++ f ∷ [] → newo ≡ outputs ++ e ∷ []
+pub linked_more : {fails outputs newf newo : List ℕ} (f e : ℕ) → AreLinked (length fails) fails outputs → 0 < length fails → f < length fails → e ≤ length fails → newf ≡ fails ++ f ∷ [] → newo ≡ outputs ++ e ∷ []
     → AreLinked (length newf) newf newo
-linked_more fails outputs newf newo f e a some lt le isf iso =
+linked_more {fails} {outputs} {newf} {newo} f e a some lt le isf iso =
     let same = a.all_outputs in
     record {
       fallbacks = λ n inside below.
@@ -100,11 +100,11 @@ linked_more fails outputs newf newo f e a some lt le isf iso =
       all_outputs = omega (arith, same, ap length isf, ap length iso, length-append fails (f ∷ []), length-append outputs (e ∷ []));
     }
 
-pub linked_right : (all : Labels) (fails outputs newf newo : List ℕ) (f own : ℕ) → AreLinked (length fails) fails outputs → newf ≡ fails ++ f ∷ [] → newo ≡ outputs ++ own_or own (length fails) (slice_index outputs f) ∷ [] → f < length fails
+pub linked_right : {all : Labels} {fails outputs newf newo : List ℕ} (f own : ℕ) → AreLinked (length fails) fails outputs → newf ≡ fails ++ f ∷ [] → newo ≡ outputs ++ own_or own (length fails) (slice_index outputs f) ∷ [] → f < length fails
     → StandsFor all.strings (all.label f) (all.label (length fails)) 1
     → (0 < own → (own ≡ length (all.label (length fails))) × IsString all.strings (all.label (length fails))) → (IsString all.strings (all.label (length fails)) → own ≡ length (all.label (length fails)))
     → AreLinkedFor all fails outputs → AreLinkedFor all newf newo
-linked_right all fails outputs newf newo f own a isf iso lt s is_own own_is old =
+linked_right {all} {fails} {outputs} f own a isf iso lt s is_own own_is old =
     let same = a.all_outputs in
     record {
       fallbacks = λ n inside below.
@@ -123,14 +123,14 @@ linked_right all fails outputs newf newo f own a isf iso lt s is_own own_is old 
                 let here : length fails ≡ n = omega (arith, at, same) in
                 subst (IsOutput all (all.label n)) (sym (ap (λ l. slice_index l n) iso ∙ get_or_push outputs e 0 n at))
                 (subst (λ k. IsOutput all (all.label k) e) here
-                (output_is all (length fails) f own (slice_index outputs f) s (old.ended f (omega (arith, lt, same))) is_own own_is))
+                (output_is (length fails) f own (slice_index outputs f) s (old.ended f (omega (arith, lt, same))) is_own own_is))
           ];
     }
 
 -- ---- the root alone
 
-pub root_linked : (fails outputs : List ℕ) (count : ℕ) → count ≡ 1 → fails ≡ 0 ∷ [] → outputs ≡ 0 ∷ [] → AreLinked count fails outputs
-root_linked fails outputs count one is_fails is_outputs =
+pub root_linked : (fails outputs : List ℕ) {count : ℕ} → count ≡ 1 → fails ≡ 0 ∷ [] → outputs ≡ 0 ∷ [] → AreLinked count fails outputs
+root_linked fails outputs one is_fails is_outputs =
     let few : length fails ≡ 1 = rw is_fails in
     let same : length outputs ≡ 1 = rw is_outputs in
     record {

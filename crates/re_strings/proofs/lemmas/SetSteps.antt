@@ -3,7 +3,7 @@ use Rattle.re_strings.proofs.Prelude.{◌≡◌, ℕ, ◌+◌, ◌-◌, ◌<◌,
 
 -- what holds of some element
 pub any_map : {A : Type 0} (P Q : A → Type 0) → ((x : A) → P x → Q x) → (xs : List A) → Any P xs → Any Q xs
-any_map P Q f xs h = (h.0, h.1, h.2, h.3, f h.1 h.4)
+any_map P Q f _ h = (h.0, h.1, h.2, h.3, f h.1 h.4)
 
 -- a string that begins with a text begins with each beginning of that
 pub front_shorter : (strings : List Text) (w more : Text) → IsFront strings (w ++ more) → IsFront strings w
@@ -23,8 +23,8 @@ module _ (strings : List Text) (b : ℕ) where
   before j k = search arith
 
   -- no longer end may go on with the byte
-  pub may_at_first : (label w : Text) (from : ℕ) → StandsFor strings label w from → MayStandFor strings label w b from
-  may_at_first label w from s = record {
+  pub may_at_first : {w : Text} (label : Text) (from : ℕ) → StandsFor strings label w from → MayStandFor strings label w b from
+  may_at_first _ _ s = record {
     start = s.start;
     low = s.low;
     high = s.high;
@@ -33,8 +33,8 @@ module _ (strings : List Text) (b : ℕ) where
   }
 
   -- the label goes on with the byte
-  pub goes_on : (label w : Text) (from : ℕ) → MayStandFor strings label w b from → StandsFor strings (label ++ b ∷ []) (w ++ b ∷ []) from
-  goes_on label w from s = record {
+  pub goes_on : {label w : Text} {from : ℕ} → MayStandFor strings label w b from → StandsFor strings (label ++ b ∷ []) (w ++ b ∷ []) from
+  goes_on {w = w} s = record {
     start = s.start;
     low = s.low;
     high = let h = s.high in omega (arith, length-append w (b ∷ []));
@@ -43,8 +43,8 @@ module _ (strings : List Text) (b : ℕ) where
   }
 
   -- the empty label can't go on with it: the end after the byte is left
-  pub nothing_left : (w : Text) (from : ℕ) → MayStandFor strings [] w b from → (IsFront strings (b ∷ []) → ⊥) → StandsFor strings [] (w ++ b ∷ []) from
-  nothing_left w from s none = record {
+  pub nothing_left : (w : Text) {from : ℕ} → MayStandFor strings [] w b from → (IsFront strings (b ∷ []) → ⊥) → StandsFor strings [] (w ++ b ∷ []) from
+  nothing_left w s none = record {
     start = length w + 1;
     low = omega arith;
     high = omega (arith, length-append w (b ∷ []));
@@ -60,8 +60,8 @@ module _ (strings : List Text) (b : ℕ) where
   }
 
   -- the label can't go on with the byte: the next shorter end is tried
-  pub falls_back : (label shorter w : Text) (from : ℕ) → MayStandFor strings label w b from → (IsFront strings (label ++ b ∷ []) → ⊥) → StandsFor strings shorter label 1 → MayStandFor strings shorter w b from
-  falls_back label shorter w from s none f = record {
+  pub falls_back : {label shorter : Text} (w : Text) {from : ℕ} → MayStandFor strings label w b from → (IsFront strings (label ++ b ∷ []) → ⊥) → StandsFor strings shorter label 1 → MayStandFor strings shorter w b from
+  falls_back {label} w s none f = record {
     start = s.start + f.start;
     low = omega arith;
     high = let h = s.high in let g = f.high in omega (arith, ap length s.is, length-drop s.start w);

@@ -31,9 +31,9 @@ module _ (texts strings : List Text) (same : HaveSame texts strings) (bs : List 
   }
 
   -- which nodes are strings
-  own_right : AreAscending texts → (b : Branch) → IsBranch texts b
+  own_right : AreAscending texts → {b : Branch} → IsBranch texts b
       → (0 < own_length texts b → (own_length texts b ≡ length (branch_text texts b)) × IsString strings (branch_text texts b)) × (IsString strings (branch_text texts b) → own_length texts b ≡ length (branch_text texts b))
-  own_right ascends b is = (known (nat_eq (length (text_at texts b.low)) b.depth) refl, λ s. back ((same (branch_text texts b)).1 s))
+  own_right ascends {b} is = (known (nat_eq (length (text_at texts b.low)) b.depth) refl, λ s. back ((same (branch_text texts b)).1 s))
     where
       known : (e : Bool) → nat_eq (length (text_at texts b.low)) b.depth ≡ e → 0 < (if e then b.depth else 0) → ((if e then b.depth else 0) ≡ length (branch_text texts b)) × IsString strings (branch_text texts b)
       known true eq some =
@@ -77,13 +77,13 @@ module _ (texts strings : List Text) (same : HaveSame texts strings) (bs : List 
       → AreOwn (record { strings = strings; label = λ n. branch_text texts (branch_at bs n) }) owns
   owns_right ascends owns size each = λ n lt.
       let in_bs : n < length bs = omega arith in
-      let own = own_right ascends (branch_at bs n) (a.are n no_branch in_bs) in
+      let own = own_right ascends (a.are n no_branch in_bs) in
       rw (each n in_bs) own
 
   pub nodes_right : AreAscending texts → (bytes owns : List ℕ) → length bytes ≡ length bs → ((n : ℕ) → n < length bs → slice_index bytes n ≡ (branch_at bs n).byte)
       → length owns ≡ length bs → ((n : ℕ) → n < length bs → slice_index owns n ≡ own_length texts (branch_at bs n))
       → (label : ℕ → Text) × IsTrieOf (record { strings = strings; label = label }) first bytes × AreOwn (record { strings = strings; label = label }) owns
-  nodes_right ascends bytes owns size named sized own = (
+  nodes_right ascends _ owns size named sized own = (
     (λ n. branch_text texts (branch_at bs n)),
     trie_right _ size named,
     owns_right ascends owns sized own,

@@ -16,8 +16,8 @@ returns-clause-right c = λ strings same.
         fails = linked.fallbacks;
         depths = c.in_ok-depths.ensures.right all trie;
         outputs = λ n lt. linked.ended n (omega arith);
-        leaps = same_leaps _ _ same _ c.in_ok-leaps.ensures.right;
-        fronts = same_leaps _ _ same _ c.in_ok-fronts.ensures.right;
+        leaps = same_leaps _ _ same c.in_ok-leaps.ensures.right;
+        fronts = same_leaps _ _ same c.in_ok-fronts.ensures.right;
       },
     )
 

@@ -36,7 +36,7 @@ runs-preserved-in_ok-add_branch c =
       covered = λ i b from to at_i.
           elim (cases_lt i c.runs.at) [
             | inl early ↦ found_still texts br _ nb _ b (c.runs.invariant.covered i b from early at_i)
-            | inr late ↦ found_last texts br _ nb _ b (longer _ _ _ c.runs.invariant.grown.1)
+            | inr late ↦ found_last texts br _ nb _ (longer _ _ c.runs.invariant.grown.1)
                 (run_found _ _ _ _ _ here same i b late to at_i)
           ];
     })

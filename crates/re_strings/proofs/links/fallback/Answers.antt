@@ -8,7 +8,7 @@ returns-clause-before c =
     let first = c.args.trie.now.first.items in
     let inside : 0 < c.args.node = omega arith in
     let earlier = c.requires.fails c.args.node inside c.requires.within in
-    let up = ascends first c.args.trie.now.bytes.items c.requires.trie (slice_index c.args.fails.now c.args.node) (c.args.node - 1) (omega arith) (omega arith) in
+    let up = ascends c.requires.trie (slice_index c.args.fails.now c.args.node) (c.args.node - 1) (omega arith) (omega arith) in
     let same : c.args.node - 1 + 1 ≡ c.args.node = omega arith in
     let top = rw same at up in
     let near = c.step.ensures.near in
@@ -18,7 +18,7 @@ pub returns-clause-right : goal.returns-clause-right
 returns-clause-right c = λ all t s f.
     let inside : 0 < c.args.node = omega arith in
     c.step.ensures.step all t s f (all.label c.args.node) 1
-    (may_at_first _ _ _ _ 1 (f c.args.node inside c.requires.within))
+    (may_at_first _ _ _ 1 (f c.args.node inside c.requires.within))
 
 pub returns-then-node-eq0-clause-before : goal.returns-then-node-eq0-clause-before
 returns-then-node-eq0-clause-before c =

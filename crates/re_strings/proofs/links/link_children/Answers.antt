@@ -12,7 +12,7 @@ children-preserved c =
     let child : c.len-child.result ≡ length fails = search rules in
     let rows = c.requires.trie.rows in
     let within = c.requires.within in
-    let end_is : slice_index first (c.args.node + 1) ≡ c.index.result.now = row_read first (c.args.node + 1) c.index.result.now (omega arith) c.index.ensures in
+    let end_is : slice_index first (c.args.node + 1) ≡ c.index.result.now = row_read first (c.args.node + 1) (omega arith) c.index.ensures in
     let last : length fails < slice_index first (c.args.node + 1) = omega (arith, c.children-test.true, c.len.ensures) in
     let low = c.children.invariant.low in
     let in_trie = c.requires.trie.within c.args.node c.requires.within in
@@ -20,9 +20,9 @@ children-preserved c =
     let before = c.fallback-fail.ensures.before in
     let fail : c.fallback-fail.result < length fails = omega arith in
     let same = c.children.invariant.linked.all_outputs in
-    let read : c.index-in-children-2.result.now ≡ slice_index outputs c.fallback-fail.result = sym (row_read outputs c.fallback-fail.result c.index-in-children-2.result.now (omega arith) c.index-in-children-2.ensures) in
+    let read : c.index-in-children-2.result.now ≡ slice_index outputs c.fallback-fail.result = sym (row_read outputs c.fallback-fail.result (omega arith) c.index-in-children-2.ensures) in
     let byte : c.index-in-children.result.now ≡ slice_index bytes (length fails) =
-    sym (row_read bytes c.len-child.result c.index-in-children.result.now (omega arith) c.index-in-children.ensures) ∙ ap (slice_index bytes) child in
+    sym (row_read bytes c.len-child.result (omega arith) c.index-in-children.ensures) ∙ ap (slice_index bytes) child in
     let added = c.in_ok-add_link.ensures in
     let end : c.output_of-output.result ≡ own_or (slice_index c.args.owns.now (length fails)) (length fails) (slice_index outputs c.fallback-fail.result) =
     c.output_of-output.ensures ∙ ap (λ n. own_or (slice_index c.args.owns.now n) n c.index-in-children-2.result.now) child ∙ ap (own_or (slice_index c.args.owns.now (length fails)) (length fails)) read in
@@ -32,7 +32,7 @@ children-preserved c =
     record {
       low = omega arith;
       high = omega arith;
-      linked = linked_more fails outputs c.add_link.new.links.fails.items c.add_link.new.links.outputs.items c.fallback-fail.result c.output_of-output.result
+      linked = linked_more c.fallback-fail.result c.output_of-output.result
           c.children.invariant.linked (omega arith) fail (omega arith) added.0 added.1;
       right = λ all t s o old.
           let now = c.children.invariant.right all t s o old in
@@ -40,7 +40,7 @@ children-preserved c =
           let stands : StandsFor all.strings (all.label c.fallback-fail.result) (all.label (length fails)) 1 =
           rw (ap (λ b. all.label c.args.node ++ b ∷ []) byte ∙ sym (t.child c.args.node (length fails) c.requires.within (low, last))) at
           (c.fallback-fail.ensures.right all t s (rw c.deref.ensures.value now.fallbacks)) in
-          linked_right all fails outputs c.add_link.new.links.fails.items c.add_link.new.links.outputs.items c.fallback-fail.result (slice_index c.args.owns.now (length fails))
+          linked_right c.fallback-fail.result (slice_index c.args.owns.now (length fails))
           c.children.invariant.linked added.0 (added.1 ∙ ap (λ e. outputs ++ e ∷ []) end) fail stands owned.0 owned.1 now;
     }
 

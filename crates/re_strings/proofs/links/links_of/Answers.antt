@@ -7,7 +7,7 @@ nodes-init c =
     let fails = c.in_ok-push_number.ensures ∙ ap (λ l. l ++ 0 ∷ []) c.in_ok-fails.ensures.items in
     let outputs = c.in_ok-push_number-2.ensures ∙ ap (λ l. l ++ 0 ∷ []) c.in_ok-outputs.ensures.items in
     record {
-      linked = root_linked _ _ _ c.requires.trie.start fails outputs;
+      linked = root_linked _ _ c.requires.trie.start fails outputs;
       right = λ all t _ _. root_linked_right all _ _ t.root fails outputs;
     }
 

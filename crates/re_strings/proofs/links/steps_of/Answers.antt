@@ -2,9 +2,9 @@ use Rattle.re_strings.proofs.Prelude.{rules, ◌≡◌, ℕ, ◌%◌, ◌*◌, �
 use Rattle.re_strings.proofs.links.steps_of.Goals as goal
 
 -- what holds of all steps so far and of one more
-with_more : (P : ℕ → ℕ → ℕ → Type 0) (old new : List ℕ) (m : ℕ) → new ≡ old ++ m ∷ [] → ((n b : ℕ) → b < 256 → n * 256 + b < length old → P n b (slice_index old (n * 256 + b)))
+with_more : (P : ℕ → ℕ → ℕ → Type 0) {new : List ℕ} (old : List ℕ) (m : ℕ) → new ≡ old ++ m ∷ [] → ((n b : ℕ) → b < 256 → n * 256 + b < length old → P n b (slice_index old (n * 256 + b)))
     → P (length old / 256) (length old % 256) m → (n b : ℕ) → b < 256 → n * 256 + b < length new → P n b (slice_index new (n * 256 + b))
-with_more P old new m is had last n b lt within =
+with_more P old m is had last n b lt within =
     elim (cases_lt (n * 256 + b) (length old)) [
       | inl early ↦ rw (ap (λ l. slice_index l (n * 256 + b)) is ∙ get_or_append_left old (m ∷ []) 0 (n * 256 + b) early) (had n b lt early)
       | inr late ↦
@@ -29,10 +29,10 @@ steps-preserved c =
     record {
       steps = record {
         root = omega (arith, ap length c.in_ok-push_number.ensures, length-append old (next ∷ []));
-        nodes = with_more (λ n b m. m < slice_index first (n + 1)) old new next c.in_ok-push_number.ensures c.steps.invariant.steps.nodes (subst (λ k. next < slice_index first (k / 256 + 1)) at c.step-next.ensures.near);
+        nodes = with_more (λ n b m. m < slice_index first (n + 1)) old next c.in_ok-push_number.ensures c.steps.invariant.steps.nodes (subst (λ k. next < slice_index first (k / 256 + 1)) at c.step-next.ensures.near);
       };
       right = λ all t starts fails.
           let are = c.steps.invariant.right all t starts fails in
-          with_more (StepsOn all) old new next c.in_ok-push_number.ensures are
+          with_more (StepsOn all) old next c.in_ok-push_number.ensures are
           (subst (λ k. StepsOn all (k / 256) (length old % 256) next) at (rw by at ((rw c.deref.ensures.value at c.step-next.ensures.step) all t are fails)));
     }

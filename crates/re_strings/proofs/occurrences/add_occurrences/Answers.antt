@@ -16,7 +16,7 @@ places-preserved c =
       begun = search rules;
       added = adds_more_ends (λ i m. (i < place) × (m < start + (i + length text)) × OccursAt line text i) (λ i m. (i ≡ place) × (n ≡ length text) × (m < start + (place + n))) (λ i m. (i < place + 1) × (m < start + (i + length text)) × OccursAt line text i)
           _ _ _ _ _ had.0 had c.put_whole.ensures
-          (λ i m lt. one_place_put start text line place n c.common_length-length.ensures.right i m);
+          (λ i m lt. one_place_put start n c.common_length-length.ensures.right i m);
     }
 
 pub returns-clause-added : goal.returns-clause-added

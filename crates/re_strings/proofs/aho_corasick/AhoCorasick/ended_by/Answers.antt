@@ -17,12 +17,12 @@ returns-then-index-gt0-clause-ends c = λ all t.
     let outputs = c.args.self.now.outputs.items in
     let node = c.pass-beyond.result.1 in
     let in_rows : node < length outputs = omega arith in
-    let read = row_read outputs node c.index.result.now in_rows c.index.ensures in
+    let read = row_read outputs node in_rows c.index.ensures in
     let stands = c.pass-beyond.ensures.stands all t 0 (omega arith) (c.places.invariant.stands all t) in
     let e = length (all.label (slice_index outputs node)) in (
       (
         c.pass-beyond.result.0 - e,
-        longest_ends_since _ 0 _ _ _ e (omega arith) stands
+        longest_ends_since _ 0 _ (omega arith) stands
             (t.outputs node c.pass-beyond.ensures.in_trie).ends ((t.outputs node c.pass-beyond.ensures.in_trie).some (omega (arith, c.if-index-gt0.true))),
       ),
       λ i j below o. before_here all t i j below o,
@@ -43,7 +43,7 @@ places-preserved c =
     let outputs = c.args.self.now.outputs.items in
     let node = c.pass-beyond.result.1 in
     let in_rows : node < length outputs = omega arith in
-    let read = row_read outputs node c.index.result.now in_rows c.index.ensures in
+    let read = row_read outputs node in_rows c.index.ensures in
     record {
       within = c.pass-beyond.ensures.on.1;
       in_trie = c.pass-beyond.ensures.in_trie;

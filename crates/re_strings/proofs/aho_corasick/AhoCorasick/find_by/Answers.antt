@@ -20,11 +20,11 @@ pub returns-then-begins_before-clause-best : goal.returns-then-begins_before-cla
 returns-then-begins_before-clause-best c = λ all t.
     let size = length-map c.args.line.now (key c.args.self.now.fold) in
     let in_rows : c.pass-beyond.result.1 < length c.args.self.now.depths.items = omega arith in
-    let read = row_read c.args.self.now.depths.items c.pass-beyond.result.1 c.index.result.now in_rows c.index.ensures in
+    let read = row_read c.args.self.now.depths.items c.pass-beyond.result.1 in_rows c.index.ensures in
     let early = c.begins_before.ensures.0 c.if-begins_before.true in
     let stands = c.pass-beyond.ensures.stands all t c.args.from c.places.invariant.after (c.places.invariant.stands all t) in
     rw size at
-    (best_settled _ _ _ _ _ _ _ _
+    (best_settled _ _ _ _ _ _ _
     c.pass-beyond.ensures.on.0 (omega arith) (c.places.invariant.best all t)
     (c.pass-beyond.ensures.between all t c.args.from c.places.invariant.after (c.places.invariant.stands all t)) stands
     (sym read ∙ t.depths c.pass-beyond.result.1 c.pass-beyond.ensures.in_trie)
@@ -40,14 +40,14 @@ places-preserved c =
       in_trie = c.pass-beyond.ensures.in_trie;
       stands = λ all t. c.pass-beyond.ensures.stands all t c.args.from c.places.invariant.after (c.places.invariant.stands all t);
       best = λ all t.
-          best_on all c.args.from (keys c.args.self.now.fold c.args.line.now) c.places.place c.pass-beyond.result.0 c.pass-beyond.result.1 c.ending.result c.places.best c.better-best.result
+          best_on all c.args.from (keys c.args.self.now.fold c.args.line.now) c.places.place c.pass-beyond.result.0 c.places.best
           c.pass-beyond.ensures.on.0 (omega arith) (c.places.invariant.best all t)
           (c.pass-beyond.ensures.between all t c.args.from c.places.invariant.after (c.places.invariant.stands all t))
           (c.pass-beyond.ensures.stands all t c.args.from c.places.invariant.after (c.places.invariant.stands all t))
           (c.ending.ensures all t)
           c.better-best.ensures;
       begun = λ all t.
-          let deep = row_read c.args.self.now.depths.items c.pass-beyond.result.1 c.index.result.now in_depths c.index.ensures in
+          let deep = row_read c.args.self.now.depths.items c.pass-beyond.result.1 in_depths c.index.ensures in
           begun_on all c.args.from (keys c.args.self.now.fold c.args.line.now) t.trie.root c.places.place c.pass-beyond.result.0 c.places.node c.pass-beyond.result.1 c.ending.result
           c.index.result.now c.places.best c.better-best.result
           c.pass-beyond.ensures.on.0 (omega arith) (c.places.invariant.best all t) (c.places.invariant.begun all t) (c.pass-beyond.ensures.begun all t c.args.from)
@@ -68,7 +68,7 @@ returns-then-begins_before-clause-reached c =
     let line = keys c.args.self.now.fold c.args.line.now in
     let size = length-map c.args.line.now (key c.args.self.now.fold) in
     let in_rows : c.pass-beyond.result.1 < length c.args.self.now.depths.items = omega arith in
-    let read = row_read c.args.self.now.depths.items c.pass-beyond.result.1 c.index.result.now in_rows c.index.ensures in
+    let read = row_read c.args.self.now.depths.items c.pass-beyond.result.1 in_rows c.index.ensures in
     let early = c.begins_before.ensures.0 c.if-begins_before.true in
     let low = c.places.invariant.after in
     record {

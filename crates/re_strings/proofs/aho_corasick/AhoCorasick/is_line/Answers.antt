@@ -33,4 +33,4 @@ returns c = λ all t.
     let size = length-map c.args.line.now (key c.args.self.now.fold) in
     let is = c.places.invariant.read all t ∙ all_read line c.places.place (omega arith) in
     rw size at
-    (ends_whole _ _ _ _ (omega arith) is (c.ending.ensures all t))
+    (ends_whole _ _ _ (omega arith) is (c.ending.ensures all t))

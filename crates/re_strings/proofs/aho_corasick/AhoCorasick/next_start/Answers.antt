@@ -10,7 +10,7 @@ returns-clause-stands c = λ all t from low s.
     let within = c.leap.ensures.within.1 in
     let none : NoneBegins all.strings line c.args.place c.leap.result =
     rw c.requires.alike at (c.leap.ensures.none all.strings t.leaps t.fronts) in
-    leap_stands all from line t.trie.root c.args.place c.args.node (omega (arith, c.if-node-gt0.false)) s (omega arith) c.leap.result
+    leap_stands all from line t.trie.root c.args.place c.args.node (omega (arith, c.if-node-gt0.false)) s (omega arith)
     low c.leap.ensures.within.0 (omega arith) none
 
 pub returns-clause-between : goal.returns-clause-between

@@ -9,11 +9,11 @@ outputs-init c =
     let node = c.args.node in
     let in_trie = c.requires.in_trie in
     let rows = c.requires.table.outputs in
-    let read = row_read outputs node c.index.result.now (omega arith) c.index.ensures in
+    let read = row_read outputs node (omega arith) c.index.ensures in
     let below = c.requires.table.below node (omega arith) in
     record {
       in_trie = omega arith;
-      follows = λ all t. first_output all node c.index.result.now (rw read at (t.outputs node in_trie));
+      follows = λ all t. first_output all node (rw read at (t.outputs node in_trie));
       added = λ all t le. adds_no_ends (PutsLonger all node c.args.end c.args.top c.index.result.now) c.args.ends.now c.args.ends.now refl
           (λ i m lt. none_longer all node c.index.result.now c.args.end c.args.top (rw read at (t.outputs node in_trie)) i m);
     }
@@ -32,12 +32,12 @@ outputs-preserved c =
     let in_fails = c.requires.table.fails in
     let in_depths = c.requires.table.depths in
     let in_outputs = c.requires.table.outputs in
-    let back = row_read fails output fail (omega arith) c.index-in-outputs-2.ensures in
+    let back = row_read fails output (omega arith) c.index-in-outputs-2.ensures in
     let before = c.requires.table.fallbacks output inside (omega arith) in
     let fail_in : fail < length c.args.self.now.trie.bytes.items = omega arith in
-    let read = row_read outputs fail next (omega arith) c.index-in-outputs-3.ensures in
+    let read = row_read outputs fail (omega arith) c.index-in-outputs-3.ensures in
     let below = c.requires.table.below fail (omega arith) in
-    let deep = row_read depths output c.index-in-outputs.result.now (omega arith) c.index-in-outputs.ensures in
+    let deep = row_read depths output (omega arith) c.index-in-outputs.ensures in
     record {
       in_trie = omega arith;
       follows = λ all t.

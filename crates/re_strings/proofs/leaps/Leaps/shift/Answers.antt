@@ -8,7 +8,7 @@ pub returns-clause-short : goal.returns-clause-short
 returns-clause-short c =
     let full = c.requires.leaps.full in
     let row : c.row_of.result < 32896 = omega (arith, c.row_of.ensures) in
-    let read = row_read c.args.self.now.shifts.items c.row_of.result c.index.result.now (omega arith) c.index.ensures in
+    let read = row_read c.args.self.now.shifts.items c.row_of.result (omega arith) c.index.ensures in
     let short = c.requires.leaps.short (omega arith) c.row_of.result row in
     omega arith
 
@@ -21,7 +21,7 @@ returns-clause-none c = λ strings a.
     let pair = c.requires.pair in
     let full = c.requires.leaps.full in
     let row : c.row_of.result < 32896 = omega (arith, c.row_of.ensures) in
-    let read = row_read l.shifts.items c.row_of.result c.index.result.now (omega arith) c.index.ensures in
+    let read = row_read l.shifts.items c.row_of.result (omega arith) c.index.ensures in
     let short = c.requires.leaps.short (omega arith) c.row_of.result row in
     let at_first : c.args.at + l.window - 1 - 1 ≡ c.args.at + l.window - 2 = omega arith in
     let first =

@@ -43,7 +43,7 @@ returns-in_err-place-clause-reported c = λ all t. rw c.from_residual.ensures (�
     c.index.ensures ∙ get_or_default_zero c.args.self.now.first.items c.args.node c.index.result.now (omega arith) in
     let j : c.index-2.result.now ≡ slice_index c.args.self.now.first.items (c.args.node + 1) =
     c.index-2.ensures ∙ get_or_default_zero c.args.self.now.first.items (c.args.node + 1) c.index-2.result.now (omega arith) in
-    not_between c.deref.result.now c.index.result.now c.index-2.result.now c.args.byte
+    not_between c.deref.result.now c.index.result.now c.index-2.result.now
     (let o = c.requires.trie.ordered c.args.node c.requires.within in omega (arith, i, j, o))
     (let o = c.requires.trie.within c.args.node c.requires.within in let e = ap length c.deref.ensures.value in omega (arith, j, o, e))
     c.in_err-place.ensures
