@@ -1,6 +1,5 @@
 -- The words of specs and of std that proofs of this crate use, passed on from one place. Declares nothing.
 pub use Rattle.memchr.specs.Find.{Nowhere, OccursAt, Passes, is_byte}
-pub use Rattle.re_meter.specs.Meters.{many_passed}
 pub use Rattle.re_strings.specs.Working.Branches.{AreAscending, AreRows, HaveSame, IsBranch, IsRow, branch_at, branch_text, no_branch, own_length, rank, text_at}
 pub use Rattle.re_strings.specs.Working.FixedSets.{AreFallbacksOf, AreLeapsOf, AreLinked, AreLinkedFor, AreOwn, AreSteps, AreStepsOf, EndsIn, EndsWith, IsFront, IsOutput, IsString, IsTableOf, IsTrie, IsTrieOf, Labels, MayStandFor, NoneBegins, NoneBetween, Occurs, StandsAtNode, StandsFor, StandsSince, StepsOn, better_ending, own_or, pair_row}
 unfoldable pub use Rattle.re_strings.specs.Working.FixedSets.{IsBestOccurrence}

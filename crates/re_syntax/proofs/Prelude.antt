@@ -39,7 +39,7 @@ pub use Rattle.re_trees.specs.Working.Trees.{expression_of, members}
 pub use Rattle.re_trees.specs.declared.class.Class.{Class}
 pub use Rattle.re_trees.specs.declared.class.Class.TheVariants.{Alnum, Alpha, Blank, Cntrl, Digit, Graph, Lower, Print, Punct, Space, Upper, Xdigit}
 pub use Rattle.re_trees.specs.declared.tree.Tree.{Tree}
-pub use Rattle.std.proofs.Common.{Bool, IfErr, IfOk, IsTrue, List, MatchBool, MatchOption, None, OnOk, Option, Some, [], ap, append-nil, append_assoc, arith, below_more, codes, drop, drop-drop, eq-eqb, false, get_or, if◌then◌else◌, inl, inr, is_some, le-leb, leb-true, length, length-append, length-drop, length-take, lt-ltb, ltb-false, ltb-true, map, max, min, nat_eq, nat_le, nat_lt, ne_eqb, not, option_map, refl, rules, slice_get, subst, suc, sym, take, take-append-drop, true, zero, ℕ, ◌&&◌, ◌*◌, ◌++◌, ◌+◌, ◌-◌, ◌<◌, ◌||◌, ◌∙◌, ◌∷◌, ◌≡◌, ◌≢◌, ◌≤◌, ◌⊎◌}
+pub use Rattle.std.proofs.Common.{Bool, IsTrue, List, MatchBool, MatchOption, None, Option, Some, [], ap, append-nil, append_assoc, arith, below_more, codes, drop, drop-drop, eq-eqb, false, get_or, if◌then◌else◌, inl, inr, is_some, le-leb, leb-true, length, length-append, length-drop, length-take, lt-ltb, ltb-false, ltb-true, map, max, min, nat_eq, nat_le, nat_lt, ne_eqb, not, option_map, refl, rules, slice_get, subst, suc, sym, take, take-append-drop, true, zero, ℕ, ◌&&◌, ◌*◌, ◌++◌, ◌+◌, ◌-◌, ◌<◌, ◌||◌, ◌∙◌, ◌∷◌, ◌≡◌, ◌≢◌, ◌≤◌, ◌⊎◌}
 pub use Rattle.std.proofs.Math.Decide.{dec_le, map_dec, ℕ_discrete}
 pub use Rattle.std.proofs.Math.Seq.{drop-length}
 pub use Rattle.std.proofs.lemmas.Bool.{and_from, and_parts, and_right, both_ways, cases_eq, cases_lt, not_from_false, or_cases, or_left, or_parts, or_right}

@@ -6,10 +6,10 @@ inside : (low high b : ℕ) → low ≤ b → b ≤ high → range low high b �
 inside low high b from to = and_from _ _ (le-leb low b from) (le-leb b high to)
 
 below : (low high b : ℕ) → b < low → range low high b ≡ false
-below low high b lt = and_left _ _ (lt-leb low b lt)
+below low _ b lt = and_left _ _ (lt-leb low b lt)
 
 above : (low high b : ℕ) → high < b → range low high b ≡ false
-above low high b lt = and_right _ _ (lt-leb b high lt)
+above _ high b lt = and_right _ _ (lt-leb b high lt)
 
 -- ---- one byte
 
@@ -43,31 +43,31 @@ other_upper : (b : ℕ) → 65 ≤ b → b ≤ 90 → other_case b ≡ b + 32
 other_upper b from to = cond-true _ _ _ (inside 65 90 b from to)
 
 other_lower : (b : ℕ) → 97 ≤ b → b ≤ 122 → other_case b ≡ b - 32
-other_lower b from to = cond-false _ _ _ (above 65 90 b (omega (arith, from))) ∙ cond-true _ _ _ (inside 97 122 b from to)
+other_lower b from to = cond-false _ _ _ (above 65 90 b (omega arith)) ∙ cond-true _ _ _ (inside 97 122 b from to)
 
 other_below : (b : ℕ) → b < 65 → other_case b ≡ b
-other_below b lt = cond-false _ _ _ (below 65 90 b lt) ∙ cond-false _ _ _ (below 97 122 b (omega (arith, lt)))
+other_below b lt = cond-false _ _ _ (below 65 90 b lt) ∙ cond-false _ _ _ (below 97 122 b (omega arith))
 
 other_between : (b : ℕ) → 90 < b → b < 97 → other_case b ≡ b
 other_between b from to = cond-false _ _ _ (above 65 90 b from) ∙ cond-false _ _ _ (below 97 122 b to)
 
 other_above : (b : ℕ) → 122 < b → other_case b ≡ b
-other_above b lt = cond-false _ _ _ (above 65 90 b (omega (arith, lt))) ∙ cond-false _ _ _ (above 97 122 b lt)
+other_above b lt = cond-false _ _ _ (above 65 90 b (omega arith)) ∙ cond-false _ _ _ (above 97 122 b lt)
 
 -- both cases are compared alike
 key_other : (b : ℕ) → key true (other_case b) ≡ key true b
 key_other b =
     elim (cases_lt b 65) [
-      | inl early ↦ ap (key true) (other_below b early)
+      | inl early ↦ rw (other_below b early)
       | inr from ↦ elim (cases_lt 90 b) [
         | inr to ↦ ap (key true) (other_upper b from to) ∙ key_above (b + 32) (omega (arith, from)) ∙ sym (key_upper b from to)
         | inl past ↦ elim (cases_lt b 97) [
-          | inl between ↦ ap (key true) (other_between b past between)
+          | inl between ↦ rw (other_between b past between)
           | inr low ↦ elim (cases_lt 122 b) [
-            | inl late ↦ ap (key true) (other_above b late)
+            | inl late ↦ rw (other_above b late)
             | inr high ↦
-                let back : b - 32 + 32 ≡ b = omega (arith, low) in
-                ap (key true) (other_lower b low high) ∙ key_upper (b - 32) (omega (arith, low)) (omega (arith, high)) ∙ back ∙ sym (key_above b past)
+                let back : b - 32 + 32 ≡ b = omega arith in
+                ap (key true) (other_lower b low high) ∙ key_upper (b - 32) (omega arith) (omega arith) ∙ back ∙ sym (key_above b past)
           ]
         ]
       ]
@@ -78,14 +78,14 @@ same_but_case : (b c : ℕ) → key true c ≡ key true b → (c ≡ b) ⊎ (oth
 same_but_case b c same =
     elim (key_cases c) [
       | inl (from, to, up) ↦ elim (key_cases b) [
-        | inl (low, high, is) ↦ let e : c ≡ b = omega (arith, same, up, is) in inl e
+        | inl (low, high, is) ↦ let e : c ≡ b = omega arith in inl e
         | inr (out, is) ↦ inr (other_upper c from to ∙ sym up ∙ same ∙ is)
       ]
       | inr (out, here) ↦ elim (key_cases b) [
         | inl (low, high, is) ↦
-            let at : c ≡ b + 32 = sym here ∙ same ∙ is in
-            let back : c - 32 ≡ b = omega (arith, at) in
-            inr (other_lower c (omega (arith, at, low)) (omega (arith, at, high)) ∙ back)
+            let at = sym here ∙ same ∙ is in
+            let back : c - 32 ≡ b = omega arith in
+            inr (other_lower c (omega arith) (omega arith) ∙ back)
         | inr (away, is) ↦ inl (sym here ∙ same ∙ is)
       ]
     ]
@@ -95,11 +95,11 @@ pub closed_byte : (b c : ℕ) → IsTrue (closed (only b) c) ↔ IsTrue (only (k
 closed_byte b c = ((λ h. forward (or_cases (nat_eq c b) (nat_eq (other_case c) b) h)), (λ h. back (same_but_case b c (eqb-true (key true c) (key true b) h))))
   where
     forward : (nat_eq c b ≡ true) ⊎ (nat_eq (other_case c) b ≡ true) → IsTrue (only (key true b) (key true c))
-    forward (inl h) = eq-eqb _ _ (ap (key true) (eqb-true c b h))
-    forward (inr h) = eq-eqb _ _ (sym (key_other c) ∙ ap (key true) (eqb-true (other_case c) b h))
+    forward (inl h) = eq-eqb _ _ (rw (eqb-true c b h))
+    forward (inr h) = eq-eqb _ _ (cc (key_other c, eqb-true (other_case c) b h))
 
     back : (c ≡ b) ⊎ (other_case c ≡ b) → IsTrue (closed (only b) c)
-    back (inl e) = ap (λ x. x || nat_eq (other_case c) b) (eq-eqb c b e)
+    back (inl e) = rw (eq-eqb c b e)
     back (inr e) = either (nat_eq c b) (eq-eqb (other_case c) b e)
       where
         either : (x : Bool) {y : Bool} → y ≡ true → (x || y) ≡ true
@@ -112,25 +112,25 @@ key_lower b =
     elim (cases_lt b 65) [
       | inl early ↦ cond-true _ _ _ (lt-ltb b 65 early) ∙ sym (key_below b early)
       | inr from ↦ elim (cases_lt b 91) [
-        | inl to ↦ cond-false _ _ _ (le-ltb b 65 from) ∙ cond-true _ _ _ (lt-ltb b 91 to) ∙ sym (key_upper b from (omega (arith, to)))
-        | inr late ↦ cond-false _ _ _ (le-ltb b 65 from) ∙ cond-false _ _ _ (le-ltb b 91 late) ∙ sym (key_above b (omega (arith, late)))
+        | inl to ↦ cond-false _ _ _ (le-ltb b 65 from) ∙ cond-true _ _ _ (lt-ltb b 91 to) ∙ sym (key_upper b from (omega arith))
+        | inr late ↦ cond-false _ _ _ (le-ltb b 65 from) ∙ cond-false _ _ _ (le-ltb b 91 late) ∙ sym (key_above b (omega arith))
       ]
     ]
 
 -- a newline is no letter
 pub key_newline : (fold : Bool) (b : ℕ) → nat_eq (key fold b) newline ≡ nat_eq b newline
-key_newline false b = ap (λ n. nat_eq n newline) (key_plain b)
+key_newline false b = rw (key_plain b)
 key_newline true b =
     elim (key_cases b) [
-      | inl (from, to, up) ↦ ne_eqb _ _ (λ e. omega (arith, e, up, from)) ∙ sym (ne_eqb _ _ (λ e. omega (arith, e, from)))
-      | inr (out, same) ↦ ap (λ n. nat_eq n newline) same
+      | inl (from, to, up) ↦ ne_eqb _ _ (λ e. omega arith) ∙ sym (ne_eqb _ _ (λ e. omega arith))
+      | inr (out, same) ↦ rw same
     ]
 
 -- ---- texts
 
 pub keys_plain : (t : Text) → keys false t ≡ t
 keys_plain [] = refl
-keys_plain (b ∷ t) = ap (λ x. x ∷ keys false t) (key_plain b) ∙ ap (λ s. b ∷ s) (keys_plain t)
+keys_plain (b ∷ t) = cc (key_plain b, keys_plain t)
 
 all_plain : (texts : List Text) → map (keys false) texts ≡ texts
 all_plain [] = refl
@@ -138,20 +138,20 @@ all_plain (t ∷ texts) = ap (λ x. x ∷ map (keys false) texts) (keys_plain t)
 
 keys_lower : (t : Text) → map to_ascii_lowercase t ≡ keys true t
 keys_lower [] = refl
-keys_lower (b ∷ t) = ap (λ x. x ∷ map to_ascii_lowercase t) (key_lower b) ∙ ap (λ s. key true b ∷ s) (keys_lower t)
+keys_lower (b ∷ t) = cc (key_lower b, keys_lower t)
 
 -- the byte at a place
 pub key_at : (fold : Bool) (line : Text) (k : ℕ) → k < length line → slice_index (keys fold line) k ≡ key fold (slice_index line k)
 key_at fold line k lt = get_or-map (key fold) line k 0 0 lt
 
 put_keys : (fold : Bool) (b : ℕ) (ts : List Text) → put_before (key fold b) (map (keys fold) ts) ≡ map (keys fold) (put_before b ts)
-put_keys fold b [] = refl
-put_keys fold b (t ∷ ts) = refl
+put_keys _ b [] = refl
+put_keys _ b (t ∷ ts) = refl
 
 -- lines are compared as the lines of what is compared
 pub lines_of-keys : (fold : Bool) (t : Text) → lines_of (keys fold t) ≡ map (keys fold) (lines_of t)
 unfolding lines_of
-lines_of-keys fold [] = refl
+lines_of-keys _ [] = refl
 lines_of-keys fold (b ∷ t) =
     let rest = lines_of-keys fold t in
     elim (cases_eq b newline) [
@@ -164,7 +164,7 @@ lines_of-keys fold (b ∷ t) =
     ]
 
 pub lines_lowered : (t lowered : Text) → lowered ≡ map to_ascii_lowercase t → lines_of lowered ≡ map (keys true) (lines_of t)
-lines_lowered t lowered is = ap lines_of (is ∙ keys_lower t) ∙ lines_of-keys true t
+lines_lowered t lowered is = cc (is ∙ keys_lower t, lines_of-keys true t)
 
 pub lines_plain : (t : Text) → lines_of t ≡ map (keys false) (lines_of t)
-lines_plain t = sym (all_plain (lines_of t))
+lines_plain t = sym (all_plain _)

@@ -15,9 +15,9 @@ comes_chain : (s t u : Text) → Comes s t → Comes t u → Comes s u
 comes_chain [] t u a b = tt
 comes_chain (x ∷ s) [] u a b = absurd a
 comes_chain (x ∷ s) (y ∷ t) [] a b = absurd b
-comes_chain (x ∷ s) (y ∷ t) (z ∷ u) (inl a) (inl b) = inl (omega (arith, a, b))
-comes_chain (x ∷ s) (y ∷ t) (z ∷ u) (inl a) (inr b) = let e = b.0 in inl (omega (arith, a, e))
-comes_chain (x ∷ s) (y ∷ t) (z ∷ u) (inr a) (inl b) = let e = a.0 in inl (omega (arith, e, b))
+comes_chain (x ∷ s) (y ∷ t) (z ∷ u) (inl a) (inl b) = inl (omega arith)
+comes_chain (x ∷ s) (y ∷ t) (z ∷ u) (inl a) (inr b) = let e = b.0 in inl (omega arith)
+comes_chain (x ∷ s) (y ∷ t) (z ∷ u) (inr a) (inl b) = let e = a.0 in inl (omega arith)
 comes_chain (x ∷ s) (y ∷ t) (z ∷ u) (inr a) (inr b) = inr (a.0 ∙ b.0, comes_chain s t u a.1 b.1)
 
 -- what a sort says of two neighbours
@@ -35,7 +35,7 @@ not_less (x ∷ s) (y ∷ t) h =
 -- after the same front the first byte is no greater
 after_front : (w r q : Text) → Comes (w ++ r) (w ++ q) → Comes r q
 after_front [] r q c = c
-after_front (x ∷ w) r q (inl lt) = absurd (omega (arith, lt))
+after_front (x ∷ w) r q (inl lt) = absurd (omega arith)
 after_front (x ∷ w) r q (inr same) = after_front w r q same.1
 
 byte_at : (w r : Text) → slice_get (w ++ r) (length w) ≡ slice_get r 0
@@ -45,19 +45,19 @@ byte_at (x ∷ w) r = byte_at w r
 first_byte : (r q : Text) → Comes r q → rank (slice_get r 0) ≤ rank (slice_get q 0)
 first_byte [] q c = omega arith
 first_byte (x ∷ r) [] c = absurd c
-first_byte (x ∷ r) (y ∷ q) (inl lt) = omega (arith, lt)
-first_byte (x ∷ r) (y ∷ q) (inr same) = let e = same.0 in omega (arith, e)
+first_byte (x ∷ r) (y ∷ q) (inl lt) = omega arith
+first_byte (x ∷ r) (y ∷ q) (inr same) = omega arith
 
 ranked : (w s t : Text) → Comes s t → Begins w s → Begins w t → rank (slice_get s (length w)) ≤ rank (slice_get t (length w))
 ranked w s t c (r, a) (q, b) =
-    let beyond = first_byte r q (after_front w r q (subst (Comes (w ++ r)) b (subst (λ x. Comes x t) a c))) in
-    let left : rank (slice_get s (length w)) ≡ rank (slice_get r 0) = ap rank (ap (λ x. slice_get x (length w)) a ∙ byte_at w r) in
-    let right : rank (slice_get t (length w)) ≡ rank (slice_get q 0) = ap rank (ap (λ x. slice_get x (length w)) b ∙ byte_at w q) in
-    omega (arith, beyond, left, right)
+    let beyond = first_byte r q (after_front w r q (rw b at (rw a at c))) in
+    let left : rank (slice_get s (length w)) ≡ rank (slice_get r 0) = rw (ap (λ x. slice_get x (length w)) a ∙ byte_at w r) in
+    let right : rank (slice_get t (length w)) ≡ rank (slice_get q 0) = rw (ap (λ x. slice_get x (length w)) b ∙ byte_at w q) in
+    omega arith
 
 -- from neighbours to any two
 chain : (texts : List Text) → ((k : ℕ) → k + 1 < length texts → Comes (text_at texts k) (text_at texts (k + 1))) → (i more : ℕ) → i + more < length texts → Comes (text_at texts i) (text_at texts (i + more))
-chain texts near i zero lt = let same : i + zero ≡ i = omega arith in subst (λ n. Comes (text_at texts i) (text_at texts n)) (sym same) (comes_self (text_at texts i))
+chain texts near i zero lt = let same : i + zero ≡ i = omega arith in rw same (comes_self _)
 chain texts near i (suc more) lt =
     let same : i + more + 1 ≡ i + suc more = omega arith in
     subst (λ n. Comes (text_at texts i) (text_at texts n)) same
@@ -66,24 +66,24 @@ chain texts near i (suc more) lt =
 module _ {X : Type 0} (v : X → Text) where
   neighbours : (xs : List X) → ((k : ℕ) (d : X) → 0 ≤ k → k + 1 < length xs → is_lt (slice_cmp nat_cmp (v (get_or xs (k + 1) d)) (v (get_or xs k d))) ≡ false)
       → (k : ℕ) → k + 1 < length xs → Comes (text_at (map v xs) k) (text_at (map v xs) (k + 1))
-  neighbours [] sorted k lt = absurd (omega (arith, lt))
+  neighbours [] sorted k lt = absurd (omega arith)
   neighbours (x ∷ xs) sorted k lt =
-      let here : text_at (map v (x ∷ xs)) k ≡ v (get_or (x ∷ xs) k x) = get_or-map v (x ∷ xs) k x [] (omega (arith, lt)) in
-      let next : text_at (map v (x ∷ xs)) (k + 1) ≡ v (get_or (x ∷ xs) (k + 1) x) = get_or-map v (x ∷ xs) (k + 1) x [] lt in
-      subst (λ s. Comes s (text_at (map v (x ∷ xs)) (k + 1))) (sym here) (subst (Comes (v (get_or (x ∷ xs) k x))) (sym next)
-      (not_less (v (get_or (x ∷ xs) k x)) (v (get_or (x ∷ xs) (k + 1) x)) (sorted k x (omega arith) lt)))
+      let here = get_or-map v (x ∷ xs) k x [] (omega arith) in
+      let next = get_or-map v (x ∷ xs) (k + 1) x [] lt in
+      rw here (rw next
+      (not_less _ _ (sorted k x (omega arith) lt)))
 
   -- a sorted list ascends
   pub sorted_ascends : (xs : List X) → ((k : ℕ) (d : X) → 0 ≤ k → k + 1 < length xs → is_lt (slice_cmp nat_cmp (v (get_or xs (k + 1) d)) (v (get_or xs k d))) ≡ false) → AreAscending (map v xs)
   sorted_ascends xs sorted w i j le lt a b =
-      let place : i + (j - i) ≡ j = omega (arith, le) in
+      let place : i + (j - i) ≡ j = omega arith in
       let near = λ (k : ℕ) (h : k + 1 < length (map v xs)). neighbours xs sorted k (omega (arith, h, length-map xs v)) in
       ranked w (text_at (map v xs) i) (text_at (map v xs) j) (subst (λ n. Comes (text_at (map v xs) i) (text_at (map v xs) n)) place (chain (map v xs) near i (j - i) (omega (arith, place, lt)))) a b
 
   -- a permutation has the same strings
   pub same_strings : (xs ys : List X) (texts : List Text) → IsPermutation xs ys → map v xs ≡ texts → HaveSame (map v ys) texts
   same_strings xs ys texts p is =
-      let moved : IsPermutation texts (map v ys) = subst (λ l. IsPermutation l (map v ys)) is (IsPermutation-map v xs ys p) in
+      let moved = rw is at (IsPermutation-map v xs ys p) in
       λ w. (
         (λ s. string_of texts w (Contains-permutation (map v ys) texts w (IsPermutation-sym texts (map v ys) moved) (contained (map v ys) w s))),
         (λ s. string_of (map v ys) w (Contains-permutation texts (map v ys) w moved (contained texts w s))),

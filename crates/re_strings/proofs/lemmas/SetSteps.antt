@@ -3,7 +3,7 @@ use Rattle.re_strings.proofs.Prelude.{◌≡◌, ℕ, ◌+◌, ◌-◌, ◌<◌,
 
 -- what holds of some element
 pub any_map : {A : Type 0} (P Q : A → Type 0) → ((x : A) → P x → Q x) → (xs : List A) → Any P xs → Any Q xs
-any_map P Q f xs h = (h.0, h.1, h.2, h.3, f h.1 h.4)
+any_map P Q f _ h = (h.0, h.1, h.2, h.3, f h.1 h.4)
 
 -- a string that begins with a text begins with each beginning of that
 pub front_shorter : (strings : List Text) (w more : Text) → IsFront strings (w ++ more) → IsFront strings w
@@ -23,54 +23,54 @@ module _ (strings : List Text) (b : ℕ) where
   before j k = search arith
 
   -- no longer end may go on with the byte
-  pub may_at_first : (label w : Text) (from : ℕ) → StandsFor strings label w from → MayStandFor strings label w b from
-  may_at_first label w from s = record {
+  pub may_at_first : {w : Text} (label : Text) (from : ℕ) → StandsFor strings label w from → MayStandFor strings label w b from
+  may_at_first _ _ s = record {
     start = s.start;
     low = s.low;
     high = s.high;
     is = s.is;
-    none = λ j low lt front. s.none j low lt (front_shorter strings (drop j w) (b ∷ []) front);
+    none = λ j low lt front. s.none j low lt (front_shorter _ _ _ front);
   }
 
   -- the label goes on with the byte
-  pub goes_on : (label w : Text) (from : ℕ) → MayStandFor strings label w b from → StandsFor strings (label ++ b ∷ []) (w ++ b ∷ []) from
-  goes_on label w from s = record {
+  pub goes_on : {label w : Text} {from : ℕ} → MayStandFor strings label w b from → StandsFor strings (label ++ b ∷ []) (w ++ b ∷ []) from
+  goes_on {w = w} s = record {
     start = s.start;
     low = s.low;
-    high = let h = s.high in omega (arith, length-append w (b ∷ []), h);
-    is = ap (λ t. t ++ b ∷ []) s.is ∙ sym (drop-append-le s.start w (b ∷ []) s.high);
-    none = λ j low lt front. s.none j low lt (subst (IsFront strings) (drop-append-le j w (b ∷ []) (let h = s.high in omega (arith, h))) front);
+    high = let h = s.high in omega (arith, length-append w (b ∷ []));
+    is = cc (s.is, drop-append-le s.start w (b ∷ []) s.high);
+    none = λ j low lt front. s.none j low lt (rw (drop-append-le j w (b ∷ []) (omega arith)) at front);
   }
 
   -- the empty label can't go on with it: the end after the byte is left
-  pub nothing_left : (w : Text) (from : ℕ) → MayStandFor strings [] w b from → (IsFront strings (b ∷ []) → ⊥) → StandsFor strings [] (w ++ b ∷ []) from
-  nothing_left w from s none = record {
+  pub nothing_left : (w : Text) {from : ℕ} → MayStandFor strings [] w b from → (IsFront strings (b ∷ []) → ⊥) → StandsFor strings [] (w ++ b ∷ []) from
+  nothing_left w s none = record {
     start = length w + 1;
-    low = let l = s.low in let h = s.high in omega (arith, l, h);
+    low = omega arith;
     high = omega (arith, length-append w (b ∷ []));
     is = sym (drop_of_length-le (w ++ b ∷ []) (omega (arith, length-append w (b ∷ []))));
     none = λ j low lt front.
         let near : j ≤ length w = omega arith in
-        let open_front : IsFront strings (drop j w ++ b ∷ []) = subst (IsFront strings) (drop-append-le j w (b ∷ []) near) front in
-        let start : s.start ≡ length w = empty_end w s.start s.high s.is in
-        elim (before j s.start) [
+        let open_front = rw (drop-append-le j w (b ∷ []) near) at front in
+        let start = empty_end w s.start s.high s.is in
+        elim (before j _) [
           | inl early ↦ s.none j low early open_front
-          | inr late ↦ none (subst (λ t. IsFront strings (t ++ b ∷ [])) (drop_of_length-le w (let l : length w ≤ j = omega (arith, start, late) in l)) open_front)
+          | inr late ↦ none (rw (drop_of_length-le w (let l : length w ≤ j = omega arith in l)) at open_front)
         ];
   }
 
   -- the label can't go on with the byte: the next shorter end is tried
-  pub falls_back : (label shorter w : Text) (from : ℕ) → MayStandFor strings label w b from → (IsFront strings (label ++ b ∷ []) → ⊥) → StandsFor strings shorter label 1 → MayStandFor strings shorter w b from
-  falls_back label shorter w from s none f = record {
+  pub falls_back : {label shorter : Text} (w : Text) {from : ℕ} → MayStandFor strings label w b from → (IsFront strings (label ++ b ∷ []) → ⊥) → StandsFor strings shorter label 1 → MayStandFor strings shorter w b from
+  falls_back {label} w s none f = record {
     start = s.start + f.start;
-    low = let l = s.low in omega (arith, l);
-    high = let h = s.high in let g = f.high in omega (arith, h, g, ap length s.is, length-drop s.start w);
+    low = omega arith;
+    high = let h = s.high in let g = f.high in omega (arith, ap length s.is, length-drop s.start w);
     is = f.is ∙ ap (drop f.start) s.is ∙ drop-drop f.start s.start w;
     none = λ j low lt front.
         elim (before j s.start) [
           | inl early ↦ s.none j low early front
           | inr late ↦
-              let place : s.start + (j - s.start) ≡ j = omega (arith, late) in
+              let place : s.start + (j - s.start) ≡ j = omega arith in
               let end : drop (j - s.start) label ≡ drop j w = ap (drop (j - s.start)) s.is ∙ drop-drop (j - s.start) s.start w ∙ ap (λ n. drop n w) place in
               let own : IsFront strings (drop (j - s.start) label ++ b ∷ []) = subst (λ t. IsFront strings (t ++ b ∷ [])) (sym end) front in
               elim (before 0 (j - s.start)) [

@@ -58,10 +58,10 @@ ended a (item i is) = absurd (item_apart i a)
 
 part_first : {p : ItemPlace} {h k : ℕ} {t u v : Text} {e : Expression} {es : List Expression} → IsPart p h t u e → Items Later k u v es → Items p (max h k) t v (e ∷ es)
 part_first (an_item i) is = item i is
-part_first {p} {k = k} {v = v} {es = es} (an_end {u = u} a) is = subst (λ n. Items p n (codes "$" ++ u) v (end ∷ es)) (omega arith) (ended a is)
+part_first {p = p} {v = v} {es = es} (an_end {u = u} a) is = subst (λ n. Items p n (codes "$" ++ u) v (end ∷ es)) (omega arith) (ended a is)
 
 part_repeated : {g : Bool} {p : ItemPlace} {h : ℕ} {t u v : Text} {e : Expression} {least : ℕ} {most : Option ℕ} → IsPart p h t u e → BasicToken g Later u v (times least most) → IsPart p (suc h) t v (repeat e least most)
-part_repeated {p = p} {h} {t} {e = e} (an_item i) x = let (q, d, dup, f) = says x in an_item (repeated (subst (λ s. Item p h t s e) f i) dup)
+part_repeated (an_item i) x = let (q, d, dup, f) = says x in an_item (repeated (rw f at i) dup)
 part_repeated (an_end a) x = absurd (at_end x a refl)
 
 grammar : IsGrammar Basic (λ g. Branches) (λ g. Items) (λ g. IsPart)
@@ -88,13 +88,13 @@ mutual
 
   items_read : {p : ItemPlace} {h : ℕ} {t u : Text} {es : List Expression} → Items p h t u es → {g : Bool} → ItemsRead Basic g p h t u es
   items_read none = no_items
-  items_read (leading is) {g} = anchor_items leads (items_read is)
+  items_read (leading is) = anchor_items leads (items_read is)
   items_read (trailing a) = more_items (token_item (trails a)) no_items
   items_read (item i is) {g} = more_items (item_reads i g) (items_read is)
 
   branches_read : {h : ℕ} {t u : Text} {es : List Expression} → Branches h t u es → {g : Bool} → BranchesRead Basic g h t u es
-  branches_read (last is) {g} = last_branch (items_read is)
-  branches_read (more is bs) {g} = more_branches (items_read is) (λ q. parts) (branches_read bs)
+  branches_read (last is) = last_branch (items_read is)
+  branches_read (more is bs) = more_branches (items_read is) (λ q. parts) (branches_read bs)
 
 pub basic_spells : {t : Text} {e : Expression} → IsSpelled Basic t e → Spells Basic t e
 basic_spells (as_basic bs h) = spells (branches_read bs) h

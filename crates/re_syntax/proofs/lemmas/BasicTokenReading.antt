@@ -62,4 +62,4 @@ single {g} {p} b {u} times tail first k l = go (cases_eq b 46)
     go : (b ≡ 46) ⊎ (b ≡ 46 → ⊥) → BasicToken g p (b ∷ u) u (atom (one_of (meant_bytes b)))
     go (inl e) = rw e period
     go (inr n) = rw (ne_eqb b 46 n)
-        (ordinary b (ordinary_here p b k n l (λ q e. first q (u, ap (λ x. x ∷ u) e)) (λ q e. times.star q (u, ap (λ x. x ∷ u) e))) (λ e. tail.none u (ap (λ x. x ∷ u) e)))
+        (ordinary b (ordinary_here p b k n l (λ q e. first q (u, ap (λ x. x ∷ u) e)) (λ q e. times.star q (u, ap (λ x. x ∷ u) e))) (λ e. tail.none u (rw e)))

@@ -38,7 +38,7 @@ plain_kind : (b : ℕ) (w : Text) (test : ℕ → Bool) {v : Bool} → test b �
 plain_kind b w test {v} n i j k l m o = rw (ne_eqb 40 b (other 40 i), ne_eqb 41 b (other 41 j), ne_eqb 124 b (other 124 k), ne_eqb 123 b (other 123 l), ne_eqb 43 b (other 43 m), ne_eqb 63 b (other 63 o)) refl
   where
     other : (c : ℕ) → test c ≡ v → c ≢ b
-    other c h e = n (ap test (sym e) ∙ h)
+    other c h e = n (cc)
 
 escaped_kind : (b : ℕ) (w : Text) → ¬ IsTrue (is_undefined basic_escaped b) → kind_of (92 ∷ b ∷ w) ≡ 500
 escaped_kind b w h = plain_kind b w (is_undefined basic_escaped) h refl refl refl refl refl refl
@@ -73,7 +73,7 @@ pub never : (p : ItemPlace) {b c : ℕ} {t w : Text} → IsTrue (is_ordinary p b
 never p {b} h k e = let f : is_ordinary p b ≡ false = rw (heads e) at k in cc
 
 ordinary-only : {g : Bool} {p : ItemPlace} {t u w : Text} {k : Token} {b : ℕ} → BasicToken g p t u k → t ≡ b ∷ w → IsTrue (is_ordinary p b) → (b ≡ 36 → ¬ IsAtEnd w) → SameToken k (atom (byte b)) u w
-ordinary-only (ordinary c x m) e h n = record { tokens = ap (λ y. atom (byte y)) (heads e); rests = tails e }
+ordinary-only (ordinary c x m) e h n = record { tokens = rw (heads e); rests = tails e }
 ordinary-only {p = p} opens e h n = absurd (never p h refl e)
 ordinary-only {p = p} closes e h n = absurd (never p h refl e)
 ordinary-only {p = p} parts e h n = absurd (never p h refl e)
@@ -132,9 +132,9 @@ token-unique parts parts e = record { tokens = refl; rests = tails (tails e) }
 token-unique leads leads e = record { tokens = refl; rests = tails e }
 token-unique (trails a) (trails b) e = record { tokens = refl; rests = tails e }
 token-unique (repeats {u = u} d) (repeats {u = v} c) e = dup-unique d c e
-token-unique (bracket h) (bracket k) e = let same = IsBracket-unique h k e in record { tokens = ap atom same.expressions; rests = same.rests }
+token-unique (bracket h) (bracket k) e = let same = IsBracket-unique h k e in record { tokens = rw same.expressions; rests = same.rests }
 token-unique period period e = record { tokens = refl; rests = tails e }
-token-unique (escaped b h) (escaped c k) e = record { tokens = ap (λ x. atom (byte x)) (heads (tails e)); rests = tails (tails e) }
+token-unique (escaped b h) (escaped c k) e = record { tokens = rw (heads (tails e)); rests = tails (tails e) }
 token-unique x y e = absurd (apart (sym (token_kind x).1 ∙ ap kind_of e ∙ (token_kind y).1) refl)
 
 fault-unique : {g : Bool} {p : ItemPlace} {t s u v : Text} {j k : FaultKind} → BasicTokenFault g p t j u → BasicTokenFault g p s k v → t ≡ s → SameFault j k u v

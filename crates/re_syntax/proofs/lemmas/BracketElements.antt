@@ -1,5 +1,5 @@
 -- Which element is where a point is, and where there is none.
-use Rattle.re_syntax.proofs.Prelude.{◌≡◌, ◌≢◌, ℕ, ◌≤◌, ◌⊎◌, inl, inr, ◌∷◌, ◌++◌, codes, refl, ap, ◌∙◌, subst, ListPlace, AfterPoint, AfterRange, Text, Begins, only, range, Point, bare, Element, alone, span, MayGoOn}
+use Rattle.re_syntax.proofs.Prelude.{◌≡◌, ◌≢◌, ℕ, ◌≤◌, ◌⊎◌, inl, inr, ◌∷◌, ◌++◌, codes, refl, ap, ◌∙◌, ListPlace, AfterPoint, AfterRange, Text, Begins, only, range, Point, bare, Element, alone, span, MayGoOn}
 use Rattle.re_syntax.specs.declared.bracket.ListPlace.TheVariants.{First}
 use Rattle.re_syntax.proofs.lemmas.BracketsUnique.{apart, point-unique}
 
@@ -14,7 +14,7 @@ alone_stands {p} {t} {v} on x f = alone x (record { bracket = on.bracket; hyphen
 -- a point, a hyphen that is not the last and a point that is not below the first are a range
 pub range_stands : {p : ListPlace} {t v u w : Text} {b d : ℕ} → MayGoOn p t → (Begins (codes "-") t → p ≡ First) → Point t v b → v ≡ codes "-" ++ u → ¬ Begins (codes "-]") v →
     Point u w d → b ≤ d → Element p t w (range b d) AfterRange
-range_stands {p} {t = t} {b = b} on first x e never y le = span (subst (λ r. Point t r b) e x) start y (λ (r, f). never (r, e ∙ ap (λ s. 45 ∷ s) f)) le
+range_stands {p} {t = t} {b = b} on first x e never y le = span (rw e at x) start y (λ (r, f). never (r, e ∙ ap (λ s. 45 ∷ s) f)) le
   where
     start : Begins (codes "]") t ⊎ Begins (codes "-") t → p ≡ First
     start (inl h) = on.bracket h

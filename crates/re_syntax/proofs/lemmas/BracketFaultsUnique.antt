@@ -37,9 +37,9 @@ byte-no_fault ended e h = cc
 
 range_fault-unique : {o r t s u v : Text} {a b : ℕ} {j k : FaultKind} → RangeFault o a t j u → RangeFault r b s k v → o ≡ r → a ≡ b → t ≡ s → SameFault j k u v
 range_fault-unique (no_end f) (no_end g) h l e = point_fault-unique f g h e
-range_fault-unique (no_end f) (of_class c) h l e = absurd (class_kind c (sym (ap kind_of e) ∙ point_fault_kind f))
+range_fault-unique (no_end f) (of_class c) h l e = absurd (class_kind c (sym (rw e) ∙ point_fault_kind f))
 range_fault-unique (no_end f) (descends x low) h l e = absurd (point-no_fault x f (sym e))
-range_fault-unique (of_class c) (no_end f) h l e = absurd (class_kind c (ap kind_of e ∙ point_fault_kind f))
+range_fault-unique (of_class c) (no_end f) h l e = absurd (class_kind c (cc (point_fault_kind f)))
 range_fault-unique (descends x low) (no_end f) h l e = absurd (point-no_fault x f e)
 range_fault-unique (of_class c) (of_class d) h l e = record { kinds = refl; places = ap (λ x. 45 ∷ x) e }
 range_fault-unique (of_class c) (descends y low) h l e = record { kinds = refl; places = ap (λ x. 45 ∷ x) e }
@@ -48,9 +48,9 @@ range_fault-unique (descends x low) (descends y low') h l e = record { kinds = r
 
 -- a range's end that is not below its start has none
 range-no_fault : {o t s u v : Text} {a b d : ℕ} {k : FaultKind} → Point t u d → a ≤ d → RangeFault o b s k v → a ≡ b → t ≡ s → ⊥
-range-no_fault x le (no_end f) l e = point-no_fault x f e
-range-no_fault x le (of_class c) l e = class_kind c (sym (ap kind_of e) ∙ point_kind x)
-range-no_fault {a = a} {b = b} {d = d} x le (descends {last = c} y low) l e = let same : d ≡ c = (point-unique x y e).values in absurd (omega arith)
+range-no_fault x _ (no_end f) l e = point-no_fault x f e
+range-no_fault x le (of_class c) l e = class_kind c (sym (rw e) ∙ point_kind x)
+range-no_fault {d = d} x le (descends {last = c} y low) l e = let same : d ≡ c = (point-unique x y e).values in absurd (omega arith)
 
 -- two hyphens that are not first begin no range
 hyphens-no_range : {p : ListPlace} {t w : Text} → (Begins (codes "]") t ⊎ Begins (codes "-") t → p ≡ First) → t ≡ 45 ∷ w → p ≢ First → ⊥

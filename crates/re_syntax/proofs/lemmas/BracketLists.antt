@@ -1,6 +1,6 @@
 -- Reading a list of elements one by one: what was read and what is left are together the whole
 -- list.
-use Rattle.re_syntax.proofs.Prelude.{◌≡◌, ◌≢◌, ℕ, ◌<◌, ◌⊎◌, inl, inr, ◌++◌, codes, length, length-append, refl, sym, subst, arith, ListPlace, AfterPoint, FaultKind, Text, Begins, Bytes, nothing, union, class_name, Expression, Point, bare, symbol, Element, class, equivalence, alone, span, Rest, closing, IsBracket, matching, non_matching, MayGoOn}
+use Rattle.re_syntax.proofs.Prelude.{◌≡◌, ◌≢◌, ℕ, ◌<◌, ◌⊎◌, inl, inr, ◌++◌, codes, length, length-append, refl, sym, arith, ListPlace, AfterPoint, FaultKind, Text, Begins, Bytes, nothing, union, class_name, Expression, Point, bare, symbol, Element, class, equivalence, alone, span, Rest, closing, IsBracket, matching, non_matching, MayGoOn}
 use Rattle.re_syntax.specs.declared.bracket.ListPlace.TheVariants.{First}
 use Rattle.re_syntax.specs.Brackets.{more}
 use Rattle.re_syntax.specs.BracketFaults.{ListFault, later}
@@ -16,7 +16,7 @@ pub record GoesOn (opening t v : Text) (p : ListPlace) (done : Bytes) : Type 0 w
 
 -- a list adds equal bytes
 rest_along : {p : ListPlace} {t u : Text} {x y : Bytes} → x ≡ y → Rest p t u x → Rest p t u y
-rest_along {p} {t} {u} e r = subst (λ s. Rest p t u s) e r
+rest_along e r = rw e at r
 
 -- no place after an element is the first, and after a point a hyphen is the last
 after_element : {p q : ListPlace} {t v : Text} {a : Bytes} → Element p t v a q → (q ≢ First) × (Begins (codes "-") v → (q ≢ AfterPoint) ⊎ Begins (codes "-]") v)
@@ -46,7 +46,7 @@ goes_on-next {done = done} {a = a} g e = record {
 -- the bracket that closes the list was read
 pub goes_on-last : {opening : Text} {p : ListPlace} {t v w : Text} {done : Bytes} → GoesOn opening t v p done → v ≡ codes "]" ++ w → Rest First t w done
 goes_on-last {p} {w = w} {done = done} g e =
-    rest_along (union-nothing done) (g.whole w nothing (subst (λ y. Rest p y w nothing) (sym e) (closing g.not_first)))
+    rest_along (union-nothing done) (g.whole w nothing (rw e (closing g.not_first)))
 
 -- anything may be first in a list
 pub may_begin : (t : Text) → MayGoOn First t

@@ -1,5 +1,5 @@
 -- A bracket expression is read in one way, whatever follows it.
-use Rattle.re_syntax.proofs.Prelude.{◌≡◌, ◌≢◌, ℕ, ◌⊎◌, inl, inr, cases_eq, ne_eqb, if◌then◌else◌, true, false, nat_eq, [], ◌∷◌, ◌++◌, codes, refl, sym, ap, ◌∙◌, eq-eqb, ListPlace, Text, Begins, Bytes, only, range, in_class, Expression, one_of, none_of, Point, OpensNamed, bare, symbol, MayBeAlone, Element, class, equivalence, alone, span, Rest, closing, IsBracket, matching, non_matching, BeginsWithOneBracket}
+use Rattle.re_syntax.proofs.Prelude.{◌≡◌, ◌≢◌, ℕ, ◌⊎◌, inl, inr, cases_eq, ne_eqb, if◌then◌else◌, true, false, nat_eq, [], ◌∷◌, ◌++◌, codes, refl, sym, ap, ◌∙◌, eq-eqb, ListPlace, Text, Begins, Bytes, Expression, Point, OpensNamed, bare, symbol, MayBeAlone, Element, class, equivalence, alone, span, Rest, closing, IsBracket, matching, non_matching, BeginsWithOneBracket}
 use Rattle.re_syntax.specs.declared.bracket.ListPlace.TheVariants.{First}
 use Rattle.re_syntax.specs.Brackets.{more}
 use Rattle.re_trees.proofs.lemmas.UnionsLaws.{both_unions}
@@ -70,16 +70,16 @@ alone_span x may y open' e =
 pub element-unique : {p q r : ListPlace} {t s u v : Text} {a b : Bytes} → Element p t u a q → Element p s v b r → t ≡ s → SameElement a b q r u v
 element-unique (class {t = t} c) (class {t = s} d) e =
     let same = class_name-unique c d t s (tails (tails e)) in
-    record { bytes = ap in_class same.classes_same; places = refl; rests = same.rests }
+    record { bytes = rw same.classes_same; places = refl; rests = same.rests }
 element-unique (equivalence b) (equivalence d) e =
-    record { bytes = ap only (heads (tails (tails e))); places = refl; rests = tails (tails (tails (tails (tails e)))) }
-element-unique (alone x may) (alone y may') e = let same = point-unique x y e in record { bytes = ap only same.values; places = refl; rests = same.rests }
+    record { bytes = rw (heads (tails (tails e))); places = refl; rests = tails (tails (tails (tails (tails e)))) }
+element-unique (alone x may) (alone y may') e = let same = point-unique x y e in record { bytes = rw same.values; places = refl; rests = same.rests }
 element-unique (alone x may) (span y start z open' le) e = absurd (alone_span x may y open' e)
 element-unique (span x start y open' le) (alone z may) e = absurd (alone_span z may x open' (sym e))
 element-unique (span {a = a} {b = b} x start y open' le) (span {a = c} {b = d} z start' w open'' le') e =
     let one = point-unique x z e in
     let two = point-unique y w (tails one.rests) in
-    record { bytes = ap (λ k. range k b) one.values ∙ ap (λ k. range c k) two.values; places = refl; rests = two.rests }
+    record { bytes = cc (one.values, two.values); places = refl; rests = two.rests }
 element-unique x y e = absurd (apart (sym (element_kind x).1 ∙ ap kind_of e ∙ (element_kind y).1) refl)
 
 -- the bracket that closes a list is no element
@@ -112,11 +112,11 @@ pub record SameBracket (d e : Expression) (u v : Text) : Type 0 where
 -- at most one bracket expression begins a text
 pub IsBracket-unique : {t s u v : Text} {d e : Expression} → IsBracket t u d → IsBracket s v e → t ≡ s → SameBracket d e u v
 IsBracket-unique (matching plain r) (matching plain' q) e =
-    let same = rest-unique r q refl (tails e) in record { expressions = ap one_of same.bytes; rests = same.rests }
+    let same = rest-unique r q refl (tails e) in record { expressions = rw same.bytes; rests = same.rests }
 IsBracket-unique (matching plain r) (non_matching q) e = absurd (plain (_, tails e))
 IsBracket-unique (non_matching r) (matching plain q) e = absurd (plain (_, sym (tails e)))
 IsBracket-unique (non_matching r) (non_matching q) e =
-    let same = rest-unique r q refl (tails (tails e)) in record { expressions = ap none_of same.bytes; rests = same.rests }
+    let same = rest-unique r q refl (tails (tails e)) in record { expressions = rw same.bytes; rests = same.rests }
 
 -- a bracket expression begins with a bracket
 pub bracket_front : {t u : Text} {e : Expression} → IsBracket t u e → Begins (codes "[") t
@@ -125,4 +125,4 @@ bracket_front (non_matching r) = (_, refl)
 
 -- the law of the definitions
 pub begins_with_one_bracket : (text : Text) → BeginsWithOneBracket text
-begins_with_one_bracket text u v d e x y = let same = IsBracket-unique x y refl in (same.rests, same.expressions)
+begins_with_one_bracket _ u v d e x y = let same = IsBracket-unique x y refl in (same.rests, same.expressions)

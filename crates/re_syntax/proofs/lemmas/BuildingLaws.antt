@@ -1,23 +1,22 @@
 -- Levels of trees that are built of tokens.
-use Rattle.re_syntax.proofs.Prelude.{◌≡◌, ℕ, List, [], ◌∷◌, ◌++◌, map, Option, refl, sym, ap, ◌∙◌, subst, Syntax, IsSpelled, Text, Expression, choice, repeat, Tree, expression_of}
+use Rattle.re_syntax.proofs.Prelude.{◌≡◌, ℕ, List, [], ◌∷◌, ◌++◌, map, Option, refl, sym, ap, ◌∙◌, Syntax, IsSpelled, Text, Expression, choice, repeat, Tree, expression_of}
 use Rattle.re_syntax.specs.declared.building.TreeFrame.{TreeFrame}
 use Rattle.re_syntax.specs.declared.building.Building.{Building}
 use Rattle.re_syntax.specs.Tokens.{Token, closing}
 use Rattle.re_syntax.specs.FirstFaults.{IsCut}
-use Rattle.re_syntax.specs.Working.Builds.{Frame, repeat_last, branches_of, with_item, left_group, build_all, nothing_built, FrameMeans, IsFrame, Builds, BuildsOn}
+use Rattle.re_syntax.specs.Working.Builds.{Frame, repeat_last, branches_of, with_item, build_all, nothing_built, FrameMeans, Builds, BuildsOn}
 use Rattle.re_syntax.proofs.lemmas.Built.{repeat-snoc, build-append, build-one}
 use Rattle.re_syntax.proofs.lemmas.TokenLaws.{cut_branches, adds_none}
-use Rattle.re_syntax.specs.Working.Mirrors.{Mirrors}
 use Rattle.re_syntax.proofs.lemmas.Mirrored.{partner, none_mirrors}
 
 -- a group is left
 pub left_means : {old new : Building} (last : TreeFrame) (tree : Tree) → old.outer.items ≡ new.outer.items ++ last ∷ [] → ((l : Frame) → FrameMeans old.level l → expression_of tree ≡ choice (branches_of l)) →
     ((l : Frame) → FrameMeans last l → FrameMeans new.level (with_item (expression_of tree) l)) → BuildsOn closing old new
-left_means {new} last tree e h k = record {
+left_means last tree e h k = record {
   on = λ b m.
       let around = partner m.outer e in
-      let level = subst (λ x. FrameMeans new.level (with_item x around.first)) (h b.level m.level) (k around.first around.is) in
-      subst (λ os. Builds new (left_group b.level os)) (sym around.are) (record { level = level; outer = around.mirrors });
+      let level = rw (h b.level m.level) at (k around.first around.is) in
+      rw around.are (record { level = level; outer = around.mirrors });
 }
 
 -- no group is left where none is open
@@ -25,25 +24,25 @@ pub left_none : (building : Building) → building.outer.items ≡ [] → Builds
 left_none building e = record {
   on = λ b m.
       let none = none_mirrors m.outer e in
-      subst (λ os. Builds building (left_group b.level os)) (sym none) (record { level = m.level; outer = subst (Mirrors IsFrame building.outer.items) none m.outer });
+      rw none (record { level = m.level; outer = rw none at m.outer });
 }
 
 map-snoc : (ts : List Tree) (t : Tree) → map expression_of (ts ++ t ∷ []) ≡ map expression_of ts ++ expression_of t ∷ []
 map-snoc [] t = refl
-map-snoc (x ∷ ts) t = ap (λ xs. expression_of x ∷ xs) (map-snoc ts t)
+map-snoc (x ∷ ts) t = rw (map-snoc ts t)
 
 -- the last item was repeated
 pub repeated_trees : {old : List Tree} (rest new : List Tree) (last : Tree) {x : Expression} (least : ℕ) (most : Option ℕ) → old ≡ rest ++ last ∷ [] → x ≡ repeat (expression_of last) least most →
     map expression_of new ≡ map expression_of rest ++ x ∷ [] → map expression_of new ≡ repeat_last least most (map expression_of old)
 repeated_trees rest new last least most e f h =
-    h ∙ ap (λ y. map expression_of rest ++ y ∷ []) f ∙ sym (repeat-snoc least most (map expression_of rest) (expression_of last)) ∙ ap (repeat_last least most) (sym (map-snoc rest last) ∙ ap (map expression_of) (sym e))
+    h ∙ ap (λ y. map expression_of rest ++ y ∷ []) f ∙ sym (repeat-snoc _ _ _ _) ∙ ap (repeat_last least most) (cc (map-snoc _ _))
 
 -- one token more was built
 pub builds_more : (done : List Token) {k : Token} {old new : Building} → Builds old (build_all done nothing_built) → BuildsOn k old new → Builds new (build_all (done ++ k ∷ []) nothing_built)
-builds_more done {k} {new} m on =
-    subst (Builds new) (sym (build-append done (k ∷ []) nothing_built ∙ build-one k (build_all done nothing_built))) (on.on (build_all done nothing_built) m)
+builds_more done {k} m on =
+    rw (build-append _ _ _ ∙ build-one k (build_all done nothing_built)) (on.on (build_all done nothing_built) m)
 
 -- the text spells what was built of its cut
 pub built_spelled : {syntax : Syntax} {text : Text} {done : List Token} → IsCut syntax text done → IsSpelled syntax text (choice (branches_of (build_all done nothing_built).level))
-built_spelled {syntax} {text} {done} cut =
-    adds_none syntax (record { tokens = done; cut = cut; branches = branches_of (build_all done nothing_built).level; read = cut_branches cut; whole = refl })
+built_spelled {done = done} cut =
+    adds_none _ (record { tokens = done; cut = cut; branches = branches_of (build_all done nothing_built).level; read = cut_branches cut; whole = refl })

@@ -9,8 +9,8 @@ use Rattle.re_syntax.specs.Working.Builds.{Frame, Built, nothing_built, repeat_l
 
 pub build-append : (ks ls : List Token) (b : Built) → build_all (ks ++ ls) b ≡ build_all ls (build_all ks b)
 unfolding build_all
-build-append [] ls b = refl
-build-append (k ∷ ks) ls b = build-append ks ls (build k b)
+build-append [] _ b = refl
+build-append (k ∷ ks) ls b = build-append ks ls _
 
 pub build-one : (k : Token) (b : Built) → build_all (k ∷ []) b ≡ build k b
 unfolding build_all
@@ -18,7 +18,7 @@ build-one k b = refl
 
 build-more : (k : Token) (ks : List Token) (b : Built) → build_all (k ∷ ks) b ≡ build_all ks (build k b)
 unfolding build_all
-build-more k ks b = refl
+build-more k _ b = refl
 
 build-none : (b : Built) → build_all [] b ≡ b
 unfolding build_all
@@ -26,8 +26,8 @@ build-none b = refl
 
 -- the last of some items repeated
 pub repeat-snoc : (least : ℕ) (most : Option ℕ) (es : List Expression) (e : Expression) → repeat_last least most (es ++ e ∷ []) ≡ es ++ repeat e least most ∷ []
-repeat-snoc least most [] e = refl
-repeat-snoc least most (d ∷ []) e = refl
+repeat-snoc _ _ [] e = refl
+repeat-snoc _ _ (d ∷ []) e = refl
 repeat-snoc least most (d ∷ f ∷ es) e = ap (λ xs. d ∷ xs) (repeat-snoc least most (f ∷ es) e)
 
 abbrev built_of : List Expression → List Frame → List Expression → Built
@@ -88,7 +88,7 @@ record Means (ks : List Token) : Type 0 where
 -- one item more in front; an anchor more; one branch more
 item_first : {ls ks : List Token} {e : Expression} {es : List Expression} → Item ls e → Branches ks es → Means (ls ++ ks)
 item_first i (last is) = record { branches = _; read = last (item i is) }
-item_first {ls} i (more {ks} {ls = ms} is bs) = subst Means (append_assoc ls ks (bar ∷ ms)) (record { branches = _; read = more (item i is) bs })
+item_first {ls} i (more {ks} {ls = ms} is bs) = rw (← (append_assoc ls ks (bar ∷ ms))) (record { branches = _; read = more (item i is) bs })
 
 anchor_first : {ks : List Token} {es : List Expression} → Branches ks es → Means (lead ∷ ks)
 anchor_first (last is) = record { branches = _; read = last (anchor is) }
@@ -112,7 +112,7 @@ MeansIn (suc n) p ks = (inside : List Token) × (others : List Token) × (ks ≡
 
 -- some tokens more in front
 more_first : (n : ℕ) (ms : List Token) (p q : ItemPlace) (ks : List Token) → ((ls : List Token) → MeansAt p ls → MeansAt q (ms ++ ls)) → MeansIn n p ks → MeansIn n q (ms ++ ks)
-more_first zero ms p q ks f m = f ks m
+more_first zero _ p q ks f m = f ks m
 more_first (suc n) ms p q ks f (inside, others, e, m, rest) = (ms ++ inside, others, ap (λ ks. ms ++ ks) e ∙ sym (append_assoc ms inside (closing ∷ others)), f inside m, rest)
 
 item_in : (n : ℕ) {ms : List Token} (p : ItemPlace) {e : Expression} (ks : List Token) → Item ms e → MeansIn n Later ks → MeansIn n p (ms ++ ks)
@@ -120,12 +120,12 @@ item_in n {ms} p {e} ks i = more_first n ms Later p ks (λ ls m. means_at p (m m
 
 times_in : (n : ℕ) {p : ItemPlace} (least : ℕ) (most : Option ℕ) (ks : List Token) → p ≡ Later → MeansIn n Later ks → MeansIn n p (times least most ∷ ks)
 times_in n least most ks q m =
-    subst (λ r. MeansIn n r (times least most ∷ ks)) (sym q)
-    (more_first n (times least most ∷ []) Later Later ks (λ ms f ls e i. subst Means (append_assoc ls (times least most ∷ []) ms) (f (ls ++ times least most ∷ []) (repeat e least most) (repeated least most i))) m)
+    rw q
+    (more_first n (times least most ∷ []) Later Later ks (λ ms f ls e i. rw (append_assoc ls (times least most ∷ []) ms) at (f (ls ++ times least most ∷ []) (repeat e least most) (repeated least most i))) m)
 
 opening_in : (n : ℕ) (p : ItemPlace) {ks : List Token} → MeansIn (suc n) First ks → MeansIn n p (opening ∷ ks)
 opening_in n p (inside, others, e, m, rest) =
-    subst (λ ls. MeansIn n p (opening ∷ ls)) (append_assoc inside (closing ∷ []) others ∙ sym e) (item_in n p others (group m.read) rest)
+    rw (append_assoc inside (closing ∷ []) others ∙ sym e) at (item_in n p _ (group m.read) rest)
 
 closing_in : (os : List Around) (c : Context) (p : ItemPlace) (h : ℕ) (ks : List Token) → is_group os ≡ true → MeansIn (length (closed_group h os c).around) (closed_group h os c).place ks → MeansIn (length os) p (closing ∷ ks)
 closing_in [] c p h ks e m = absurd (cc)
@@ -165,4 +165,4 @@ module _ {syntax : Syntax} (placed : IsPlaced syntax) where
 
 -- the same tokens mean one expression
 pub same_meaning : {syntax : Syntax} {text : Text} {d e : Expression} (x : Spells syntax text d) (y : Spells syntax text e) → x.tokens ≡ y.tokens → d ≡ e
-same_meaning x y same = x.whole ∙ ap choice (branches-unique (subst (λ ks. Branches ks x.branches) same x.read) y.read) ∙ sym y.whole
+same_meaning x y same = cc (x.whole, branches-unique (rw same at x.read) y.read, y.whole)

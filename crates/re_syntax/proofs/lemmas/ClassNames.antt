@@ -9,7 +9,7 @@ strip (a ∷ u) (b ∷ t) = if nat_eq a b then strip u t else None
 
 -- the class whose name was found, or else what the other classes give
 abbrev or_next : Option Text → Class → Option (Class × Text) → Option (Class × Text)
-or_next (Some rest) c others = Some (c, rest)
+or_next (Some rest) c _ = Some (c, rest)
 or_next None c others = others
 
 -- the first of these classes whose name and `:]` begin the text, and what follows

@@ -3,7 +3,7 @@
 use Rattle.re_syntax.proofs.Prelude.{◌≡◌, ℕ, ◌≤◌, length, drop, length-drop, arith, PatternFault, Bool, List, [], ◌∷◌, refl, sym, ap, ◌∙◌, subst, Text, FaultKind, Syntax}
 use Rattle.re_syntax.specs.declared.tokens.ItemPlace.{ItemPlace}
 use Rattle.re_syntax.specs.Tokens.{Token}
-use Rattle.re_syntax.specs.FirstFaults.{Around, Context, after, IsTooDeep, Cut, whole, next, FirstFault, no_token, too_deep, unclosed, later, IsToken, IsTokenFault, IsFirstFault}
+use Rattle.re_syntax.specs.FirstFaults.{Around, Context, after, Cut, whole, next, FirstFault, no_token, too_deep, unclosed, later, IsToken, IsTokenFault, IsFirstFault}
 
 -- two faults are of one kind and at one place
 pub record SameFault (j k : FaultKind) (u v : Text) : Type 0 where
@@ -44,11 +44,11 @@ same_faults f g p q = ap (λ k. fault_of k f.at) p ∙ ap (fault_of g.kind) q
 module _ {syntax : Syntax} (exact : IsExact syntax) where
   pub cuts-unique : {c : Context} {t : Text} {ks ls : List Token} → Cut syntax c t ks → Cut syntax c t ls → ks ≡ ls
   cuts-unique (whole e) (whole f) = refl
-  cuts-unique {c} (whole e) (next x n y) = absurd (exact.token_not_end _ _ _ _ x)
-  cuts-unique {c} (next x n y) (whole e) = absurd (exact.token_not_end _ _ _ _ x)
-  cuts-unique {c} {t} (next {k = j} {ks = ks} x n y) (next {u = v} {k = l} {ks = ls} z m w) =
+  cuts-unique (whole e) (next x n y) = absurd (exact.token_not_end _ _ _ _ x)
+  cuts-unique (next x n y) (whole e) = absurd (exact.token_not_end _ _ _ _ x)
+  cuts-unique (next {k = j} {ks = ks} x n y) (next {u = v} {k = l} {ks = ls} z m w) =
       let same = exact.token _ _ _ _ _ _ _ x z in
-      same_next same.tokens (cuts-unique y (subst (λ r. Cut syntax (after t j c) r ls) (sym same.rests) (subst (λ k. Cut syntax (after t k c) v ls) (sym same.tokens) w)))
+      same_next same.tokens (cuts-unique y (rw same.rests (rw same.tokens w)))
 
   pub fault-unique : {c : Context} {t u v : Text} {j k : FaultKind} → FirstFault syntax c t j u → FirstFault syntax c t k v → SameFault j k u v
   fault-unique (no_token f) (no_token g) = exact.fault _ _ _ _ _ _ _ f g
@@ -58,23 +58,23 @@ module _ {syntax : Syntax} (exact : IsExact syntax) where
   fault-unique (too_deep u x d) (no_token f) = absurd (exact.either _ _ _ _ _ _ _ x f)
   fault-unique (too_deep u x d) (too_deep w z b) = record { kinds = refl; places = refl }
   fault-unique (too_deep u x d) (unclosed e) = absurd (exact.token_not_end _ _ _ _ x)
-  fault-unique {c} (too_deep u x d) (later z n y) = absurd (n (subst (IsTooDeep c) (exact.token _ _ _ _ _ _ _ x z).tokens d))
+  fault-unique (too_deep u x d) (later z n y) = absurd (n (rw (exact.token _ _ _ _ _ _ _ x z).tokens at d))
   fault-unique (unclosed e) (no_token f) = absurd (exact.fault_not_end _ _ _ _ f)
   fault-unique (unclosed e) (too_deep u x d) = absurd (exact.token_not_end _ _ _ _ x)
   fault-unique (unclosed e) (unclosed f) = record { kinds = refl; places = ap (λ a. a.from) (same_around e f) }
   fault-unique (unclosed e) (later x n y) = absurd (exact.token_not_end _ _ _ _ x)
   fault-unique (later x n y) (no_token f) = absurd (exact.either _ _ _ _ _ _ _ x f)
-  fault-unique {c} (later x n y) (too_deep w z d) = absurd (n (subst (IsTooDeep c) (exact.token _ _ _ _ _ _ _ z x).tokens d))
+  fault-unique (later x n y) (too_deep w z d) = absurd (n (rw (exact.token _ _ _ _ _ _ _ z x).tokens at d))
   fault-unique (later x n y) (unclosed e) = absurd (exact.token_not_end _ _ _ _ x)
-  fault-unique {c} {t} {v = w} {k = i} (later {k = j} x n y) (later {u = r} z m b) =
+  fault-unique (later {k = j} x n y) (later {u = r} z m b) =
       let same = exact.token _ _ _ _ _ _ _ x z in
-      fault-unique y (subst (λ s. FirstFault syntax (after t j c) s i w) (sym same.rests) (subst (λ k. FirstFault syntax (after t k c) r i w) (sym same.tokens) b))
+      fault-unique y (rw same.rests (rw same.tokens b))
 
   pub fault-no_cut : {c : Context} {t u : Text} {j : FaultKind} {ks : List Token} → FirstFault syntax c t j u → Cut syntax c t ks → ⊥
   fault-no_cut (no_token f) (whole e) = exact.fault_not_end _ _ _ _ f
   fault-no_cut (no_token f) (next x n y) = exact.either _ _ _ _ _ _ _ x f
   fault-no_cut (too_deep u x d) (whole e) = exact.token_not_end _ _ _ _ x
-  fault-no_cut {c} (too_deep u x d) (next z n y) = n (subst (IsTooDeep c) (exact.token _ _ _ _ _ _ _ x z).tokens d)
+  fault-no_cut (too_deep u x d) (next z n y) = n (rw (exact.token _ _ _ _ _ _ _ x z).tokens at d)
   fault-no_cut (unclosed e) (whole f) = let g = sym e ∙ f in cc
   fault-no_cut (unclosed e) (next x n y) = exact.token_not_end _ _ _ _ x
   fault-no_cut (later x n y) (whole e) = exact.token_not_end _ _ _ _ x

@@ -1,5 +1,5 @@
 -- Decimal digits: how many come first, and their value.
-use Rattle.re_syntax.proofs.Prelude.{◌≡◌, ℕ, zero, suc, ◌+◌, ◌-◌, ◌*◌, ◌<◌, ◌≤◌, min, true, false, ◌||◌, ◌⊎◌, inl, inr, nat_le, nat_lt, [], ◌∷◌, ◌++◌, length, take, get_or, IsTrue, refl, ap, ◌∙◌, arith, and_parts, and_from, or_cases, or_parts, leb-true, le-leb, ltb-true, ltb-false, take_more, Digit, Text, in_class, value_after, capped, HasNoDigit, IsDigitCount}
+use Rattle.re_syntax.proofs.Prelude.{◌≡◌, ℕ, zero, suc, ◌+◌, ◌-◌, ◌*◌, ◌<◌, ◌≤◌, min, true, false, ◌||◌, ◌⊎◌, inl, inr, nat_le, nat_lt, [], ◌∷◌, ◌++◌, length, take, get_or, IsTrue, refl, arith, and_parts, and_from, or_cases, or_parts, leb-true, le-leb, ltb-true, ltb-false, take_more, Digit, Text, in_class, value_after, capped, HasNoDigit, IsDigitCount}
 
 -- a digit is not below `0`
 pub digit_low : (b : ℕ) → IsTrue (in_class Digit b) → 48 ≤ b
@@ -32,7 +32,7 @@ value_after-snoc n (c ∷ t) b = value_after-snoc (10 * n + (c - 48)) t b
 
 -- one digit more of a text
 pub value_after-take : (n : ℕ) (t : Text) (i : ℕ) → i < length t → value_after n (take (i + 1) t) ≡ 10 * value_after n (take i t) + (get_or t i 0 - 48)
-value_after-take n t i h = ap (value_after n) (take_more t i 0 h) ∙ value_after-snoc n (take i t) (get_or t i 0)
+value_after-take n t i h = cc (take_more t i 0 h, value_after-snoc n _ _)
 
 -- the capped value is enough to go on with
 pub capped-step : {v : ℕ} (w d : ℕ) → v ≡ capped w → min (10 * v + d) 256 ≡ capped (10 * w + d)

@@ -1,5 +1,5 @@
 -- Escapes, by what follows the backslash.
-use Rattle.re_syntax.proofs.Prelude.{EscapeFault, undefined, reference, ◌≡◌, ℕ, ◌+◌, ◌≤◌, nat_le, [], ◌∷◌, length, drop, Some, IsTrue, slice_get, codes, refl, sym, ap, ◌∙◌, subst, arith, length-drop, and_parts, and_from, leb-true, le-leb, or_left, or_right, nil_from_length, slice_get_within, FaultKind, TrailingBackslash, Text, Begins, range, union, is_undefined, one_to_nine, EscapeStands}
+use Rattle.re_syntax.proofs.Prelude.{EscapeFault, undefined, reference, ◌≡◌, ℕ, ◌+◌, ◌≤◌, nat_le, ◌∷◌, length, drop, Some, IsTrue, slice_get, codes, refl, sym, ap, ◌∙◌, arith, length-drop, and_parts, and_from, leb-true, le-leb, or_left, or_right, nil_from_length, slice_get_within, FaultKind, TrailingBackslash, Text, Begins, range, union, is_undefined, one_to_nine, EscapeStands}
 use Rattle.re_syntax.specs.EscapeFaults.{trailing}
 use Rattle.re_syntax.specs.Faults.{IsAt}
 use Rattle.re_syntax.proofs.lemmas.BracketsUnique.{heads, tails}
@@ -10,11 +10,11 @@ use Rattle.re_syntax.proofs.lemmas.Places.{byte_at, beyond_first}
 pub escape_stands : {others text : Text} {at b : ℕ} → Begins (codes "\\") (drop at text) → slice_get text (at + 1) ≡ Some b → ¬ IsTrue (is_undefined others b) →
     EscapeStands others text at b
 escape_stands {text} {at} {b} (rest, e) f h =
-    let next : rest ≡ b ∷ drop (at + 1 + 1) text = beyond_first text at 92 e ∙ byte_at text (at + 1) b f in
+    let next = beyond_first text at 92 e ∙ byte_at text (at + 1) b f in
     let there : at + 1 + 1 ≡ at + 2 = omega arith in
     record {
       within = let k = slice_get_within text (at + 1) b f in omega arith;
-      front = e ∙ ap (λ x. 92 ∷ x) next ∙ ap (λ n. 92 ∷ b ∷ drop n text) there;
+      front = cc;
       allowed = h;
     }
 
@@ -33,15 +33,15 @@ place_within text at (rest, e) = omega (arith, simp length-drop at (ap length e)
 pub refused_escape : (others : Text) {text : Text} (at b : ℕ) (kind : FaultKind) → Begins (codes "\\") (drop at text) → slice_get text (at + 1) ≡ Some b →
     ((u : Text) → EscapeFault others (92 ∷ b ∷ u) kind (92 ∷ b ∷ u)) → IsAt (EscapeFault others (drop at text)) text (record { kind = kind; at = at })
 refused_escape others {text} at b kind (rest, e) f x =
-    let next : rest ≡ b ∷ drop (at + 1 + 1) text = beyond_first text at 92 e ∙ byte_at text (at + 1) b f in
-    record { within = place_within text at (rest, e); is_fault = subst (λ t. EscapeFault others t kind t) (sym (e ∙ ap (λ x. 92 ∷ x) next)) (x (drop (at + 1 + 1) text)) }
+    let next = beyond_first text at 92 e ∙ byte_at text (at + 1) b f in
+    record { within = place_within text at (rest, e); is_fault = rw (e ∙ ap (λ x. 92 ∷ x) next) (x (drop (at + 1 + 1) text)) }
 
 -- a backslash that is last
 pub trailing_backslash : (others : Text) {text : Text} (at : ℕ) → Begins (codes "\\") (drop at text) → length text ≤ at + 1 →
     IsAt (EscapeFault others (drop at text)) text (record { kind = TrailingBackslash; at = at })
 trailing_backslash others {text} at (rest, e) h =
-    let nothing : rest ≡ [] = nil_from_length rest (omega (arith, simp length-drop at (ap length e))) in
-    record { within = place_within text at (rest, e); is_fault = subst (λ t. EscapeFault others t TrailingBackslash t) (sym (e ∙ ap (λ x. 92 ∷ x) nothing)) trailing }
+    let nothing = nil_from_length rest (omega (arith, simp length-drop at (ap length e))) in
+    record { within = place_within text at (rest, e); is_fault = rw (e ∙ ap (λ x. 92 ∷ x) nothing) trailing }
 
 -- a backslash has one fault, and none where the byte after it may stand there
 pub escape_fault-unique : {others t s u v : Text} {j k : FaultKind} → EscapeFault others t j u → EscapeFault others s k v → t ≡ s → SameFault j k u v
@@ -57,5 +57,5 @@ escape_fault-unique (reference h) (reference i) e = record { kinds = refl; place
 
 pub escape-no_fault : {others t u v : Text} {b : ℕ} {k : FaultKind} → EscapeFault others t k v → t ≡ 92 ∷ b ∷ u → IsTrue (is_undefined others b)
 escape-no_fault trailing e = let f = tails e in absurd (cc)
-escape-no_fault {others} (undefined h n) e = rw (sym (heads (tails e))) h
-escape-no_fault {others} (reference {b = b} h) e = rw (sym (heads (tails e))) (reference_undefined others b h)
+escape-no_fault (undefined h n) e = rw (sym (heads (tails e))) h
+escape-no_fault (reference {b = b} h) e = rw (sym (heads (tails e))) (reference_undefined _ b h)

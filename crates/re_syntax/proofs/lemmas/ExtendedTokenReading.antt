@@ -1,5 +1,5 @@
 -- Tokens of extended expressions, by the bytes at their place.
-use Rattle.re_syntax.proofs.Prelude.{HasOne, ◌≡◌, ◌≢◌, ℕ, ◌+◌, ◌<◌, ◌≤◌, ◌⊎◌, inl, inr, ◌&&◌, Bool, true, false, nat_eq, [], ◌∷◌, ◌++◌, length, drop, Option, Some, None, MatchOption, MatchBool, is_some, IsTrue, slice_get, codes, refl, sym, ap, ◌∙◌, subst, arith, ne_eqb, cases_eq, append_assoc, length-drop, slice_get_within, Counts, Text, Begins, IsAfter, is_in, OpensDuplication, opens_star, opens_plus, opens_question, opens_interval, HasNoInterval, and_right}
+use Rattle.re_syntax.proofs.Prelude.{HasOne, ◌≡◌, ◌≢◌, ℕ, ◌+◌, ◌<◌, ◌≤◌, ◌⊎◌, inl, inr, ◌&&◌, Bool, true, false, nat_eq, [], ◌∷◌, ◌++◌, length, drop, Option, Some, None, MatchOption, MatchBool, is_some, IsTrue, slice_get, codes, refl, sym, ap, ◌∙◌, arith, ne_eqb, cases_eq, append_assoc, length-drop, slice_get_within, Counts, Text, Begins, IsAfter, is_in, OpensDuplication, opens_star, opens_plus, opens_question, opens_interval, HasNoInterval, and_right}
 use Rattle.re_syntax.specs.declared.tokens.ItemPlace.{ItemPlace}
 use Rattle.re_syntax.specs.Extended.{Duplication, is_ordinary, star, plus, question, interval}
 use Rattle.re_syntax.specs.ExtendedTokens.{ExtendedToken, closes, period, ordinary}
@@ -44,7 +44,7 @@ pub none_without_brace : (text : Text) (at b : ℕ) → slice_get text at ≡ So
 none_without_brace text at b e n k o = go o refl
   where
     sign : (c : ℕ) (u : Text) → c ∷ u ≡ drop at text → is_in (codes "*+?") c ≡ true → ⊥
-    sign c u f h = n (subst (λ x. IsTrue (is_in (codes "*+?") x)) (heads (f ∙ byte_at text at b e)) h)
+    sign c u f h = n (rw (heads (f ∙ byte_at text at b e)) at h)
 
     go : {t : Text} → OpensDuplication t → t ≡ drop at text → ⊥
     go (opens_star {u = u}) f = sign 42 u f refl
@@ -66,7 +66,7 @@ none_without_interval {text} {at} s h o = go o refl
 pub found_opens : (text : Text) (at : ℕ) (found : Option (Counts × ℕ)) {b : Bool} → b ≡ is_some found →
     MatchOption found (¬ OpensDuplication (drop at text)) (λ d. HasOne Duplication text at d.0 d.1) → MatchBool b (OpensDuplication (drop at text)) (¬ OpensDuplication (drop at text))
 found_opens text at None e h = rw e h
-found_opens text at (Some d) e h = rw (e, h.front) (dup_opens h.duplication (drop d.1 text))
+found_opens text at (Some d) e h = rw (e, h.front) (dup_opens h.duplication _)
 
 -- Single bytes.
 
@@ -88,14 +88,14 @@ stands_for_itself g b u m k d l o w bar caret close =
     ) refl
   where
     sign : (c : ℕ) → OpensDuplication (c ∷ u) → c ≢ b
-    sign c opens e = m (subst (λ x. OpensDuplication (x ∷ u)) e opens)
+    sign c opens e = m (rw e at opens)
 
 -- the token of a byte that begins no other
 pub single : {g : Bool} {p : ItemPlace} (b : ℕ) {u : Text} → ¬ OpensDuplication (b ∷ u) → b ≢ 91 → b ≢ 92 → b ≢ 40 → b ≢ 36 → b ≢ 124 → b ≢ 94 → ExtendedToken g p (b ∷ u) u (byte_token g b)
 single {g} {p} b {u} m k l o w bar caret = go g (cases_eq b 41) (cases_eq b 46)
   where
     no_interval : b ≡ 123 → HasNoInterval (codes "}") u
-    no_interval e = record { none = λ v least most c. m (subst (λ x. OpensDuplication (x ∷ u)) (sym e) (opens_interval c)) }
+    no_interval e = record { none = λ v least most c. m (rw e (opens_interval c)) }
 
     plain : (g : Bool) → (g && nat_eq b 41) ≡ false → (g && is_in (codes ")") b) ≡ false → (b ≡ 46) ⊎ (b ≡ 46 → ⊥) → ExtendedToken g p (b ∷ u) u (byte_token g b)
     plain g e f (inl d) = rw (d, and_right g (nat_eq 46 41) refl) period
@@ -104,4 +104,4 @@ single {g} {p} b {u} m k l o w bar caret = go g (cases_eq b 41) (cases_eq b 46)
     go : (g : Bool) → (b ≡ 41) ⊎ (b ≡ 41 → ⊥) → (b ≡ 46) ⊎ (b ≡ 46 → ⊥) → ExtendedToken g p (b ∷ u) u (byte_token g b)
     go true (inl e) d = rw e closes
     go true (inr n) d = plain true (ne_eqb b 41 n) (rw (ne_eqb 41 b (λ x. n (sym x))) refl) d
-    go false c d = plain false refl refl d
+    go false c d = plain _ refl refl d

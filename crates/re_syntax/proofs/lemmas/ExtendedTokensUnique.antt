@@ -57,7 +57,7 @@ never : (g : Bool) {b c : ℕ} {t w : Text} → IsTrue (is_ordinary g b) → is_
 never g {b} h k e = let f : is_ordinary g b ≡ false = rw (heads e) at k in cc
 
 ordinary-only : {g : Bool} {p : ItemPlace} {t u w : Text} {k : Token} {b : ℕ} → ExtendedToken g p t u k → t ≡ b ∷ w → IsTrue (is_ordinary g b) → (b ≡ 123 → HasNoInterval (codes "}") w) → SameToken k (atom (byte b)) u w
-ordinary-only (ordinary c x m) e h n = record { tokens = ap (λ y. atom (byte y)) (heads e); rests = tails e }
+ordinary-only (ordinary c x m) e h n = record { tokens = rw (heads e); rests = tails e }
 ordinary-only {g} opens e h n = absurd (never g h refl e)
 ordinary-only closes e h n = absurd (never true h refl e)
 ordinary-only {g} parts e h n = absurd (never g h refl e)
@@ -109,10 +109,10 @@ token-unique closes closes e = record { tokens = refl; rests = tails e }
 token-unique parts parts e = record { tokens = refl; rests = tails e }
 token-unique leads leads e = record { tokens = refl; rests = tails e }
 token-unique (repeats {u = u} d) (repeats {u = v} c) e = dup-unique d c e
-token-unique (bracket h) (bracket k) e = let same = IsBracket-unique h k e in record { tokens = ap atom same.expressions; rests = same.rests }
+token-unique (bracket h) (bracket k) e = let same = IsBracket-unique h k e in record { tokens = rw same.expressions; rests = same.rests }
 token-unique period period e = record { tokens = refl; rests = tails e }
 token-unique dollar dollar e = record { tokens = refl; rests = tails e }
-token-unique (escaped b h) (escaped c k) e = record { tokens = ap (λ x. atom (byte x)) (heads (tails e)); rests = tails (tails e) }
+token-unique (escaped b h) (escaped c k) e = record { tokens = rw (heads (tails e)); rests = tails (tails e) }
 token-unique x y e = absurd (apart (sym (token_kind x).1 ∙ ap kind_of e ∙ (token_kind y).1) refl)
 
 fault-unique : {p : ItemPlace} {t s u v : Text} {j k : FaultKind} → ExtendedTokenFault p t j u → ExtendedTokenFault p s k v → t ≡ s → SameFault j k u v

@@ -1,5 +1,5 @@
 -- Fixed strings are spelled by their tokens, which have no fault.
-use Rattle.re_syntax.proofs.Prelude.{◌≡◌, ℕ, Bool, List, [], ◌∷◌, ◌++◌, map, refl, ap, append-nil, arith, Text, Expression, byte, sequence, Fixed, IsSpelled, as_fixed}
+use Rattle.re_syntax.proofs.Prelude.{◌≡◌, ℕ, Bool, List, [], ◌∷◌, ◌++◌, map, refl, append-nil, arith, Text, Expression, byte, sequence, Fixed, IsSpelled, as_fixed}
 use Rattle.re_syntax.specs.declared.tokens.ItemPlace.{ItemPlace}
 use Rattle.re_syntax.specs.Tokens.{Token, atom, FixedToken, one_byte}
 use Rattle.re_syntax.specs.Working.TokenGrammar.{Spells}
@@ -24,7 +24,7 @@ says : {g : Bool} {p : ItemPlace} {t u : Text} {k : Token} → FixedToken g p t 
 says (one_byte b) = (b, refl, refl)
 
 token-unique : {g : Bool} {p : ItemPlace} {t s u v : Text} {j k : Token} → FixedToken g p t u j → FixedToken g p s v k → t ≡ s → SameToken j k u v
-token-unique (one_byte b) (one_byte c) e = record { tokens = ap (λ x. atom (byte x)) (heads e); rests = tails e }
+token-unique (one_byte b) (one_byte c) e = record { tokens = rw (heads e); rests = tails e }
 
 not_end : {g : Bool} {p : ItemPlace} {t u : Text} {k : Token} → FixedToken g p t u k → ¬ (t ≡ [])
 not_end (one_byte b) e = cc
@@ -56,7 +56,7 @@ grammar = record {
 
 bytes_read : (t : Text) {p : ItemPlace} {g : Bool} → ItemsRead Fixed g p 0 t [] (map byte t)
 bytes_read [] = no_items
-bytes_read (b ∷ t) {g} = more_items (token_item (one_byte b)) (bytes_read t)
+bytes_read (b ∷ t) = more_items (token_item (one_byte b)) (bytes_read t)
 
 pub fixed_spells : {t : Text} {e : Expression} → IsSpelled Fixed t e → Spells Fixed t e
 fixed_spells {t} as_fixed = spells (last_branch (bytes_read t)) (omega arith)

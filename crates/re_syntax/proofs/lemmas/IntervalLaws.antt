@@ -22,7 +22,7 @@ pub cut-unique : (c : ℕ) (t u : Text) {r s : Text} → lacks c t ≡ true → 
 cut-unique c [] [] h k e = (refl, cc)
 cut-unique c [] (b ∷ u) h k e = absurd (lacks_head u k (cc))
 cut-unique c (a ∷ t) [] h k e = absurd (lacks_head t h (cc))
-cut-unique c (a ∷ t) (b ∷ u) {r} {s} h k e =
+cut-unique c (a ∷ t) (b ∷ u) h k e =
     let same = cut-unique c t u (lacks_tail c a t h) (lacks_tail c b u k) (cc) in
     let parts : t ≡ u = same.0 in
     (cc, same.1)
@@ -53,7 +53,7 @@ digits_lack c (b ∷ t) n h =
 -- nothing between the braces closes them
 pub interval_lacks : (c : ℕ) {t : Text} {least : ℕ} {most : Option ℕ} → in_class Digit c ≡ false → lacks c (codes ",") ≡ true → Interval t least most → lacks c t ≡ true
 interval_lacks c n k (exactly m h) = digits_lack c m n h.digits
-interval_lacks c n k (at_least m h) = lacks-append c m (codes ",") (digits_lack c m n h.digits) k
+interval_lacks c n k (at_least m h) = lacks-append c m _ (digits_lack c m n h.digits) k
 interval_lacks c n k (between m p h q) =
     lacks-append c (m ++ codes ",") p (lacks-append c m (codes ",") (digits_lack c m n h.digits) k) (digits_lack c p n q.digits)
 interval_lacks c n k (up_to m h) = lacks-append c (codes ",") m k (digits_lack c m n h.digits)

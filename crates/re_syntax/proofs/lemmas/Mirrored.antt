@@ -1,5 +1,5 @@
 -- Lists of open groups and levels, from the end of one and the front of the other.
-use Rattle.re_syntax.proofs.Prelude.{◌≡◌, List, [], ◌∷◌, ◌++◌, length, length-append, sym, ap, ◌∙◌, refl, subst, arith}
+use Rattle.re_syntax.proofs.Prelude.{◌≡◌, List, [], ◌∷◌, ◌++◌, length, length-append, sym, ap, ◌∙◌, refl, arith}
 use Rattle.re_syntax.specs.Working.Mirrors.{Mirrors, neither, both}
 
 -- a list with a last element is not empty
@@ -20,7 +20,7 @@ same_last : {A : Type 0} (xs ys : List A) {x y : A} → xs ++ (x ∷ []) ≡ ys 
 same_last [] [] e = (refl, first_same e)
 same_last [] (z ∷ ys) {y} e = absurd (no_last ys y (rest_same e))
 same_last (z ∷ xs) [] {x} e = absurd (no_last xs x (sym (rest_same e)))
-same_last (z ∷ xs) (w ∷ ys) {x} {y} e =
+same_last (z ∷ xs) (w ∷ ys) e =
     let more = same_last xs ys (rest_same e) in
     (two_first (first_same e) more.0, more.1)
 
@@ -35,9 +35,9 @@ pub record Partner {A B : Type 0} (R : List A → A → B → Type 0) (xs : List
 module _ {A B : Type 0} {R : List A → A → B → Type 0} where
   pub partner : {all xs : List A} {ys : List B} {x : A} → Mirrors R all ys → all ≡ xs ++ x ∷ [] → Partner R xs x ys
   partner {xs = xs} {x} neither e = absurd (no_last xs x e)
-  partner {xs = xs} {x} (both {xs = zs} {ys = ys} {y = y} z m r f) e =
+  partner {xs = xs} (both {xs = zs} {ys = ys} {y = y} z m r f) e =
       let same = same_last zs xs (sym f ∙ e) in
-      record { first = y; others = ys; are = refl; is = subst (λ ws. R ws x y) same.0 (subst (λ w. R zs w y) same.1 r); mirrors = subst (λ ws. Mirrors R ws ys) same.0 m }
+      record { first = y; others = ys; are = refl; is = rw same.0 at (rw same.1 at r); mirrors = rw same.0 at m }
 
   pub none_mirrors : {all : List A} {ys : List B} → Mirrors R all ys → all ≡ [] → ys ≡ []
   none_mirrors neither e = refl

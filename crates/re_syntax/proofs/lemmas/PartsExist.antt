@@ -14,7 +14,7 @@ module _ (expressions : List Expression) (line : Text) (whole : Bool) where
 
   -- the part from a place on, or nothing is found there
   pub IsPart-exists : (from : ℕ) → ((i j : ℕ) × IsPart expressions line whole from i j) ⊎ ((i j : ℕ) → IsFound expressions line whole from i j → ⊥)
-  IsPart-exists from = elim (least_below begins_at dec_begins_at (length line)) [ inl first ↦ inl (part_at first.0 first.1 first.2) | inr none ↦ inr (λ i j f. none i (omega (arith, f.not_empty, f.on_line)) (j, f)) ]
+  IsPart-exists from = elim (least_below begins_at dec_begins_at (length line)) [ inl first ↦ inl (part_at _ first.1 first.2) | inr none ↦ inr (λ i j f. none i (omega (arith, f.not_empty, f.on_line)) (j, f)) ]
     where
       begins_at : ℕ → Type 0
       begins_at i = (j : ℕ) × IsFound expressions line whole from i j

@@ -1,13 +1,13 @@
 -- Bytes at places of a text, and what was found.
-use Rattle.re_syntax.proofs.Prelude.{◌≡◌, ℕ, ◌+◌, ◌<◌, Bool, true, false, ◌∷◌, length, drop, Option, Some, None, MatchOption, MatchBool, is_some, slice_get, get_or, sym, ap, ◌∙◌, drop-drop, drop_more, slice_get_within, slice_get-get_or, get_or_from_slice_get, Text}
+use Rattle.re_syntax.proofs.Prelude.{◌≡◌, ℕ, ◌+◌, ◌<◌, Bool, true, false, ◌∷◌, length, drop, Option, Some, None, MatchOption, MatchBool, is_some, slice_get, get_or, sym, ◌∙◌, drop-drop, drop_more, slice_get_within, slice_get-get_or, get_or_from_slice_get, Text}
 
 -- the text from the place of a byte on
 pub byte_at : (text : Text) (at b : ℕ) → slice_get text at ≡ Some b → drop at text ≡ b ∷ drop (at + 1) text
-byte_at text at b e = drop_more text at b (slice_get_within text at b e) ∙ ap (λ x. x ∷ drop (at + 1) text) (get_or_from_slice_get text at b b e)
+byte_at text at b e = cc (drop_more text at b (slice_get_within text at b e), get_or_from_slice_get text at b b e)
 
 -- what follows the first byte of the rest of a text
 pub beyond_first : (text : Text) (at b : ℕ) {rest : Text} → drop at text ≡ b ∷ rest → rest ≡ drop (at + 1) text
-beyond_first text at b e = ap (drop 1) (sym e) ∙ drop-drop 1 at text
+beyond_first text at b e = cc (drop-drop 1 at text)
 
 -- whether something was found
 pub either_found : (A B C : Type 0) (P : ℕ → Type 0) (r : Option ℕ) {b : Bool} → b ≡ is_some r → MatchOption r C P → (C → B) → ((x : ℕ) → P x → A) → MatchBool b A B
@@ -26,7 +26,7 @@ nothing_found A P (Some x) e f h = absurd (let g : true ≡ false = sym e ∙ f 
 
 -- the byte at a place
 pub byte_here : (text : Text) (at : ℕ) {b : ℕ} → at < length text → get_or text at 0 ≡ b → slice_get text at ≡ Some b
-byte_here text at h e = slice_get-get_or text at 0 h ∙ ap Some e
+byte_here text at h e = cc (slice_get-get_or text at 0 h)
 
 -- the text from there on
 pub front_here : (text : Text) (at : ℕ) {b : ℕ} → at < length text → get_or text at 0 ≡ b → drop at text ≡ b ∷ drop (at + 1) text

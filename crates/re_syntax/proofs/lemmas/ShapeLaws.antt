@@ -9,10 +9,10 @@ use Rattle.re_syntax.specs.declared.tokens.ItemPlace.TheVariants.{First, AfterAn
 use Rattle.re_syntax.specs.declared.tokens.Token.{Token as Read}
 use Rattle.re_syntax.specs.Tokens.{Token, opening, closing, bar, lead, atom, times}
 use Rattle.re_syntax.specs.Faults.{IsAt}
-use Rattle.re_syntax.specs.FirstFaults.{Around, Context, start, is_group, after, closed_group, IsTooDeep, group, item, Cut, whole, next, FirstFault, no_token, too_deep, unclosed, later, IsToken, IsTokenFault, IsCut, IsFirstFault}
-use Rattle.re_syntax.specs.Working.Builds.{Frame, Built, build, build_all, nothing_built, branches_of, repeat_last, left_group, with_item, level_positions, last_positions, rest_positions}
+use Rattle.re_syntax.specs.FirstFaults.{Around, Context, start, is_group, after, closed_group, IsTooDeep, group, item, whole, next, FirstFault, no_token, too_deep, unclosed, later, IsToken, IsTokenFault, IsFirstFault}
+use Rattle.re_syntax.specs.Working.Builds.{Frame, Built, build_all, nothing_built, branches_of, repeat_last, left_group, with_item, level_positions, last_positions, rest_positions}
 use Rattle.re_syntax.specs.Working.Mirrors.{Mirrors, neither, both}
-use Rattle.re_syntax.specs.Working.ShapeSteps.{IsAround, IsCounted, Shows, Counts, Takes, Refuses, Reaches, Ends, EndsOpen}
+use Rattle.re_syntax.specs.Working.ShapeSteps.{IsAround, Shows, Counts, Takes, Refuses, Reaches, Ends, EndsOpen}
 use Rattle.re_syntax.specs.Working.TokenSteps.{Stands, token_of}
 use Rattle.re_syntax.proofs.lemmas.Built.{build-append, build-one}
 use Rattle.re_syntax.proofs.lemmas.Mirrored.{partner, none_mirrors, as_many}
@@ -22,7 +22,7 @@ use Rattle.re_syntax.proofs.lemmas.Mirrored.{partner, none_mirrors, as_many}
 -- a choice has as many positions as the sequence of its branches
 positions-alt : (es : List Expression) → positions (alt es) ≡ positions (cat es)
 positions-alt [] = refl
-positions-alt (e ∷ es) = ap (λ n. positions e + n) (positions-alt es)
+positions-alt (e ∷ es) = rw (positions-alt es)
 
 -- the positions with one more member
 positions-more : (es : List Expression) (e : Expression) → positions (cat (es ++ (e ∷ []))) ≡ positions (cat es) + positions e
@@ -43,7 +43,7 @@ positions-sequence (e ∷ f ∷ es) = refl
 
 -- those of branches
 pub positions-branches : (l : Frame) → positions (cat (branches_of l)) ≡ level_positions l
-positions-branches l = positions-more l.branches (sequence l.items) ∙ ap (λ n. positions (cat l.branches) + n) (positions-sequence l.items)
+positions-branches l = cc (positions-more _ _, positions-sequence _)
 
 -- the last item and those before it are all
 rest-and-last : (es : List Expression) → rest_positions es + last_positions es ≡ positions (cat es)
@@ -62,15 +62,15 @@ last-snoc (d ∷ []) e = refl
 last-snoc (d ∷ f ∷ es) e = last-snoc (f ∷ es) e
 
 rest-repeated : (least : ℕ) (most : Option ℕ) (es : List Expression) → rest_positions (repeat_last least most es) ≡ rest_positions es
-rest-repeated least most [] = refl
-rest-repeated least most (e ∷ []) = refl
-rest-repeated least most (e ∷ f ∷ []) = refl
+rest-repeated _ _ [] = refl
+rest-repeated _ _ (e ∷ []) = refl
+rest-repeated _ _ (e ∷ f ∷ []) = refl
 rest-repeated least most (e ∷ f ∷ g ∷ es) = ap (λ n. positions e + n) (rest-repeated least most (f ∷ g ∷ es))
 
 last-repeated : (least : ℕ) (most : Option ℕ) (es : List Expression) → last_positions (repeat_last least most es) ≡ copies least most * last_positions es
 last-repeated least most [] = omega arith
-last-repeated least most (e ∷ []) = refl
-last-repeated least most (e ∷ f ∷ []) = refl
+last-repeated _ _ (e ∷ []) = refl
+last-repeated _ _ (e ∷ f ∷ []) = refl
 last-repeated least most (e ∷ f ∷ g ∷ es) = last-repeated least most (f ∷ g ∷ es)
 
 -- a product of a word that keeps only the greatest
@@ -79,12 +79,12 @@ times_up zero n = omega arith
 times_up (suc c) n = go (cases_lt (2 ^ 64 - 1) n)
   where
     go : (2 ^ 64 - 1 < n) ⊎ (n ≤ 2 ^ 64 - 1) → up_to_word (suc c * up_to_word n) ≡ up_to_word (suc c * n)
-    go (inl h) = let e : up_to_word n ≡ 2 ^ 64 - 1 = omega (arith, h) in rw e (omega (arith, h))
-    go (inr h) = let e : up_to_word n ≡ n = omega (arith, h) in rw e refl
+    go (inl h) = let e : up_to_word n ≡ 2 ^ 64 - 1 = omega arith in rw e (omega arith)
+    go (inr h) = let e : up_to_word n ≡ n = omega arith in rw e refl
 
 -- the positions of a level together
 counted : {shape : Shape} {b : Built} → Counts shape b → up_to_word (shape.before + shape.item) ≡ up_to_word (level_positions b.level)
-counted {shape} {b} h = omega (arith, h.before, h.item, rest-and-last b.level.items)
+counted {b = b} h = omega (arith, h.before, h.item, rest-and-last b.level.items)
 
 -- Tokens that are taken.
 
@@ -121,8 +121,8 @@ group_taken {at} {p} {old} count room fits q place last height before none e =
           last_is = last;
           height_is = height;
           around = both (record { opening = at; height = old.height; positions = p }) s.around
-              (record { is = ap (λ h. record { from = drop at text; height = h }) (sym s.height_is); within = within; fits = s.bounded.height_fits }) e;
-          bounded = record { last_fits = omega (arith, more); height_fits = omega (arith, more) };
+              (record { is = rw (← s.height_is); within = within; fits = s.bounded.height_fits }) e;
+          bounded = record { last_fits = omega arith; height_fits = omega arith };
         },
       );
       counts = λ b h. record { before = before; item = none; around = both (record { opening = at; height = old.height; positions = p }) h.around (q ∙ counted h) e };
@@ -142,14 +142,14 @@ item_taken least most count room product place last height before item' e = reco
       place_is = place;
       last_is = omega (arith, s.last_is);
       height_is = omega (arith, s.height_is, s.last_is);
-      around = subst (λ gs. Mirrors (IsAround text) gs c.around) (sym e) s.around;
+      around = rw e s.around;
       bounded = record { last_fits = omega (arith, ap length e); height_fits = omega (arith, ap length e, s.bounded.height_fits) };
     },
   );
   counts = λ b h. record {
-    before = before ∙ h.before ∙ ap (λ k. up_to_word (positions (cat b.level.branches) + k)) (sym (rest-repeated least most b.level.items));
+    before = cc (h.before, rest-repeated _ _ _);
     item = item' ∙ product ∙ ap (λ k. up_to_word (copies least most * k)) h.item ∙ times_up (copies least most) (last_positions b.level.items) ∙ ap up_to_word (sym (last-repeated least most b.level.items));
-    around = subst (λ gs. Mirrors IsCounted gs b.outer) (sym e) h.around;
+    around = rw e h.around;
   };
 }
 
@@ -166,20 +166,20 @@ group_left {at} {old} {new} last e q place l height before item' = record { show
     shown text c s =
         let inner = partner s.around e in
         let fewer = ap length e ∙ length-append new.groups.items (last ∷ []) in
-        subst (λ os. Shows text new (closed_group (suc c.height) os c)) (sym inner.are) (record {
+        rw inner.are (record {
           place_is = place;
           last_is = omega (arith, s.height_is);
           height_is = omega (arith, s.height_is, ap (λ a. a.height) inner.is.is);
           around = inner.mirrors;
-          bounded = record { last_fits = omega (arith, s.bounded.height_fits, fewer); height_fits = omega (arith, s.bounded.height_fits, inner.is.fits, fewer) };
+          bounded = record { last_fits = omega (arith, s.bounded.height_fits); height_fits = omega (arith, s.bounded.height_fits, inner.is.fits) };
         })
 
     counts : (b : Built) → Counts old b → Counts new (left_group b.level b.outer)
     counts b h =
         let inner = partner h.around e in
         let x = choice (branches_of b.level) in
-        subst (λ os. Counts new (left_group b.level os)) (sym inner.are) (record {
-          before = before ∙ inner.is ∙ ap (λ n. up_to_word (positions (cat inner.first.branches) + n)) (sym (rest-snoc inner.first.items x));
+        rw inner.are (record {
+          before = cc (inner.is, rest-snoc _ x);
           item = item' ∙ q ∙ counted h ∙ ap up_to_word (sym (last-snoc inner.first.items x ∙ positions-choice (branches_of b.level) ∙ positions-branches b.level));
           around = inner.mirrors;
         })
@@ -190,28 +190,28 @@ none_left {shape} e = record {
   shows = λ text c within s. (λ d. shallow d refl, subst (λ os. Shows text shape (closed_group (suc c.height) os c)) (sym (none_mirrors s.around e)) s);
   counts = λ b h.
       let none = none_mirrors h.around e in
-      subst (λ os. Counts shape (left_group b.level os)) (sym none) (record { before = h.before; item = h.item; around = subst (Mirrors IsCounted shape.groups.items) none h.around });
+      rw none (record { before = h.before; item = h.item; around = rw none at h.around });
 }
 
 -- a token without a height was taken
 flat : {text : Text} {c : Context} {old new : Shape} {place : ItemPlace} {m n : ℕ} → new ≡ record old { place = place; last = 0; before = m; item = n } → Shows text old c →
     Shows text new (record { place = place; last = 0; height = c.height; around = c.around })
-flat {text} {c} {place = place} e s = subst (λ shape. Shows text shape (record { place = place; last = 0; height = c.height; around = c.around })) (sym e)
+flat e s = rw e
     (record { place_is = refl; last_is = refl; height_is = s.height_is; around = s.around; bounded = record { last_fits = omega (arith, s.bounded.height_fits); height_fits = s.bounded.height_fits } })
 
 pub bar_taken : {at : ℕ} {old new : Shape} → new ≡ record old { place = First; last = 0; before = up_to_word (old.before + old.item); item = 0 } → Takes bar at old new
 bar_taken e = record {
   shows = λ text c within s. (λ d. shallow d refl, flat e s);
-  counts = λ b h. subst (λ shape. Counts shape (build bar b)) (sym e)
+  counts = λ b h. rw e
       (record { before = counted h ∙ ap up_to_word (sym (positions-branches b.level) ∙ omega arith); item = refl; around = h.around });
 }
 
 -- an item without parts was taken
 one_taken : {old new : Shape} {place : ItemPlace} {n : ℕ} {b : Built} (e : Expression) → new ≡ record old { place = place; last = 0; before = up_to_word (old.before + old.item); item = n } →
     n ≡ up_to_word (positions e) → Counts old b → Counts new (record { level = with_item e b.level; outer = b.outer })
-one_taken {b} x e p h = subst (λ shape. Counts shape (record { level = with_item x b.level; outer = b.outer })) (sym e) (record {
-  before = counted h ∙ ap (λ n. up_to_word (positions (cat b.level.branches) + n)) (sym (rest-snoc b.level.items x));
-  item = p ∙ ap up_to_word (sym (last-snoc b.level.items x));
+one_taken x e p h = rw e (record {
+  before = cc (counted h, rest-snoc _ x);
+  item = cc (last-snoc _ x);
   around = h.around;
 })
 
@@ -219,7 +219,7 @@ pub lead_taken : {at : ℕ} {old new : Shape} → new ≡ record old { place = A
 lead_taken e = record { shows = λ text c within s. (λ d. shallow d refl, flat e s); counts = λ b h. one_taken begin e refl h }
 
 pub atom_taken : {at n : ℕ} (x : Expression) {old new : Shape} → n ≡ positions x → n ≤ 1 → new ≡ record old { place = Later; last = 0; before = up_to_word (old.before + old.item); item = n } → Takes (atom x) at old new
-atom_taken x p few e = record { shows = λ text c within s. (λ d. shallow d refl, flat e s); counts = λ b h. one_taken x e (omega (arith, p)) h }
+atom_taken x p few e = record { shows = λ text c within s. (λ d. shallow d refl, flat e s); counts = λ b h. one_taken x e (omega arith) h }
 
 -- What was read.
 
@@ -233,35 +233,35 @@ open_is s {n} e = go s.around n e
 
 module _ {syntax : Syntax} {text : Text} {at : ℕ} {old : Shape} {done : List Token} (r : Reaches syntax text at old done) (n : ℕ) (is_open : n ≡ length old.groups.items) where
   here : {token : Read} {beyond : ℕ} → Stands syntax (nat_lt 0 n) old.place text at token beyond → IsToken syntax (is_group r.context.around) r.context.place (drop at text) (drop beyond text) (token_of token)
-  here {token} {beyond} t = subst (λ b. IsToken syntax b r.context.place (drop at text) (drop beyond text) (token_of token)) (sym (open_is r.shows is_open))
-      (subst (λ p. IsToken syntax (nat_lt 0 n) p (drop at text) (drop beyond text) (token_of token)) r.shows.place_is t.stands)
+  here t = rw (open_is r.shows is_open)
+      (rw r.shows.place_is at t.stands)
 
   -- a token was read and taken
   pub reaches_on : {token : Read} {beyond : ℕ} {new : Shape} → Stands syntax (nat_lt 0 n) old.place text at token beyond → Takes (token_of token) at old new →
       Reaches syntax text beyond new (done ++ token_of token ∷ [])
-  reaches_on {token} {new = new} t k =
+  reaches_on {token} t k =
       let (light, shows) = k.shows text r.context r.within r.shows in
       record {
         within = t.within;
         context = after (drop at text) (token_of token) r.context;
         shows = shows;
-        cut = λ ks x. subst (IsCut syntax text) (sym (append_assoc done (token_of token ∷ []) ks)) (r.cut (token_of token ∷ ks) (next (here t) light x));
+        cut = λ ks x. rw (append_assoc done (token_of token ∷ []) ks) (r.cut (token_of token ∷ ks) (next (here t) light x));
         fault = λ kind from x. r.fault kind from (later (here t) light x);
-        counts = subst (Counts new) (sym (build-append done (token_of token ∷ []) nothing_built ∙ build-one (token_of token) (build_all done nothing_built))) (k.counts (build_all done nothing_built) r.counts);
+        counts = rw (build-append _ _ _ ∙ build-one (token_of token) (build_all done nothing_built)) (k.counts (build_all done nothing_built) r.counts);
       }
 
   -- no token is there
   pub fault_met : {fault : PatternFault} → IsAt (IsTokenFault syntax (nat_lt 0 n) old.place (drop at text)) text fault → IsFirstFault syntax text fault
   fault_met {fault} h = record {
     within = h.within;
-    is_fault = r.fault _ _ (no_token (subst (λ b. IsTokenFault syntax b r.context.place (drop at text) fault.kind (drop fault.at text)) (sym (open_is r.shows is_open))
-        (subst (λ p. IsTokenFault syntax (nat_lt 0 n) p (drop at text) fault.kind (drop fault.at text)) r.shows.place_is h.is_fault)));
+    is_fault = r.fault _ _ (no_token (rw (open_is r.shows is_open)
+        (rw r.shows.place_is at h.is_fault)));
   }
 
   -- the token goes too deep
   pub deep_met : {token : Read} {beyond : ℕ} {fault : PatternFault} → Stands syntax (nat_lt 0 n) old.place text at token beyond → Refuses (token_of token) at old fault → IsFirstFault syntax text fault
   deep_met {fault} t h =
-      subst (IsFirstFault syntax text) (sym h.fault_is) (record { within = r.within; is_fault = r.fault TooDeep (drop at text) (too_deep _ (here t) (h.deep text r.context r.shows)) })
+      rw h.fault_is (record { within = r.within; is_fault = r.fault TooDeep (drop at text) (too_deep _ (here t) (h.deep text r.context r.shows)) })
 
 -- the text begins
 pub reaches_start : (syntax : Syntax) (text : Text) {shape : Shape} → ((text : Text) → Shows text shape start) → Counts shape nothing_built → Reaches syntax text 0 shape []
@@ -275,13 +275,13 @@ at_end {syntax} {text} {at} {shape} {done} r h = subst (λ n. Reaches syntax tex
 pub ends_whole : {shape : Shape} {count : ℕ} → count ≡ up_to_word (shape.before + shape.item) → shape.groups.items ≡ [] → Ends shape count
 ends_whole e none = record {
   ends = λ syntax text done r. (
-    subst (IsCut syntax text) (append-nil done) (r.cut [] (subst (λ t. Cut syntax r.context t []) (sym (drop-length text)) (whole (none_mirrors r.shows.around none)))),
+    rw (append-nil done) at (r.cut [] (rw (drop-length text) (whole (none_mirrors r.shows.around none)))),
     e ∙ counted r.counts,
   );
 }
 
 pub ends_open : (shape : Shape) (fault : PatternFault) (others : List OpenGroup) (last : OpenGroup) → shape.groups.items ≡ others ++ last ∷ [] → fault ≡ record { kind = UnclosedGroup; at = last.opening } → EndsOpen shape fault
-ends_open shape fault others last e f = record {
+ends_open _ fault _ last e f = record {
   ends = λ syntax text done r.
       let inner = partner r.shows.around e in
       subst (IsFirstFault syntax text) (sym f) (record {

@@ -5,4 +5,4 @@ use Rattle.re_syntax.proofs.lemmas.StandardExtended.{extended-kept}
 
 -- the law
 pub keeps_standard : (text : Text) → KeepsStandard text
-keeps_standard text = record { basic = λ e s. basic-kept s; extended = λ e s n. extended-kept s n }
+keeps_standard _ = record { basic = λ e s. basic-kept s; extended = λ e s n. extended-kept s n }

@@ -54,10 +54,10 @@ module _ (syntax : Syntax) where
 module _ {syntax : Syntax} where
   -- tokens grouped to the left, and to the right
   to_left : {c : Context} {t : Text} (ks ls ms : List Token) → Cut syntax c t (ks ++ (ls ++ ms)) → Cut syntax c t ((ks ++ ls) ++ ms)
-  to_left {c} {t} ks ls ms x = subst (Cut syntax c t) (sym (append_assoc ks ls ms)) x
+  to_left ks ls ms x = rw (append_assoc ks ls ms) x
 
   to_right : {c : Context} {t : Text} (ks ls ms : List Token) → Cut syntax c t ((ks ++ ls) ++ ms) → Cut syntax c t (ks ++ (ls ++ ms))
-  to_right {c} {t} ks ls ms x = subst (Cut syntax c t) (append_assoc ks ls ms) x
+  to_right ks ls ms x = rw (append_assoc ks ls ms) at x
 
   pub token_item : {g : Bool} {p : ItemPlace} {t u : Text} {e : Expression} → IsToken syntax g p t u (atom e) → ItemReads syntax g p 0 t u e
   token_item {e = e} x c r = record { tokens = atom e ∷ []; high = c.height; is_high = omega arith; leads = λ ls y. next (rw (r.in_group, r.place) x) (λ d. may_be_deep d) y; reads = single e }
@@ -66,13 +66,13 @@ module _ {syntax : Syntax} where
       ItemReads syntax g p (suc h) t w (choice es)
   group_item {h = h} {t = t} {u = u} {v = v} {w = w} x bs y c r =
       let (q, n, s) = bs (after t opening c) (record { in_group = refl; place = refl; fits = omega (arith, r.fits) }) in
-      let same : s.high ≡ h = s.is_high ∙ omega arith in
+      let same = s.is_high ∙ omega arith in
       record {
         tokens = opening ∷ s.tokens ++ closing ∷ [];
         high = max c.height (suc s.high);
-        is_high = omega (arith, same);
+        is_high = omega arith;
         leads = λ ls z. next (rw (r.in_group, r.place) x) (group_fits (omega (arith, r.fits)))
-            (to_left s.tokens (closing ∷ []) ls
+            (to_left _ _ ls
             (s.leads (closing ∷ ls) (next (y q) (λ d. may_be_deep d) (subst (λ m. Cut syntax (on c Later (suc m) (max c.height (suc s.high))) w ls) (sym same) z))));
         reads = group s.reads;
       }
@@ -134,9 +134,9 @@ module _ {syntax : Syntax} where
 
   -- what is read up to the text's end is spelled
   pub spells : {h : ℕ} {t : Text} {es : List Expression} → BranchesRead syntax false h t [] es → h ≤ most_levels → Spells syntax t (choice es)
-  spells {t = t} {es = es} bs fits =
+  spells {es = es} bs fits =
       let (q, n, s) = bs start (record { in_group = refl; place = refl; fits = omega (arith, fits) }) in
-      record { tokens = s.tokens; cut = subst (Cut syntax start t) (append-nil s.tokens) (s.leads [] (whole refl)); branches = es; read = s.reads; whole = refl }
+      record { tokens = s.tokens; cut = rw (append-nil s.tokens) at (s.leads [] (whole refl)); branches = es; read = s.reads; whole = refl }
 
 -- the first token of a cut
 record Begun (syntax : Syntax) (c : Context) (t : Text) (k : Token) (ls : List Token) : Type 0 where
@@ -217,7 +217,7 @@ module _ {syntax : Syntax} {Bs : Bool → ℕ → Text → Text → List Express
     items_part : {ks : List Token} {es : List Expression} {ls : List Token} → Items ks es → {c : Context} {t : Text} → length c.around ≤ most_levels → Cut syntax c t (ks ++ ls) →
         (q : ItemPlace) × (n : ℕ) × (h : ℕ) × Part (λ u. Is (is_group c.around) c.place h t u es) c ls q n h
     items_part none {c} {t} fits x = (c.place, c.last, 0, record { beyond = t; high = c.height; is_high = omega arith; fits = omega (arith, fits); cut = x; reads = grammar.none })
-    items_part {ls} (anchor is) {c} {t} fits x =
+    items_part (anchor is) fits x =
         let f = begun x in
         let (q, n, h, s) = items_part is fits f.others in
         (q, n, h, record { beyond = s.beyond; high = s.high; is_high = s.is_high; fits = s.fits; cut = s.cut; reads = grammar.anchor f.token s.reads })
@@ -228,7 +228,7 @@ module _ {syntax : Syntax} {Bs : Bool → ℕ → Text → Text → List Express
 
     branches_part : {ks : List Token} {es : List Expression} {ls : List Token} → Branches ks es → {c : Context} {t : Text} → c.place ≡ First → length c.around ≤ most_levels → Cut syntax c t (ks ++ ls) →
         (q : ItemPlace) × (n : ℕ) × (h : ℕ) × Part (λ u. Bs (is_group c.around) h t u es) c ls q n h
-    branches_part {ls} (last {es = es} is) {c} {t} e fits x =
+    branches_part (last {es = es} is) {c} {t} e fits x =
         let (q, n, h, s) = items_part is fits x in
         (q, n, h, record { beyond = s.beyond; high = s.high; is_high = s.is_high; fits = s.fits; cut = s.cut; reads = grammar.last (subst (λ p. Is (is_group c.around) p h t s.beyond es) e s.reads) })
     branches_part {ls} (more {ks} {ls = ms} {es = es} is bs) {c} {t} e fits x =

@@ -34,21 +34,21 @@ adds_none Extended x = extended_spelled x
 adds_none Fixed x = fixed_spelled x
 
 pub one_meaning : {syntax : Syntax} {text : Text} {d e : Expression} → Spells syntax text d → Spells syntax text e → d ≡ e
-one_meaning {syntax} x y = same_meaning x y (cuts-unique (exact syntax) x.cut y.cut)
+one_meaning x y = same_meaning x y (cuts-unique (exact _) x.cut y.cut)
 
 -- a text that has a first fault spells nothing
 pub fault_spells_none : {syntax : Syntax} {text from : Text} {kind : FaultKind} → FirstFault syntax start text kind from → (e : Expression) → ¬ IsSpelled syntax text e
-fault_spells_none {syntax} {text} f e x = fault-no_cut (exact syntax) f (keeps_spelled syntax x).cut
+fault_spells_none {syntax} {text} f e x = fault-no_cut (exact _) f (keeps_spelled _ x).cut
 
 -- what is built of the whole cut are its branches
 pub cut_branches : {syntax : Syntax} {text : Text} {ks : List Token} → IsCut syntax text ks → Branches ks (branches_of (build_all ks nothing_built).level)
-cut_branches {syntax} x = cut_built (placed syntax) x
+cut_branches x = cut_built (placed _) x
 
 pub has_one_cut : (text : Text) (syntax : Syntax) → HasOneCut syntax text
-has_one_cut text syntax = record {
-  cuts = λ ks ls x y. cuts-unique (exact syntax) x y;
-  faults = λ f g x y. faults-unique (exact syntax) x y;
-  never_both = λ f ks x y. fault-no_cut (exact syntax) x.is_fault y;
+has_one_cut _ syntax = record {
+  cuts = λ ks ls x y. cuts-unique (exact _) x y;
+  faults = λ f g x y. faults-unique (exact _) x y;
+  never_both = λ f ks x y. fault-no_cut (exact _) x.is_fault y;
   spelled = λ e. (keeps_spelled syntax, adds_none syntax);
-  each = λ ks x. cut_spells (placed syntax) x;
+  each = λ ks x. cut_spells (placed _) x;
 }

@@ -1,5 +1,5 @@
 -- Parts of tokens and of their faults that basic and extended expressions share: each begins a text in one way.
-use Rattle.re_syntax.proofs.Prelude.{◌≡◌, ℕ, false, true, ◌∷◌, ◌++◌, Option, codes, refl, sym, ◌∙◌, subst, arith, append_assoc, Digit, in_class, FaultKind, Text, Interval, ClosedInterval, HasNoInterval, IsAllowed, IsDisallowed, least_too_large, most_too_large, descending}
+use Rattle.re_syntax.proofs.Prelude.{◌≡◌, ℕ, false, true, ◌∷◌, ◌++◌, Option, codes, refl, sym, ◌∙◌, arith, append_assoc, Digit, in_class, FaultKind, Text, Interval, ClosedInterval, HasNoInterval, IsAllowed, IsDisallowed, least_too_large, most_too_large, descending}
 use Rattle.re_syntax.specs.Tokens.{Token, times}
 use Rattle.re_syntax.proofs.lemmas.CountsLaws.{not_allowed}
 use Rattle.re_syntax.proofs.lemmas.CutsUnique.{SameToken}
@@ -16,7 +16,7 @@ pub record SameInterval (a b : ℕ) (x y : Option ℕ) (u v : Text) : Type 0 whe
 
 pub closed-unique : (c : ℕ) (w : Text) → in_class Digit c ≡ false → lacks c (codes ",") ≡ true → {t s u v : Text} {a b : ℕ} {x y : Option ℕ} →
     ClosedInterval (c ∷ w) t u a x → ClosedInterval (c ∷ w) s v b y → t ≡ s → SameInterval a b x y (w ++ u) (w ++ v)
-closed-unique c w n k {u = u} {v = v} {a = a} {b = b} {x = x} {y = y} p q e =
+closed-unique c w n k p q e =
     let same = cut-unique c p.inside q.inside (interval_lacks c n k p.form) (interval_lacks c n k q.form) (sym p.whole ∙ e ∙ q.whole) in
     let numbers = Interval-unique p.form q.form same.0 in
     record { least = numbers.0; most = numbers.1; rests = same.1 }
@@ -29,11 +29,11 @@ pub closed_by : {close : Text} {t : Text} {least : ℕ} {most : Option ℕ} (u :
 closed_by {close} {t} u form = record { inside = t; form = form; whole = append_assoc t close u }
 
 pub no_closed : {close t s u : Text} {a : ℕ} {x : Option ℕ} → HasNoInterval close t → ClosedInterval close s u a x → s ≡ t → ⊥
-no_closed {close} {u = u} {a = a} {x = x} h c e = h.none u a x (subst (λ r. ClosedInterval close r u a x) e c)
+no_closed {u = u} {a = a} {x = x} h c e = h.none u a x (rw e at c)
 
 -- equal numbers are not both allowed and refused
 pub never_allowed : {a b : ℕ} {x y : Option ℕ} {k : FaultKind} → a ≡ b → x ≡ y → IsAllowed a x → IsDisallowed k b y → ⊥
-never_allowed {b = b} {x = x} h k allowed refused = not_allowed refused (subst (λ n. IsAllowed b n) k (subst (λ n. IsAllowed n x) h allowed))
+never_allowed h k allowed refused = not_allowed refused (rw k at (rw h at allowed))
 
 -- one kind of refusal
 pub disallowed-unique : {j k : FaultKind} {a b : ℕ} {x y : Option ℕ} → IsDisallowed j a x → IsDisallowed k b y → a ≡ b → x ≡ y → j ≡ k

@@ -1,5 +1,5 @@
 -- Tokens and their faults in any syntax, by the bytes at their place.
-use Rattle.re_syntax.proofs.Prelude.{HasOne, ◌≡◌, ℕ, ◌+◌, ◌<◌, ◌≤◌, Bool, false, nat_eq, ◌∷◌, ◌++◌, length, drop, get_or, Option, sym, ap, ◌∙◌, subst, arith, append_assoc, length-drop, length-append, Digit, in_class, Syntax, FaultKind, Counts, Text, byte, IsBracketUpTo, IsAfter, IsAllowed, IsDisallowed, IsNoPart, IntervalStands, EscapeStands}
+use Rattle.re_syntax.proofs.Prelude.{HasOne, ◌≡◌, ℕ, ◌+◌, ◌<◌, ◌≤◌, Bool, false, nat_eq, ◌∷◌, ◌++◌, length, drop, get_or, Option, sym, ◌∙◌, arith, append_assoc, length-drop, length-append, Digit, in_class, Syntax, FaultKind, Counts, Text, byte, IsBracketUpTo, IsAfter, IsAllowed, IsDisallowed, IsNoPart, IntervalStands, EscapeStands}
 use Rattle.re_syntax.specs.declared.tokens.ItemPlace.{ItemPlace}
 use Rattle.re_syntax.specs.declared.tokens.ItemPlace.TheVariants.{Later}
 use Rattle.re_syntax.specs.declared.tokens.Token.{Token as Read}
@@ -22,10 +22,10 @@ module _ {syntax : Syntax} {g : Bool} {p : ItemPlace} {text : Text} {at : ℕ} w
   -- some bytes, one byte, an escape, and a bracket expression
   pub bytes_stand : {beyond : ℕ} {bytes : Text} (token : Read) → 0 < length bytes → IsAfter bytes text at beyond → IsToken syntax g p (bytes ++ drop beyond text) (drop beyond text) (token_of token) →
       Stands syntax g p text at token beyond
-  bytes_stand token some s x = stands_by (omega (arith, s.place, some)) s.within s.front x
+  bytes_stand token some s x = stands_by (omega (arith, s.place)) s.within s.front x
 
   pub byte_stands : {b : ℕ} {token : Read} → at < length text → get_or text at 0 ≡ b → IsToken syntax g p (b ∷ drop (at + 1) text) (drop (at + 1) text) (token_of token) → Stands syntax g p text at token (at + 1)
-  byte_stands {b} {token} h e x = stands_by (omega arith) (omega arith) (front_here text at h e) x
+  byte_stands h e x = stands_by (omega arith) (omega arith) (front_here text at h e) x
 
   pub escape_stands : {others : Text} {b : ℕ} (it : Atom) → EscapeStands others text at b → atom_expression it ≡ byte b → IsToken syntax g p (92 ∷ b ∷ drop (at + 2) text) (drop (at + 2) text) (atom (byte b)) →
       Stands syntax g p text at (Atomic it) (at + 2)
@@ -39,8 +39,8 @@ module _ {syntax : Syntax} {g : Bool} {p : ItemPlace} {text : Text} {at : ℕ} w
       IsToken syntax g Later (d.bytes ++ drop beyond text) (drop beyond text) (times counts.least counts.most) → Stands syntax g p text at (Times counts) beyond
   times_stand {beyond} e d some x =
       let within = d.within in
-      let lengths : length (drop at text) ≡ length d.bytes + length (drop beyond text) = ap length d.front ∙ length-append d.bytes (drop beyond text) in
-      stands_by (omega (arith, simp length-drop at lengths, some)) within d.front (rw e x)
+      let lengths : length (drop at text) ≡ length d.bytes + length (drop beyond text) = cc (d.front, length-append d.bytes (drop beyond text)) in
+      stands_by (omega (arith, simp length-drop at lengths)) within d.front (rw e x)
 
 -- an interval whose counts are allowed is a duplication, and one whose counts are refused is a fault
 module _ {opening close text : Text} {at inside beyond : ℕ} {counts : Counts} (s : IsAfter opening text at inside) (i : IntervalStands close text inside counts beyond) where
@@ -52,12 +52,12 @@ module _ {opening close text : Text} {at inside beyond : ℕ} {counts : Counts} 
         within = i.within;
         bytes = opening ++ i.stands.inside ++ close;
         duplication = rw (same.least, same.most) (f allowed);
-        front = s.front ∙ ap (λ t. opening ++ t) i.stands.whole ∙ sym (append_assoc opening i.stands.inside (close ++ drop beyond text)) ∙ sym (append_assoc (opening ++ i.stands.inside) close (drop beyond text));
+        front = cc (s.front, i.stands.whole, append_assoc opening i.stands.inside (close ++ drop beyond text), append_assoc (opening ++ i.stands.inside) close (drop beyond text));
       }
 
   pub bad_interval : {kind : FaultKind} (P : Text → FaultKind → Text → Type 0) → at ≤ length text → IsDisallowed kind counts.least counts.most →
       (IsDisallowed kind i.least i.most → P (opening ++ drop inside text) kind (opening ++ drop inside text)) → IsAt (P (drop at text)) text (record { kind = kind; at = at })
-  bad_interval {kind} P h bad f = record { within = h; is_fault = subst (λ t. P t kind t) (sym s.front) (f (disallowed_too bad i.most i.least_is i.most_is)) }
+  bad_interval P h bad f = record { within = h; is_fault = rw s.front (f (disallowed_too bad _ i.least_is i.most_is)) }
 
 -- what closes an interval is no part of it
 pub closing_no_part : (b : ℕ) (t : Text) → in_class Digit b ≡ false → nat_eq b 44 ≡ false → IsNoPart (b ∷ t)

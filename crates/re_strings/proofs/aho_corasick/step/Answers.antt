@@ -1,4 +1,4 @@
-use Rattle.re_strings.proofs.Prelude.{slice_index, arith}
+use Rattle.re_strings.proofs.Prelude.{arith}
 use Rattle.re_strings.proofs.lemmas.SetSteps.{goes_on, falls_back}
 use Rattle.re_strings.proofs.lemmas.SetTries.{ascends}
 use Rattle.re_strings.proofs.aho_corasick.step.Goals as goal
@@ -12,14 +12,14 @@ nodes-init c = record {
 
 pub returns-in-Some-clause-step : goal.returns-in-Some-clause-step
 returns-in-Some-clause-step c = λ all t s f w from stands.
-    rw (c.in-Some.ensures.reported all t) (goes_on all.strings c.args.byte (all.label c.nodes.at) w from (c.nodes.invariant.may all t f w from stands))
+    rw (c.in-Some.ensures.reported all t) (goes_on _ _ (c.nodes.invariant.may all t f w from stands))
 
 pub nodes-preserved : goal.nodes-preserved
 nodes-preserved c = record {
-  within = let lt = c.requires.fails c.nodes.at (omega arith) c.nodes.invariant.within in omega (arith, lt, c.nodes.invariant.within);
-  low = let lt = c.requires.fails c.nodes.at (omega arith) c.nodes.invariant.within in let le = c.nodes.invariant.low in omega (arith, lt, le);
+  within = let lt = c.requires.fails c.nodes.at (omega arith) c.nodes.invariant.within in omega (arith, c.nodes.invariant.within);
+  low = let lt = c.requires.fails c.nodes.at (omega arith) c.nodes.invariant.within in omega arith;
   may = λ all t f w from stands.
-      falls_back all.strings c.args.byte (all.label c.nodes.at) (all.label (slice_index c.args.fails.now c.nodes.at)) w from
+      falls_back all.strings c.args.byte w
       (c.nodes.invariant.may all t f w from stands) (c.in_default.ensures.reported all t) (f c.nodes.at (omega arith) c.nodes.invariant.within);
 }
 
@@ -29,18 +29,18 @@ returns-clause-step c = λ all t s f w from stands. s c.nodes.at c.args.byte (om
 pub returns-in-Some-clause-near : goal.returns-in-Some-clause-near
 returns-in-Some-clause-near c =
     let near = c.in-Some.ensures.beyond.2 in
-    let up = ascends c.args.trie.now.first.items c.args.trie.now.bytes.items c.requires.trie c.nodes.at c.args.node c.nodes.invariant.low (let a = c.requires.within in let b = c.requires.few in omega (arith, a, b)) in
-    omega (arith, near, up)
+    let up = ascends c.requires.trie c.nodes.at c.args.node c.nodes.invariant.low (omega arith) in
+    omega arith
 
 pub returns-clause-near : goal.returns-clause-near
 returns-clause-near c =
     let near = c.requires.steps.nodes c.nodes.at c.args.byte (omega arith) (omega (arith, c.nodes-test.false)) in
-    let up = ascends c.args.trie.now.first.items c.args.trie.now.bytes.items c.requires.trie c.nodes.at c.args.node c.nodes.invariant.low (let a = c.requires.within in let b = c.requires.few in omega (arith, a, b)) in
-    omega (arith, near, up)
+    let up = ascends c.requires.trie c.nodes.at c.args.node c.nodes.invariant.low (omega arith) in
+    omega arith
 
 pub returns-clause-within : goal.returns-clause-within
 returns-clause-within c =
     let near = c.requires.steps.nodes c.nodes.at c.args.byte (omega arith) (omega (arith, c.nodes-test.false)) in
     let few = c.requires.few in
-    let within = c.requires.trie.within c.nodes.at (omega (arith, few, c.nodes.invariant.within)) in
-    omega (arith, near, within)
+    let within = c.requires.trie.within c.nodes.at (omega (arith, c.nodes.invariant.within)) in
+    omega arith

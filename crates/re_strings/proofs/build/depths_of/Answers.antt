@@ -1,4 +1,4 @@
-use Rattle.re_strings.proofs.Prelude.{rules, ◌≡◌, ℕ, ◌+◌, ◌<◌, ◌≤◌, inl, inr, [], ◌∷◌, ◌++◌, length, slice_index, refl, sym, ap, ◌∙◌, arith, length-append, cases_lt}
+use Rattle.re_strings.proofs.Prelude.{rules, ◌≡◌, ℕ, ◌+◌, ◌<◌, ◌≤◌, inl, inr, [], ◌∷◌, length, slice_index, refl, sym, ap, ◌∙◌, arith, length-append, cases_lt}
 use Rattle.re_strings.proofs.lemmas.SetSearch.{row_read}
 use Rattle.re_strings.proofs.build.depths_of.Goals as goal
 
@@ -13,14 +13,14 @@ nodes-preserved c =
     let rows = c.requires.trie.rows in
     let beyond = c.requires.trie.beyond node in_trie in
     let all = c.nodes.invariant.all in
-    let within : node < length old = omega (arith, beyond, all) in
-    let end : slice_index first (node + 1) ≡ c.index-in-nodes.result.now = row_read first (node + 1) c.index-in-nodes.result.now (omega (arith, rows, in_trie)) c.index-in-nodes.ensures in
-    let read : slice_index old node ≡ c.index.result.now = row_read old node c.index.result.now within c.index.ensures in
-    let size : length new ≡ slice_index first (node + 1) = c.in_ok-add_depths.ensures.all ∙ sym end in
+    let within : node < length old = omega arith in
+    let end = row_read first (node + 1) (omega arith) c.index-in-nodes.ensures in
+    let read = row_read old node within c.index.ensures in
+    let size = c.in_ok-add_depths.ensures.all ∙ sym end in
     let small = c.nodes.invariant.small node within in
     let depth : (n : ℕ) → length old ≤ n → n < length new → slice_index new n ≡ slice_index old node + 1 = λ n late lt.
-    let added = c.in_ok-add_depths.ensures.added n late (omega (arith, lt, size, end)) in
-    omega (arith, added, read) in
+    let added = c.in_ok-add_depths.ensures.added n late (omega arith) in
+    omega arith in
     record {
       all = size;
       small = λ n lt.
@@ -28,39 +28,39 @@ nodes-preserved c =
             | inl early ↦
                 let same = c.in_ok-add_depths.ensures.same n early in
                 let kept = c.nodes.invariant.small n early in
-                omega (arith, same, kept)
+                omega arith
             | inr late ↦
                 let is = depth n late lt in
-                omega (arith, is, small, within, late)
+                omega arith
           ];
       right = λ these t n lt.
           elim (cases_lt n (length old)) [
             | inl early ↦ c.in_ok-add_depths.ensures.same n early ∙ c.nodes.invariant.right these t n early
             | inr late ↦
                 let is = depth n late lt in
-                let child : these.label n ≡ these.label node ++ slice_index bytes n ∷ [] = t.child node n in_trie (omega (arith, all, late), omega (arith, lt, size)) in
+                let child = t.child node n in_trie (omega arith, omega arith) in
                 let longer = ap length child in
                 let one = length-append (these.label node) (slice_index bytes n ∷ []) in
                 let known = c.nodes.invariant.right these t node within in
-                omega (arith, is, longer, one, known)
+                omega arith
           ];
     }
 
 pub nodes-init : goal.nodes-init
 nodes-init c =
-    let pushed : c.push.new.self.items ≡ 0 ∷ [] = c.in_ok-push.ensures.items ∙ ap (λ l. l ++ 0 ∷ []) c.in_ok-depths.ensures.items in
-    let one : length c.push.new.self.items ≡ 1 = ap length pushed in
+    let pushed : c.push.new.self.items ≡ 0 ∷ [] = cc (c.in_ok-push.ensures.items, c.in_ok-depths.ensures.items) in
+    let one : length c.push.new.self.items ≡ 1 = rw pushed in
     record {
       all = one ∙ sym c.requires.trie.start;
-      small = λ n below. let first : n ≡ 0 = omega (arith, below, one) in rw (first, pushed) (omega arith);
-      right = λ all t n below. let first : n ≡ 0 = omega (arith, below, one) in rw (first, pushed, t.root) refl;
+      small = λ n below. let first : n ≡ 0 = omega arith in rw (first, pushed) (omega arith);
+      right = λ all t n below. let first : n ≡ 0 = omega arith in rw (first, pushed, t.root) refl;
     }
 
 pub returns : goal.returns
 returns c =
     let end : c.nodes.node ≡ length c.args.trie.now.bytes.items = omega (arith, c.nodes-test.false, c.nodes.auto.node-end, c.len-node-end.ensures) in
-    let same : length c.nodes.depths.items ≡ length c.args.trie.now.bytes.items = c.nodes.invariant.all ∙ ap (slice_index c.args.trie.now.first.items) end ∙ c.requires.trie.last in
+    let same : length c.nodes.depths.items ≡ length c.args.trie.now.bytes.items = cc (c.nodes.invariant.all, c.requires.trie.last) in
     record {
       all = same;
-      right = λ all t n below. c.nodes.invariant.right all t n (omega (arith, below, same));
+      right = λ all t n below. c.nodes.invariant.right all t n (omega arith);
     }

@@ -1,4 +1,4 @@
-use Rattle.re_strings.proofs.Prelude.{map, arith, Labels}
+use Rattle.re_strings.proofs.Prelude.{arith, Labels}
 use Rattle.re_strings.proofs.lemmas.SetLeaps.{same_leaps}
 use Rattle.re_strings.proofs.build.table_of.Goals as goal
 
@@ -15,9 +15,9 @@ returns-clause-right c = λ strings same.
         steps = c.in_ok-steps.ensures.right all trie starts (rw c.deref-3.ensures.value linked.fallbacks);
         fails = linked.fallbacks;
         depths = c.in_ok-depths.ensures.right all trie;
-        outputs = λ n lt. linked.ended n (omega (arith, lt, ended));
-        leaps = same_leaps (map (λ s. s.now) c.args.strings.now) strings same c.in_ok-leaps.leaps c.in_ok-leaps.ensures.right;
-        fronts = same_leaps (map (λ s. s.now) c.args.strings.now) strings same c.in_ok-fronts.fronts c.in_ok-fronts.ensures.right;
+        outputs = λ n lt. linked.ended n (omega arith);
+        leaps = same_leaps _ _ same c.in_ok-leaps.ensures.right;
+        fronts = same_leaps _ _ same c.in_ok-fronts.ensures.right;
       },
     )
 
@@ -37,5 +37,5 @@ returns-clause-table c = record {
       let window = c.in_ok-leaps.ensures.window in
       let front = c.in_ok-fronts.ensures.window in
       let least = c.min.ensures in
-      omega (arith, le, window, front, least);
+      omega arith;
 }

@@ -1,53 +1,53 @@
-use Rattle.re_strings.proofs.Prelude.{◌≡◌, ℕ, ◌+◌, ◌<◌, ◌≤◌, ◌++◌, ◌∷◌, [], inl, inr, List, Some, take, length, map, slice_get, sym, ap, subst, ◌∙◌, arith, append_assoc, get_or_default, All-push, cases_lt, Text, Branch, IsBranch, branch_at, no_branch, text_at}
+use Rattle.re_strings.proofs.Prelude.{◌≡◌, ℕ, ◌+◌, ◌<◌, ◌≤◌, ◌++◌, ◌∷◌, [], inl, inr, take, length, map, slice_get, sym, ap, ◌∙◌, arith, append_assoc, get_or_default, All-push, cases_lt, Branch, IsBranch, branch_at, no_branch, text_at}
 use Rattle.re_strings.proofs.lemmas.SetBranches.{run_after, run_branch, run_text, child_more, found_still, found_last, run_found, row_done, longer}
 use Rattle.re_strings.proofs.growth.expand.Goals as goal
 
 pub runs-preserved-in_ok-add_branch : goal.runs-preserved-in_ok-add_branch
 runs-preserved-in_ok-add_branch c =
-    let texts : List Text = map (λ s. s.now) c.args.strings.now in
-    let br : Branch = branch_at c.args.branches.now.items c.args.node in
-    let is : IsBranch texts br = c.requires.are c.args.node no_branch c.requires.within in
-    let read : c.index-branch.result.now ≡ br = c.index-branch.ensures ∙ get_or_default c.args.branches.now.items c.args.node c.index-branch.result.now no_branch c.requires.within in
-    let high : c.index-branch.result.now.high ≡ br.high = ap (λ (b : Branch). b.high) read in
-    let deep : c.index-branch.result.now.depth ≡ br.depth = ap (λ (b : Branch). b.depth) read in
-    let key : c.key_at-key.result ≡ slice_get (text_at texts c.runs.at) br.depth = c.key_at-key.ensures.reported ∙ ap (slice_get (text_at texts c.runs.at)) deep in
-    let here : slice_get (text_at texts c.runs.at) br.depth ≡ Some c.in-Some.byte = sym key ∙ c.in-Some.is in
+    let texts = map (λ s. s.now) c.args.strings.now in
+    let br = branch_at c.args.branches.now.items c.args.node in
+    let is = c.requires.are c.args.node no_branch c.requires.within in
+    let read = c.index-branch.ensures ∙ get_or_default c.args.branches.now.items c.args.node c.index-branch.result.now no_branch c.requires.within in
+    let high : c.index-branch.result.now.high ≡ br.high = rw read in
+    let deep : c.index-branch.result.now.depth ≡ br.depth = rw read in
+    let key : c.key_at-key.result ≡ slice_get (text_at texts c.runs.at) br.depth = cc c.key_at-key.ensures.reported in
+    let here = sym key ∙ c.in-Some.is in
     let end : ℕ = c.run_end-end.result in
     let on : c.runs.at < end = c.run_end-end.ensures.within.0 in
-    let top : end ≤ br.high = let t = c.run_end-end.ensures.within.1 in omega (arith, t, high) in
+    let top : end ≤ br.high = omega arith in
     let before = c.runs.invariant.before c.runs-test.true in
     let same : (i : ℕ) → c.runs.at < i → i < end → slice_get (text_at texts i) br.depth ≡ slice_get (text_at texts c.runs.at) br.depth =
-    λ i a b. ap (slice_get (text_at texts i)) (sym deep) ∙ c.run_end-end.ensures.same i a b ∙ key in
+    λ i a b. cc (c.run_end-end.ensures.same i a b) in
     let other : end < br.high → slice_get (text_at texts end) br.depth ≡ slice_get (text_at texts c.runs.at) br.depth → ⊥ =
-    λ lt e. c.run_end-end.ensures.other (omega (arith, lt, high)) (ap (slice_get (text_at texts end)) deep ∙ e ∙ sym key) in
+    λ lt e. c.run_end-end.ensures.other (omega arith) (cc) in
     let nb : Branch = record { byte = c.in-Some.byte; depth = c.index-branch.result.now.depth + 1; low = c.runs.at; high = end } in
-    let level : nb.depth ≡ br.depth + 1 = ap (λ n. n + 1) deep in
-    let made : IsBranch texts nb = subst (λ d. IsBranch texts (record { byte = c.in-Some.byte; depth = d; low = c.runs.at; high = end })) (sym level)
-    (run_branch texts c.requires.ordered br is c.runs.at end c.in-Some.byte c.runs.invariant.low on top here before same other) in
+    let level : nb.depth ≡ br.depth + 1 = rw deep in
+    let made : IsBranch texts nb = rw level
+    (run_branch _ c.requires.ordered br is _ _ _ c.runs.invariant.low on top here before same other) in
     let grown : c.add_branch.new.branches.items ≡ c.runs.branches.items ++ nb ∷ [] = c.in_ok-add_branch.ensures in
     rw grown (record {
-      low = let l = c.runs.invariant.low in omega (arith, l, on);
+      low = omega arith;
       grown = (c.runs.invariant.grown.0 ++ nb ∷ [], ap (λ xs. xs ++ nb ∷ []) c.runs.invariant.grown.1 ∙ append_assoc c.args.branches.now.items c.runs.invariant.grown.0 (nb ∷ []));
       are = All-push (IsBranch texts) c.runs.branches.items nb c.runs.invariant.are made;
-      before = λ lt. run_after texts c.requires.ordered br is c.runs.at end c.runs.invariant.low on before same other (omega (arith, lt, high));
+      before = λ lt. run_after texts c.requires.ordered br is c.runs.at end c.runs.invariant.low on before same other (omega arith);
       child = child_more texts br c.runs.branches.items nb (length c.args.branches.now.items) c.runs.invariant.child
           (ap (λ d. take d (text_at texts c.runs.at)) level
           ∙ run_text texts c.requires.ordered br is c.runs.at end c.in-Some.byte c.runs.invariant.low on top here before same other);
       covered = λ i b from to at_i.
           elim (cases_lt i c.runs.at) [
-            | inl early ↦ found_still texts br c.runs.branches.items nb (length c.args.branches.now.items) b (c.runs.invariant.covered i b from early at_i)
-            | inr late ↦ found_last texts br c.runs.branches.items nb (length c.args.branches.now.items) b (longer c.runs.branches.items c.args.branches.now.items c.runs.invariant.grown.0 c.runs.invariant.grown.1)
-                (run_found texts br.depth c.runs.at end c.in-Some.byte here same i b late to at_i)
+            | inl early ↦ found_still texts br _ nb _ b (c.runs.invariant.covered i b from early at_i)
+            | inr late ↦ found_last texts br _ nb _ (longer _ _ c.runs.invariant.grown.1)
+                (run_found _ _ _ _ _ here same i b late to at_i)
           ];
     })
 
 pub returns-clause-row : goal.returns-clause-row
 returns-clause-row c =
-    let texts : List Text = map (λ s. s.now) c.args.strings.now in
-    let br : Branch = branch_at c.args.branches.now.items c.args.node in
-    let read : c.index-branch.result.now ≡ br = c.index-branch.ensures ∙ get_or_default c.args.branches.now.items c.args.node c.index-branch.result.now no_branch c.requires.within in
-    let high : c.index-branch.result.now.high ≡ br.high = ap (λ (b : Branch). b.high) read in
-    row_done texts br (c.requires.are c.args.node no_branch c.requires.within) c.runs.branches.items (length c.args.branches.now.items) c.runs.at (omega (arith, high))
+    let texts = map (λ s. s.now) c.args.strings.now in
+    let br = branch_at c.args.branches.now.items c.args.node in
+    let read = c.index-branch.ensures ∙ get_or_default c.args.branches.now.items c.args.node c.index-branch.result.now no_branch c.requires.within in
+    let high : c.index-branch.result.now.high ≡ br.high = rw read in
+    row_done _ br (c.requires.are c.args.node no_branch c.requires.within) _ _ _ (omega arith)
     c.runs.invariant.child c.runs.invariant.covered
 
 pub returns-clause-grown : goal.returns-clause-grown

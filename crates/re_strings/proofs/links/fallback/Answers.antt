@@ -1,4 +1,4 @@
-use Rattle.re_strings.proofs.Prelude.{◌≡◌, ◌+◌, ◌-◌, ◌<◌, ◌≤◌, slice_index, subst, arith}
+use Rattle.re_strings.proofs.Prelude.{◌≡◌, ◌+◌, ◌-◌, ◌<◌, slice_index, arith}
 use Rattle.re_strings.proofs.lemmas.SetSteps.{may_at_first}
 use Rattle.re_strings.proofs.lemmas.SetTries.{ascends}
 use Rattle.re_strings.proofs.links.fallback.Goals as goal
@@ -8,24 +8,24 @@ returns-clause-before c =
     let first = c.args.trie.now.first.items in
     let inside : 0 < c.args.node = omega arith in
     let earlier = c.requires.fails c.args.node inside c.requires.within in
-    let up = ascends first c.args.trie.now.bytes.items c.requires.trie (slice_index c.args.fails.now c.args.node) (c.args.node - 1) (omega (arith, earlier)) (let a = c.requires.within in let b = c.requires.few in omega (arith, a, b)) in
-    let same : c.args.node - 1 + 1 ≡ c.args.node = omega (arith, inside) in
-    let top = subst (λ n. slice_index first (slice_index c.args.fails.now c.args.node + 1) ≤ slice_index first n) same up in
+    let up = ascends c.requires.trie (slice_index c.args.fails.now c.args.node) (c.args.node - 1) (omega arith) (omega arith) in
+    let same : c.args.node - 1 + 1 ≡ c.args.node = omega arith in
+    let top = rw same at up in
     let near = c.step.ensures.near in
-    omega (arith, near, top)
+    omega arith
 
 pub returns-clause-right : goal.returns-clause-right
 returns-clause-right c = λ all t s f.
     let inside : 0 < c.args.node = omega arith in
     c.step.ensures.step all t s f (all.label c.args.node) 1
-    (may_at_first all.strings c.args.byte (all.label (slice_index c.args.fails.now c.args.node)) (all.label c.args.node) 1 (f c.args.node inside c.requires.within))
+    (may_at_first _ _ _ 1 (f c.args.node inside c.requires.within))
 
 pub returns-then-node-eq0-clause-before : goal.returns-then-node-eq0-clause-before
 returns-then-node-eq0-clause-before c =
-    let beyond = c.requires.trie.beyond c.args.node (let few = c.requires.few in let within = c.requires.within in omega (arith, few, within)) in omega (arith, beyond)
+    let beyond = c.requires.trie.beyond c.args.node (omega arith) in omega arith
 
 pub step-requires-clause-within : goal.step-requires-clause-within
 step-requires-clause-within c =
     let less = c.requires.fails c.args.node (omega (arith, c.if-node-eq0.false)) c.requires.within in
     let within = c.requires.within in
-    omega (arith, less, within)
+    omega arith

@@ -15,8 +15,8 @@ places-preserved c =
       window = c.common_length-length.ensures.window;
       begun = search rules;
       added = adds_more_ends (λ i m. (i < place) × (m < start + (i + length text)) × OccursAt line text i) (λ i m. (i ≡ place) × (n ≡ length text) × (m < start + (place + n))) (λ i m. (i < place + 1) × (m < start + (i + length text)) × OccursAt line text i)
-          line c.places.ends c.args.ends.now c.places.ends c.put_whole.new.ends had.0 had c.put_whole.ensures
-          (λ i m lt. one_place_put start text line place n c.common_length-length.ensures.right i m);
+          _ _ _ _ _ had.0 had c.put_whole.ensures
+          (λ i m lt. one_place_put start n c.common_length-length.ensures.right i m);
     }
 
 pub returns-clause-added : goal.returns-clause-added
@@ -24,5 +24,5 @@ returns-clause-added c =
     let text = c.args.text.now in
     let line = c.args.line.now in
     let start = c.args.start in
-    same_ends_added (λ i m. (i < c.places.place) × (m < start + (i + length text)) × OccursAt line text i) (λ i m. (m < start + (i + length text)) × OccursAt line text i) line c.args.ends.now c.places.ends c.places.invariant.added
-    (λ i m lt. ((λ p. (p.1, p.2)), (λ p. (omega (arith, lt, c.places-test.false), p.0, p.1))))
+    same_ends_added (λ i m. (i < c.places.place) × (m < start + (i + length text)) × OccursAt line text i) (λ i m. (m < start + (i + length text)) × OccursAt line text i) _ _ _ c.places.invariant.added
+    (λ i m lt. ((λ p. (p.1, p.2)), (λ p. (omega (arith, c.places-test.false), p.0, p.1))))

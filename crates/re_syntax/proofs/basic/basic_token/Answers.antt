@@ -19,7 +19,7 @@ pub returns-in-Some-after_lead-clause-read : goal.returns-in-Some-after_lead-cla
 returns-in-Some-after_lead-clause-read c = let l = c.in-Some-after_lead.ensures in rw l.0 (bytes_stand _ (omega arith) l.1 leads)
 
 pub atom_at-requires : goal.atom_at-requires
-atom_at-requires c = byte_here c.args.text.now c.args.at c.requires c.in-91.is
+atom_at-requires c = byte_here _ _ c.requires c.in-91.is
 
 pub returns-in_err-atom-in-91-clause-refused : goal.returns-in_err-atom-in-91-clause-refused
 returns-in_err-atom-in-91-clause-refused c =

@@ -1,4 +1,4 @@
-use Rattle.re_syntax.proofs.Prelude.{ap, arith, codes, one_of, drop, rules, Begins, err_from_is_err_and}
+use Rattle.re_syntax.proofs.Prelude.{arith, codes, drop, rules, Begins, err_from_is_err_and}
 use Rattle.re_syntax.specs.BasicTokens.{opens, closes, parts, escaped, in_escape, unopened}
 use Rattle.re_syntax.proofs.lemmas.BasicTokenReading.{escape_allowed}
 use Rattle.re_syntax.proofs.lemmas.BracketFaultsReading.{fault_as}
@@ -28,4 +28,4 @@ returns-clause-read c p =
     let no_bar : ¬ Begins (codes "\\|") (drop c.args.at c.args.text.now) = search rules in
     let no_closing : ¬ Begins (codes "\\)") (drop c.args.at c.args.text.now) = search rules in
     let s = c.in_ok-byte.ensures.read in
-    escape_stands _ s (ap one_of c.only.ensures) (escaped _ (escape_allowed s no_group no_bar no_closing c.requires.no_need))
+    escape_stands _ s (rw c.only.ensures) (escaped _ (escape_allowed s no_group no_bar no_closing c.requires.no_need))

@@ -14,5 +14,5 @@ pub returns : goal.returns
 returns c =
     let t = drop c.args.at c.args.text.now in
     let no_branch = nothing_found _ _ c.after.result c.is_some.ensures c.if-is_some.false c.after.ensures in
-    either_found (IsAtEnd t) (¬ IsAtEnd t) _ _ c.after-2.result c.is_some-2.ensures c.after-2.ensures
-    (not_at_end c.args.text.now c.args.at c.requires c.if-at-text.false no_branch) (λ b s. rw s.front of_group)
+    either_found (IsAtEnd t) (¬ IsAtEnd t) _ _ _ c.is_some-2.ensures c.after-2.ensures
+    (not_at_end _ _ c.requires c.if-at-text.false no_branch) (λ b s. rw s.front of_group)

@@ -1,12 +1,12 @@
-use Rattle.re_syntax.proofs.Prelude.{◌≡◌, IfOk, IfErr, OnOk, subst, ◌∙◌, members, Element, left}
+use Rattle.re_syntax.proofs.Prelude.{◌∙◌}
 use Rattle.re_syntax.specs.BracketFaults.{ElementFault, no_class, no_equivalence}
-use Rattle.re_syntax.specs.Working.BracketSteps.{from_place, Fails}
+use Rattle.re_syntax.specs.Working.BracketSteps.{from_place}
 use Rattle.re_syntax.proofs.lemmas.BracketNamed.{class_passed, equivalence_passed}
 use Rattle.re_syntax.proofs.lemmas.BracketFaultsReading.{fault_here}
 use Rattle.re_syntax.proofs.bracket.read_element.Goals as goal
 
 pub returns-in-Some-clause-read : goal.returns-in-Some-clause-read
-returns-in-Some-clause-read c = rw c.class.ensures (class_passed c.in-Some.class c.if-skip.ensures.skipped c.in-Some.ensures)
+returns-in-Some-clause-read c = rw c.class.ensures (class_passed _ c.if-skip.ensures.skipped c.in-Some.ensures)
 
 pub returns-in-None-clause-refused : goal.returns-in-None-clause-refused
 returns-in-None-clause-refused c =
@@ -35,15 +35,12 @@ read_point_or_range-requires-clause-goes_on c = rw (c.if-skip-2.ensures.else_sam
 
 pub returns-clause-read : goal.returns-clause-read
 returns-clause-read c =
-    subst (λ k. IfOk c.read_point_or_range.result (λ found. Element c.args.place (left k) (left c.read_point_or_range.new.cursor) (members found.0) found.1))
-    (c.if-skip-2.ensures.else_same ∙ c.if-skip.ensures.else_same) c.read_point_or_range.ensures.read
+    rw (c.if-skip-2.ensures.else_same ∙ c.if-skip.ensures.else_same) at c.read_point_or_range.ensures.read
 
 pub returns-clause-refused : goal.returns-clause-refused
 returns-clause-refused c =
-    subst (λ k. IfErr c.read_point_or_range.result (Fails (ElementFault (from_place c.args.opening k) c.args.place (left k)) k))
-    (c.if-skip-2.ensures.else_same ∙ c.if-skip.ensures.else_same) c.read_point_or_range.ensures.refused
+    rw (c.if-skip-2.ensures.else_same ∙ c.if-skip.ensures.else_same) at c.read_point_or_range.ensures.refused
 
 pub returns-clause-same_text : goal.returns-clause-same_text
 returns-clause-same_text c =
-    subst (λ k. OnOk c.read_point_or_range.result (c.read_point_or_range.new.cursor.text ≡ k.text))
-    (c.if-skip-2.ensures.else_same ∙ c.if-skip.ensures.else_same) c.read_point_or_range.ensures.same_text
+    rw (c.if-skip-2.ensures.else_same ∙ c.if-skip.ensures.else_same) at c.read_point_or_range.ensures.same_text

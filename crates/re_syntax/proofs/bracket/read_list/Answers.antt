@@ -1,4 +1,4 @@
-use Rattle.re_syntax.proofs.Prelude.{ap, ◌∙◌, err_from_is_err_and}
+use Rattle.re_syntax.proofs.Prelude.{◌∙◌, err_from_is_err_and}
 use Rattle.re_syntax.specs.BracketFaults.{here}
 use Rattle.re_syntax.proofs.lemmas.BracketFaultsReading.{fault_as, list_fault}
 use Rattle.re_syntax.proofs.lemmas.BracketLists.{goes_on-first, goes_on-next, goes_on-last, element-shortens}
@@ -23,7 +23,7 @@ loop-place-smaller c = element-shortens (rw c.loop-place-test.ensures.else_same 
 
 pub loop-place-preserved : goal.loop-place-preserved
 loop-place-preserved c = record {
-  same_text = c.in_ok-bytes.ensures.same_text ∙ ap (λ k. k.text) c.loop-place-test.ensures.else_same ∙ c.loop-place.invariant.same_text;
+  same_text = cc (c.in_ok-bytes.ensures.same_text, c.loop-place-test.ensures.else_same, c.loop-place.invariant.same_text);
   goes_on = rw c.union-set.ensures
       (goes_on-next c.loop-place.invariant.goes_on (rw c.loop-place-test.ensures.else_same at c.in_ok-bytes.ensures.read));
 }

@@ -1,6 +1,5 @@
-use Rattle.re_syntax.proofs.Prelude.{◌≢◌, [], codes, ◌++◌, sym, ◌∙◌, subst, left, BadRange}
-use Rattle.re_syntax.specs.BracketFaults.{ElementFault, cut_off, stray}
-use Rattle.re_syntax.specs.Working.BracketSteps.{from_place}
+use Rattle.re_syntax.proofs.Prelude.{◌≢◌, [], sym, ◌∙◌, left}
+use Rattle.re_syntax.specs.BracketFaults.{cut_off, stray}
 use Rattle.re_syntax.proofs.lemmas.BracketFaultsReading.{hyphen_within}
 use Rattle.re_syntax.proofs.bracket.stray_hyphen.Goals as goal
 
@@ -10,7 +9,7 @@ returns-in-Some c p n m =
     let some : left cursor ≢ [] = λ e. (let f = sym c.in-Some.ensures.1 ∙ e in cc) in
     record {
       within = hyphen_within cursor (left cursor) c.requires.hyphen_before;
-      is_fault = subst (ElementFault (from_place c.args.opening cursor) p (codes "--" ++ left cursor) BadRange) (sym c.requires.hyphen_before) (stray n some m);
+      is_fault = rw c.requires.hyphen_before (stray n some m);
     }
 
 pub returns-in-None : goal.returns-in-None

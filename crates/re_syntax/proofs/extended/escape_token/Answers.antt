@@ -1,4 +1,4 @@
-use Rattle.re_syntax.proofs.Prelude.{err_from_is_err_and, ap, one_of}
+use Rattle.re_syntax.proofs.Prelude.{err_from_is_err_and}
 use Rattle.re_syntax.specs.ExtendedTokens.{in_escape}
 use Rattle.re_syntax.specs.ExtendedTokens.{escaped}
 use Rattle.re_syntax.proofs.lemmas.BracketFaultsReading.{fault_as}
@@ -11,4 +11,4 @@ returns-in_err-byte-clause-refused c =
     rw (q.1, q.2) (λ p. fault_as c.in_err-byte.ensures.refused (λ kind from f. in_escape f))
 
 pub returns-clause-read : goal.returns-clause-read
-returns-clause-read c g p = escape_stands _ c.in_ok-byte.ensures.read (ap one_of c.only.ensures) (escaped _ c.in_ok-byte.ensures.read.allowed)
+returns-clause-read c g p = escape_stands _ c.in_ok-byte.ensures.read (rw c.only.ensures) (escaped _ c.in_ok-byte.ensures.read.allowed)

@@ -13,7 +13,7 @@ returns-in-Some-clause-read c =
     times_stand found.0 found.1 (dup_length found.1.duplication) (repeats found.1.duplication)
 
 pub atom_at-requires : goal.atom_at-requires
-atom_at-requires c = byte_here c.args.text.now c.args.at c.requires c.in-91.is
+atom_at-requires c = byte_here _ _ c.requires c.in-91.is
 
 pub returns-in_err-atom-in-91-clause-refused : goal.returns-in_err-atom-in-91-clause-refused
 returns-in_err-atom-in-91-clause-refused c =
@@ -47,4 +47,4 @@ returns-in_default-text-clause-read c =
     let not_caret : b ≢ 94 = search rules in
     byte_stands c.requires refl
     (rw c.single_token.ensures
-    (single b (rw (front_here c.args.text.now c.args.at c.requires refl) at none) not_bracket not_backslash not_group not_dollar not_bar not_caret))
+    (single b (rw (front_here _ _ c.requires refl) at none) not_bracket not_backslash not_group not_dollar not_bar not_caret))

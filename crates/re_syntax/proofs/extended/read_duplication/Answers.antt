@@ -1,4 +1,4 @@
-use Rattle.re_syntax.proofs.Prelude.{codes, refl, opens_interval}
+use Rattle.re_syntax.proofs.Prelude.{refl, opens_interval}
 use Rattle.re_syntax.specs.declared.tokens.ItemPlace.TheVariants.{Later}
 use Rattle.re_syntax.specs.Extended.{interval}
 use Rattle.re_syntax.specs.ExtendedTokens.{ExtendedTokenFault, disallowed}
@@ -7,10 +7,10 @@ use Rattle.re_syntax.proofs.lemmas.TokenReading.{closing_no_part, interval_stand
 use Rattle.re_syntax.proofs.extended.read_duplication.Goals as goal
 
 pub read_interval-requires-clause-closes : goal.read_interval-requires-clause-closes
-read_interval-requires-clause-closes c = closing_no_part 125 (codes "") refl refl
+read_interval-requires-clause-closes c = closing_no_part _ _ refl refl
 
 pub returns-in-None-clause-read : goal.returns-in-None-clause-read
-returns-in-None-clause-read c = none_at_end c.args.text.now c.args.at c.in-None.ensures
+returns-in-None-clause-read c = none_at_end _ _ c.in-None.ensures
 
 pub returns-in-Some-sign-clause-read : goal.returns-in-Some-sign-clause-read
 returns-in-Some-sign-clause-read c = sign_stands c.in-Some.ensures c.in-Some-sign.ensures

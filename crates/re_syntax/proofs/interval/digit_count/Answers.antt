@@ -4,8 +4,8 @@ use Rattle.re_syntax.proofs.interval.digit_count.Goals as goal
 
 pub returns-in-Some : goal.returns-in-Some
 returns-in-Some c =
-    counted c.args.text.now c.in-Some.count (search rules) (λ k below. digit_from (get_or c.args.text.now k 0) (search rules))
+    counted _ _ (search rules) (λ k below. digit_from (get_or c.args.text.now k 0) (search rules))
     (not_digit (get_or c.args.text.now c.in-Some.count 0) (search rules))
 
 pub returns-in-None : goal.returns-in-None
-returns-in-None c = counted-all c.args.text.now (λ k below. digit_from (get_or c.args.text.now k 0) (search rules))
+returns-in-None c = counted-all _ (λ k below. digit_from (get_or c.args.text.now k 0) (search rules))

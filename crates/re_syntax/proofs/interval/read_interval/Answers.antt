@@ -5,7 +5,7 @@ pub returns-in_err-least : goal.returns-in_err-least
 returns-in_err-least c = rw c.from_residual.ensures (none_without_number _ c.in_err-least.ensures c.in_default.ensures)
 
 pub returns-in-Some : goal.returns-in-Some
-returns-in-Some c = up_to_found c.args.closing.now c.in-Some.ensures c.read_greatest.result c.read_greatest.ensures
+returns-in-Some c = up_to_found _ c.in-Some.ensures _ c.read_greatest.ensures
 
 pub returns-in_err-comma : goal.returns-in_err-comma
 returns-in_err-comma c =

@@ -1,11 +1,11 @@
-use Rattle.re_syntax.proofs.Prelude.{[], sym, ap, ◌∙◌, choice, up_to_word, err_from_is_err_and}
+use Rattle.re_syntax.proofs.Prelude.{[], sym, ◌∙◌, choice, err_from_is_err_and}
 use Rattle.re_syntax.specs.Working.Builds.{branches_of, build_all, nothing_built}
 use Rattle.re_syntax.proofs.lemmas.BuildingLaws.{built_spelled}
 use Rattle.re_syntax.proofs.lemmas.ShapeLaws.{reaches_start, at_end, positions-choice, positions-branches}
 use Rattle.re_syntax.proofs.reading.count_positions.Goals as goal
 
 pub tokens-init : goal.tokens-init
-tokens-init c = ([], reaches_start c.args.syntax c.args.text.now c.at_start-shape.ensures.shows c.at_start-shape.ensures.counts)
+tokens-init c = ([], reaches_start _ _ c.at_start-shape.ensures.shows c.at_start-shape.ensures.counts)
 
 pub returns-in_err-beyond-clause-refused : goal.returns-in_err-beyond-clause-refused
 returns-in_err-beyond-clause-refused c =
@@ -27,5 +27,5 @@ returns-clause-counted c =
     record {
       expression = choice (branches_of level);
       spelled = built_spelled cut;
-      counted = count ∙ ap up_to_word (sym (positions-choice (branches_of level) ∙ positions-branches level));
+      counted = cc (sym (positions-choice _ ∙ positions-branches level));
     }

@@ -13,4 +13,4 @@ returns-in_err-take-clause-refused c =
     rw (q.1, q.2) (λ done r. deep_met r _ c.len-in_group.ensures.value c.in_ok-token.ensures.read c.in_err-take.ensures.refused)
 
 pub returns-clause-read : goal.returns-clause-read
-returns-clause-read c done r = reaches_on r _ c.len-in_group.ensures.value c.in_ok-token.ensures.read c.in_ok-take.ensures.read
+returns-clause-read c _ r = reaches_on r _ c.len-in_group.ensures.value c.in_ok-token.ensures.read c.in_ok-take.ensures.read

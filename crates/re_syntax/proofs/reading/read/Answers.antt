@@ -1,5 +1,5 @@
-use Rattle.re_syntax.proofs.Prelude.{[], inr, sym, ap, ◌∙◌, subst, positions, up_to_word, IsSpelled, err_from_is_err_and}
-use Rattle.re_syntax.specs.Working.Builds.{branches_of, build_all, nothing_built}
+use Rattle.re_syntax.proofs.Prelude.{[], inr, sym, ap, ◌∙◌, up_to_word, err_from_is_err_and}
+use Rattle.re_syntax.specs.Working.Builds.{build_all, nothing_built}
 use Rattle.re_syntax.proofs.lemmas.BuildingLaws.{builds_more, built_spelled}
 use Rattle.re_syntax.proofs.lemmas.ShapeLaws.{reaches_start, at_end, positions-choice, positions-branches}
 use Rattle.re_syntax.proofs.lemmas.SpelledUnique.{spells_one}
@@ -7,7 +7,7 @@ use Rattle.re_syntax.proofs.reading.read.Goals as goal
 
 pub tokens-init : goal.tokens-init
 unfolding build_all
-tokens-init c = ([], reaches_start c.args.syntax c.args.text.now c.at_start-shape.ensures.shows c.at_start-shape.ensures.counts, c.nothing-building.ensures)
+tokens-init c = ([], reaches_start _ _ c.at_start-shape.ensures.shows c.at_start-shape.ensures.counts, c.nothing-building.ensures)
 
 pub returns-in_err-token-clause-refused : goal.returns-in_err-token-clause-refused
 returns-in_err-token-clause-refused c =
@@ -30,7 +30,7 @@ pub returns-clause-read : goal.returns-clause-read
 returns-clause-read c =
     let (done, r, b) = c.tokens.invariant in
     let cut = (c.in_ok-positions.ensures.whole.ends c.args.syntax c.args.text.now done (at_end r c.tokens-test.false)).0 in
-    subst (IsSpelled c.args.syntax c.args.text.now) (sym (c.in_ok-tree.ensures.made (build_all done nothing_built).level b.level)) (built_spelled cut)
+    rw (c.in_ok-tree.ensures.made (build_all done nothing_built).level b.level) (built_spelled cut)
 
 pub returns-clause-only : goal.returns-clause-only
 returns-clause-only c other spelled = spells_one c.args.text.now c.args.syntax other _ spelled (returns-clause-read c)
@@ -40,4 +40,4 @@ returns-clause-counted c =
     let (done, r, b) = c.tokens.invariant in
     let level = (build_all done nothing_built).level in
     (c.in_ok-positions.ensures.whole.ends c.args.syntax c.args.text.now done (at_end r c.tokens-test.false)).1
-    ∙ ap up_to_word (sym (ap positions (c.in_ok-tree.ensures.made level b.level) ∙ positions-choice (branches_of level) ∙ positions-branches level))
+    ∙ ap up_to_word (sym (cc (c.in_ok-tree.ensures.made level b.level, positions-choice _, positions-branches _)))

@@ -1,6 +1,5 @@
-use Rattle.re_syntax.proofs.Prelude.{refl, sym, ap, subst, arith, length, []}
-use Rattle.re_syntax.specs.Working.Mirrors.{Mirrors, neither}
-use Rattle.re_syntax.specs.Working.ShapeSteps.{IsAround, IsCounted}
+use Rattle.re_syntax.proofs.Prelude.{refl, ap, arith, length}
+use Rattle.re_syntax.specs.Working.Mirrors.{neither}
 use Rattle.re_syntax.proofs.shape.at_start.Goals as goal
 
 pub returns-clause-shows : goal.returns-clause-shows
@@ -8,9 +7,9 @@ returns-clause-shows c text = record {
   place_is = refl;
   last_is = refl;
   height_is = refl;
-  around = subst (λ gs. Mirrors (IsAround text) gs []) (sym c.new.ensures) neither;
+  around = rw c.new.ensures neither;
   bounded = record { last_fits = omega (arith, ap length c.new.ensures); height_fits = omega (arith, ap length c.new.ensures) };
 }
 
 pub returns-clause-counts : goal.returns-clause-counts
-returns-clause-counts c = record { before = refl; item = refl; around = subst (λ gs. Mirrors IsCounted gs []) (sym c.new.ensures) neither }
+returns-clause-counts c = record { before = refl; item = refl; around = rw c.new.ensures neither }

@@ -1,12 +1,12 @@
-use Rattle.re_syntax.proofs.Prelude.{refl, ap, ◌∙◌, ◌*◌, up_to_word}
+use Rattle.re_syntax.proofs.Prelude.{refl}
 use Rattle.re_syntax.proofs.lemmas.ShapeLaws.{item_taken, item_refused}
 use Rattle.re_syntax.proofs.shape.repeat.Goals as goal
 
 pub returns-then-shape-len-ge-MOST_LEVELS-clause-refused : goal.returns-then-shape-len-ge-MOST_LEVELS-clause-refused
 returns-then-shape-len-ge-MOST_LEVELS-clause-refused c =
-    item_refused c.args.counts.least c.args.counts.most c.len.ensures.value c.if-shape-len-ge-MOST_LEVELS.true c.too_deep.ensures
+    item_refused _ _ c.len.ensures.value c.if-shape-len-ge-MOST_LEVELS.true c.too_deep.ensures
 
 pub returns-clause-read : goal.returns-clause-read
 returns-clause-read c =
-    item_taken c.args.counts.least c.args.counts.most c.len.ensures.value c.if-shape-len-ge-MOST_LEVELS.false
-    (c.saturating_mul-shape.ensures ∙ ap (λ n. up_to_word (n * c.args.shape.now.item)) c.copies_of.ensures) refl refl c.max-shape.ensures refl refl refl
+    item_taken _ _ c.len.ensures.value c.if-shape-len-ge-MOST_LEVELS.false
+    (cc (c.saturating_mul-shape.ensures, c.copies_of.ensures)) refl refl c.max-shape.ensures refl refl refl

@@ -1,5 +1,4 @@
 use Rattle.re_syntax.proofs.lemmas.ShapeLaws.{bar_taken, lead_taken, atom_taken}
-use Rattle.re_syntax.specs.Working.TokenSteps.{atom_expression}
 use Rattle.re_syntax.proofs.shape.take.Goals as goal
 
 pub returns-in-Bar-clause-read : goal.returns-in-Bar-clause-read
@@ -10,4 +9,4 @@ returns-in-Lead-clause-read c = rw c.in-Lead.is (lead_taken c.go_on-in-Lead.ensu
 
 pub returns-in-Atom-clause-read : goal.returns-in-Atom-clause-read
 returns-in-Atom-clause-read c =
-    rw c.in-Atom.is (atom_taken (atom_expression c.in-Atom.atom) c.positions_of.ensures.counted c.positions_of.ensures.few c.go_on-in-Atom.ensures)
+    rw c.in-Atom.is (atom_taken _ c.positions_of.ensures.counted c.positions_of.ensures.few c.go_on-in-Atom.ensures)

@@ -9,7 +9,7 @@ places-init c = record {
   in_trie = c.requires.table.trie.some;
   stands = λ all t. nothing_read all 0 (keys c.args.self.now.fold c.args.line.now) t.trie.root (omega arith);
   added = λ all t. adds_no_ends (OccursBy all c.args.start (keys c.args.self.now.fold c.args.line.now) 0) c.args.line.now c.args.ends.now c.requires.fits
-      (λ i m lt p. let end = p.2 in let o = p.3 in let low = o.0 in let on = o.1 in omega (arith, end, low, on));
+      (λ i m lt p. omega arith);
 }
 
 -- the ends of the strings that end at one place more
@@ -17,9 +17,9 @@ one_place : (all : Labels) (start place node : ℕ) (line keyed : Text) (first e
     → (length (all.label node) ≤ place + 1 → AddsEnds (λ i m. (n : ℕ) × (m < start + (place + 1)) × (i + n ≡ place + 1) × EndsWith all.strings (all.label node) n) ends ends more)
     → AddsEnds (OccursBy all start keyed (place + 1)) line first more
 one_place all start place node line keyed first ends more inside stands had put =
-    let size_read = node_length all 0 keyed (place + 1) node (omega (arith, inside)) stands in
+    let size_read = node_length all 0 keyed (place + 1) node (omega arith) stands in
     adds_more_ends (OccursBy all start keyed place) (λ i m. (n : ℕ) × (m < start + (place + 1)) × (i + n ≡ place + 1) × EndsWith all.strings (all.label node) n) (OccursBy all start keyed (place + 1))
-    line ends first ends more had.0 had (put (omega (arith, size_read))) (λ i m lt. one_place_more all keyed (place + 1) node (omega (arith, inside)) stands start place refl i m)
+    _ _ _ _ _ had.0 had (put (omega arith)) (λ i m lt. one_place_more all keyed (place + 1) node (omega arith) stands start place refl i m)
 
 pub places-preserved : goal.places-preserved
 places-preserved c =
@@ -44,9 +44,9 @@ places-preserved c =
 pub returns : goal.returns
 returns c = λ all t.
     let line = keys c.args.self.now.fold c.args.line.now in
-    let size : length line ≡ length c.args.line.now = length-map c.args.line.now (key c.args.self.now.fold) in
-    same_ends_added (OccursBy all c.args.start line c.places.place) (λ i m. (j : ℕ) × (m < c.args.start + j) × Occurs all.strings 0 line i j) c.args.line.now c.args.ends.now c.places.ends (c.places.invariant.added all t)
+    let size = length-map c.args.line.now (key c.args.self.now.fold) in
+    same_ends_added (OccursBy all c.args.start line c.places.place) (λ i m. (j : ℕ) × (m < c.args.start + j) × Occurs all.strings 0 line i j) _ _ _ (c.places.invariant.added all t)
     (λ i m lt. (
       (λ p. (p.0, p.1, p.3)),
-      (λ p. let end = p.2.2 in (p.0, p.1, omega (arith, end, size, c.places-test.false), p.2)),
+      (λ p. let end = p.2.2 in (p.0, p.1, omega (arith, c.places-test.false), p.2)),
     ))

@@ -1,4 +1,4 @@
-use Rattle.re_strings.proofs.Prelude.{◌≡◌, ℕ, ◌-◌, ◌<◌, ap, ◌∙◌, length, slice_index, arith, dec_le, length-map, key, keys, Labels, IsTableOf, Occurs}
+use Rattle.re_strings.proofs.Prelude.{◌≡◌, ℕ, ◌-◌, ◌<◌, length, slice_index, arith, dec_le, length-map, key, keys, Labels, IsTableOf, Occurs}
 use Rattle.re_strings.proofs.lemmas.SetSearch.{row_read, longest_ends_since, none_up_to, stands_at_first}
 use Rattle.re_strings.proofs.aho_corasick.AhoCorasick.ended_by.Goals as goal
 
@@ -7,23 +7,23 @@ places-init c = record {
   within = omega arith;
   in_trie = c.requires.table.trie.some;
   stands = λ all t. stands_at_first all 0 (keys c.args.self.now.fold c.args.line.now) t.trie.root (omega arith);
-  none = λ all t i j le o. let on = o.1 in omega (arith, on, le);
+  none = λ all t i j le o. omega arith;
 }
 
 pub returns-then-index-gt0-clause-ends : goal.returns-then-index-gt0-clause-ends
 returns-then-index-gt0-clause-ends c = λ all t.
     let line = keys c.args.self.now.fold c.args.line.now in
-    let size : length line ≡ length c.args.line.now = length-map c.args.line.now (key c.args.self.now.fold) in
+    let size = length-map c.args.line.now (key c.args.self.now.fold) in
     let outputs = c.args.self.now.outputs.items in
     let node = c.pass-beyond.result.1 in
-    let in_rows : node < length outputs = let r = c.requires.table.outputs in let w = c.pass-beyond.ensures.in_trie in omega (arith, r, w) in
-    let read = row_read outputs node c.index.result.now in_rows c.index.ensures in
+    let in_rows : node < length outputs = omega arith in
+    let read = row_read outputs node in_rows c.index.ensures in
     let stands = c.pass-beyond.ensures.stands all t 0 (omega arith) (c.places.invariant.stands all t) in
     let e = length (all.label (slice_index outputs node)) in (
       (
         c.pass-beyond.result.0 - e,
-        longest_ends_since all 0 line c.pass-beyond.result.0 c.pass-beyond.result.1 e (let w = c.pass-beyond.ensures.on.1 in omega (arith, size, w)) stands
-            (t.outputs node c.pass-beyond.ensures.in_trie).ends ((t.outputs node c.pass-beyond.ensures.in_trie).some (omega (arith, read, c.if-index-gt0.true))),
+        longest_ends_since _ 0 _ (omega arith) stands
+            (t.outputs node c.pass-beyond.ensures.in_trie).ends ((t.outputs node c.pass-beyond.ensures.in_trie).some (omega (arith, c.if-index-gt0.true))),
       ),
       λ i j below o. before_here all t i j below o,
     )
@@ -31,7 +31,7 @@ returns-then-index-gt0-clause-ends c = λ all t.
     before_here : (all : Labels) → IsTableOf all c.args.self.now → (i j : ℕ) → j < c.pass-beyond.result.0 → ¬ Occurs all.strings 0 (keys c.args.self.now.fold c.args.line.now) i j
     before_here all t i j below o = elim (dec_le j c.places.place) [
       | yes le ↦ c.places.invariant.none all t i j le o
-      | no gt ↦ c.pass-beyond.ensures.between all t 0 (omega arith) (c.places.invariant.stands all t) i j (omega (arith, gt)) below o
+      | no gt ↦ c.pass-beyond.ensures.between all t 0 (omega arith) (c.places.invariant.stands all t) i j (omega arith) below o
     ]
 
 pub returns-then-index-gt0-clause-within : goal.returns-then-index-gt0-clause-within
@@ -39,26 +39,26 @@ returns-then-index-gt0-clause-within c = let on = c.pass-beyond.ensures.on in (o
 
 pub places-preserved : goal.places-preserved
 places-preserved c =
-    let size : length (keys c.args.self.now.fold c.args.line.now) ≡ length c.args.line.now = length-map c.args.line.now (key c.args.self.now.fold) in
+    let size = length-map c.args.line.now (key c.args.self.now.fold) in
     let outputs = c.args.self.now.outputs.items in
     let node = c.pass-beyond.result.1 in
-    let in_rows : node < length outputs = let r = c.requires.table.outputs in let w = c.pass-beyond.ensures.in_trie in omega (arith, r, w) in
-    let read = row_read outputs node c.index.result.now in_rows c.index.ensures in
+    let in_rows : node < length outputs = omega arith in
+    let read = row_read outputs node in_rows c.index.ensures in
     record {
       within = c.pass-beyond.ensures.on.1;
       in_trie = c.pass-beyond.ensures.in_trie;
       stands = λ all t. c.pass-beyond.ensures.stands all t 0 (omega arith) (c.places.invariant.stands all t);
       none = λ all t.
           none_up_to all 0 (keys c.args.self.now.fold c.args.line.now) c.places.place c.pass-beyond.result.0 c.pass-beyond.result.1 (length (all.label (slice_index outputs node)))
-          (let w = c.pass-beyond.ensures.on.1 in omega (arith, size, w)) (c.places.invariant.none all t)
+          (omega arith) (c.places.invariant.none all t)
           (c.pass-beyond.ensures.between all t 0 (omega arith) (c.places.invariant.stands all t))
           (c.pass-beyond.ensures.stands all t 0 (omega arith) (c.places.invariant.stands all t))
           (t.outputs node c.pass-beyond.ensures.in_trie).ends
-          (let root : slice_index outputs node ≡ 0 = omega (arith, read, c.if-index-gt0.false) in let empty : length (all.label 0) ≡ 0 = ap length t.trie.root in ap (λ n. length (all.label n)) root ∙ empty);
+          (let root : slice_index outputs node ≡ 0 = omega (arith, c.if-index-gt0.false) in let empty : length (all.label 0) ≡ 0 = rw t.trie.root in cc);
     }
 
 pub returns-clause-ends : goal.returns-clause-ends
 returns-clause-ends c = λ all t i j o.
-    let size : length (keys c.args.self.now.fold c.args.line.now) ≡ length c.args.line.now = length-map c.args.line.now (key c.args.self.now.fold) in
+    let size = length-map c.args.line.now (key c.args.self.now.fold) in
     let within = c.places.invariant.within in
-    c.places.invariant.none all t i j (let on_line = o.2 in omega (arith, size, within, on_line, c.places-test.false)) o
+    c.places.invariant.none all t i j (let on_line = o.2 in omega (arith, c.places-test.false)) o

@@ -1,4 +1,4 @@
-use Rattle.re_strings.proofs.Prelude.{◌≡◌, slice_index, sym, ap, subst, ◌∙◌, arith, EndsIn}
+use Rattle.re_strings.proofs.Prelude.{slice_index, sym, ap, ◌∙◌, arith}
 use Rattle.re_strings.proofs.lemmas.SetSearch.{row_read}
 use Rattle.re_strings.proofs.aho_corasick.AhoCorasick.ending.Goals as goal
 
@@ -9,9 +9,9 @@ returns c = λ all t.
     let node = c.args.node in
     let in_trie = c.requires.in_trie in
     let rows = c.requires.table.outputs in
-    let output : slice_index outputs node ≡ c.index.result.now = row_read outputs node c.index.result.now (omega (arith, rows, in_trie)) c.index.ensures in
-    let below = c.requires.table.below node (omega (arith, rows, in_trie)) in
+    let output = row_read outputs node (omega arith) c.index.ensures in
+    let below = c.requires.table.below node (omega arith) in
     let in_depths = c.requires.table.depths in
-    let depth : slice_index depths c.index.result.now ≡ c.index-2.result.now = row_read depths c.index.result.now c.index-2.result.now (omega (arith, in_depths, below, output, in_trie)) c.index-2.ensures in
-    let long = t.depths (slice_index outputs node) (omega (arith, below, in_trie)) in
-    subst (EndsIn all.strings (all.label node)) (sym long ∙ ap (slice_index depths) output ∙ depth) (t.outputs node in_trie).ends
+    let depth = row_read depths c.index.result.now (omega arith) c.index-2.ensures in
+    let long = t.depths (slice_index outputs node) (omega arith) in
+    rw (sym long ∙ ap (slice_index depths) output ∙ depth) at (t.outputs node in_trie).ends

@@ -1,4 +1,4 @@
-use Rattle.re_strings.proofs.Prelude.{◌≡◌, ◌+◌, ◌<◌, length, subst, arith, length-map, key, keys, NoneBegins}
+use Rattle.re_strings.proofs.Prelude.{◌+◌, ◌<◌, length, arith, length-map, key, keys}
 use Rattle.re_strings.proofs.lemmas.SetLeaps.{none_begins_on, none_begins_to_end}
 use Rattle.re_strings.proofs.leaps.Leaps.leap.Goals as goal
 
@@ -14,20 +14,20 @@ windows-preserved c =
     let low = c.windows.invariant.low in
     let on = c.stride-at-in-windows.ensures.within in
     record {
-      low = let far = on.0 in omega (arith, low, far);
+      low = omega arith;
       high = on.1;
       none = λ strings a b.
           let line = keys c.args.fold c.args.line.now in
           let next = c.windows.at + c.near_shift-shift.result in
-          none_begins_on strings line c.args.place next c.stride-at-in-windows.result on.0
-          (none_begins_on strings line c.args.place c.windows.at next (omega arith) (c.windows.invariant.none strings a b) (c.near_shift-shift.ensures.none strings a b))
+          none_begins_on _ _ _ _ _ on.0
+          (none_begins_on _ _ _ _ _ (omega arith) (c.windows.invariant.none strings a b) (c.near_shift-shift.ensures.none strings a b))
           (c.stride-at-in-windows.ensures.none strings a);
     }
 
 pub returns-clause-none : goal.returns-clause-none
 returns-clause-none c = λ strings a b.
     let line = keys c.args.fold c.args.line.now in
-    let size : length line ≡ length c.args.line.now = length-map c.args.line.now (key c.args.fold) in
+    let size = length-map c.args.line.now (key c.args.fold) in
     let high = c.windows.invariant.high in
-    let past : length line < c.windows.at + c.args.self.now.window = omega (arith, size, high, c.windows-test.false) in
-    subst (NoneBegins strings line c.args.place) size (none_begins_to_end strings line c.args.self.now a c.args.place c.windows.at past (c.windows.invariant.none strings a b))
+    let past : length line < c.windows.at + c.args.self.now.window = omega (arith, c.windows-test.false) in
+    rw size at (none_begins_to_end _ _ _ a _ _ past (c.windows.invariant.none strings a b))

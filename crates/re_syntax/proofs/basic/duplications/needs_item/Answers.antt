@@ -16,5 +16,5 @@ returns c =
     let t = drop c.args.at c.args.text.now in
     let no_interval = nothing_found _ _ c.after.result c.is_some.ensures c.if-is_some.false c.after.ensures in
     let no_plus = nothing_found _ _ c.after-2.result c.is_some-2.ensures c.if-is_some-2.false c.after-2.ensures in
-    either_found (NeedsItem t) (¬ NeedsItem t) _ _ c.after-3.result c.is_some-3.ensures c.after-3.ensures
+    either_found (NeedsItem t) (¬ NeedsItem t) _ _ _ c.is_some-3.ensures c.after-3.ensures
     (needs_no_item no_interval no_plus) (λ b s. rw s.front needs_question)
