@@ -1,7 +1,7 @@
 -- The words of specs and of std that proofs of this crate use, passed on from one place. Declares nothing.
 pub use Rattle.grep_core.specs.Choose.{EachGives, IfHolds}
 pub use Rattle.grep_core.specs.Files.{AreMeant, File, HasSelected, Inputs, Mean, Selected}
-pub use Rattle.grep_core.specs.Messages.{AnySelected, StatusOf}
+pub use Rattle.grep_core.specs.Messages.{AnySelected}
 pub use Rattle.grep_core.specs.Output.{written}
 pub use Rattle.grep_core.specs.Row.{output_line}
 pub use Rattle.grep_core.specs.Run.{file_at}

@@ -7,7 +7,7 @@ pub use Rattle.grep_core.specs.Matchers.{IsFirstRefused}
 pub use Rattle.grep_core.specs.Messages.{AnySelected, FaultMet, Message, Messages, Reached, StatusOf, Stops, message}
 pub use Rattle.grep_core.specs.Meters.{Steps}
 pub use Rattle.grep_core.specs.Options.{option_of, with_option}
-pub use Rattle.grep_core.specs.Output.{Form, Out, OutAs, SelectedLines, around, counts, form, lines, lines_with, names, nothing, parts, shown_name, shown_number, written}
+pub use Rattle.grep_core.specs.Output.{Form, Out, OutAs, SelectedLines, around, counts, form, lines, lines_with, names, nothing, parts, shown_number, written}
 pub use Rattle.grep_core.specs.Row.{output_line}
 pub use Rattle.grep_core.specs.Run.{file_at}
 pub use Rattle.grep_core.specs.Working.Groups.{GroupedAs, rows_after}
@@ -36,7 +36,7 @@ pub use Rattle.grep_session.specs.Working.Changed.{HasChanged, HasNewParts, IsPa
 pub use Rattle.grep_session.specs.Working.Columns.{AddsColumn, AddsColumns, AreAllParts, AreLeft, AreMatches, ArePartsAgain, IsNextLine, StaysSame, came, had_gone, has_new_parts, is_parted, is_sought, marked_cost, next_line_cost}
 pub use Rattle.grep_session.specs.Working.Kept.{AddsMatching, AreMatching, ArePartsKept, IsColumn, IsFileKept, IsKept, IsNew, chunks_of, chunks_of_files, file_with, has_number, kept_file, kept_lines, lines_of_files, listed_spans, span_places}
 pub use Rattle.grep_session.specs.Working.Refusals.{RefusesFirst, reported_at, reported_by}
-pub use Rattle.grep_session.specs.Working.Report.{FileFits, NextShown, OnLine, PartsFit, Reports, ReportsMessages, SelectedFrom, WritesGroups, any_missing, any_selected, around_rows, context_as, end_of, end_with, has_selected, has_selected_in, is_faulty, is_selected, matches_none, part_rows, place_rows, selected_count, some_selected, status_by_files, status_given}
+pub use Rattle.grep_session.specs.Working.Report.{FileFits, NextShown, OnLine, PartsFit, Reports, ReportsMessages, SelectedFrom, WritesGroups, any_missing, any_selected, context_as, end_of, end_with, has_selected, has_selected_in, is_faulty, is_selected, matches_none, part_rows, place_rows, selected_count, some_selected, status_by_files, status_given}
 pub use Rattle.grep_session.specs.Working.Sessions.{IsSession, LosesMarks, SplicesMark, inputs_of, watched_of}
 pub use Rattle.grep_session.specs.declared.change.Change.{Change}
 pub use Rattle.grep_session.specs.declared.fault.EditFault.{EditFault}
@@ -67,7 +67,7 @@ pub use Rattle.re_syntax.specs.declared.fault.PatternFault.{PatternFault}
 pub use Rattle.re_syntax.specs.declared.syntax.Syntax.{Syntax}
 pub use Rattle.re_syntax.specs.declared.syntax.Syntax.TheVariants.{Fixed}
 pub use Rattle.re_trees.specs.declared.span.Span.{Span}
-pub use Rattle.std.proofs.Common.{All, Any, Bool, Decides, Err, IfOk, IfSome, IsErr, IsTrue, List, MatchBool, MatchOption, None, Ok, Option, Result, Some, [], add-one, ap, append-nil, append_assoc, arith, drop, drop-cons, drop-set-lt, false, filter, get_or, get_or-drop, get_or-set_other, get_or-take, if◌then◌else◌, inl, inr, insert, is_some, le-ltb, length, length-append, length-drop, length-take, length-take-le, lt-ltb, ltb-true, map, nat_eq, nat_le, nat_lt, not, option_map, refl, remove, set, slice_range, slice_set, subst, suc, sym, take, take-append-drop, take-suc, take-take, take_all, true, unwrap_or, zero, ℕ, ◌&&◌, ◌*◌, ◌++◌, ◌+◌, ◌-◌, ◌<◌, ◌==◌, ◌^◌, ◌||◌, ◌↔◌, ◌∙◌, ◌∷◌, ◌≡◌, ◌≢◌, ◌≤◌, ◌⊎◌}
+pub use Rattle.std.proofs.Common.{All, Any, Bool, Decides, Err, IfOk, IfSome, IsErr, IsTrue, List, MatchBool, MatchOption, None, Ok, Option, Result, Some, [], add-one, ap, append-nil, append_assoc, arith, drop, drop-cons, drop-set-lt, false, filter, get_or, get_or-drop, get_or-set_other, get_or-take, if◌then◌else◌, inl, inr, insert, is_some, le-ltb, length, length-append, length-drop, length-take, length-take-le, lt-ltb, map, nat_eq, nat_le, nat_lt, not, option_map, refl, remove, set, slice_range, slice_set, subst, suc, sym, take, take-append-drop, take-suc, take-take, take_all, true, unwrap_or, zero, ℕ, ◌&&◌, ◌*◌, ◌++◌, ◌+◌, ◌-◌, ◌<◌, ◌==◌, ◌^◌, ◌||◌, ◌↔◌, ◌∙◌, ◌∷◌, ◌≡◌, ◌≢◌, ◌≤◌, ◌⊎◌}
 pub use Rattle.std.proofs.Math.Seq.{drop-append_seam, get_or-append_seam, map-set_same, take-append_seam}
 pub use Rattle.std.proofs.lemmas.Bool.{cases_lt, eqb-false, false≢true}
 pub use Rattle.std.proofs.lemmas.Bool.Decides.{nat_tests}
