@@ -299,7 +299,7 @@ fn add_needed(alloc: Global, branch: &Tree, texts: &mut Vec<u8>) -> Result<bool,
         (text : Text) × IsNeeded text (expression_of branch.now) × HasNoNewline text
         × (texts.new.items ≡ texts.old.items ++ (text ++ newline ∷ []))) }
 {
-    let Some(needle) = Needle::of(alloc, branch)? else {
+    let Some(needle) = Needle::of_string(alloc, branch)? else {
         return Ok(false);
     };
     let Some(text) = needle.finder.text() else {

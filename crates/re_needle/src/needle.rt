@@ -61,6 +61,17 @@ impl Needle {
         Ok(run)
     }
 
+    /// The string to look for: the longest or rarest that each match contains. `None` if none of two
+    /// bytes or more is known. The only error is that an allocation failed.
+    pub fn of_string(alloc: Global, tree: &Tree) -> Result<Option<Needle>, AllocError>
+        ensures { IfOk result (IsNeedleFor (expression_of tree.now)) }
+    {
+        let mut marks = Vec::new(alloc);
+        add_outline(alloc, tree, &mut marks)?;
+        let bytes = best_run(&marks, RunKind::Bytes);
+        text_needle(alloc, &marks, bytes.start, 2)
+    }
+
     /// Whether the runs are rare in most texts, and at fewer than `most` of 65,536 places.
     pub fn is_rare(&self, most: u64) -> bool {
         match &self.finder {
