@@ -27,6 +27,5 @@ place_after (atom e) = Later
 place_after (times least most) = Later
 
 -- a token of a fixed string: each byte is one
-pub data FixedToken : Bool → ItemPlace → Text → Text → Token → Type 0 where
-  one_byte : {g : Bool} {p : ItemPlace} {u : Text} (b : ℕ) →
-      FixedToken g p (b ∷ u) u (atom (byte b))
+pub data FixedToken (g : Bool) (p : ItemPlace) : Text → Text → Token → Type 0 where
+  one_byte : {u : Text} (b : ℕ) → FixedToken g p (b ∷ u) u (atom (byte b))

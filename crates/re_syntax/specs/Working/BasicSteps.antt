@@ -2,8 +2,9 @@
 use Rattle.std.specs.Prelude.{◌≡◌, ℕ, ◌++◌, drop, codes}
 use Rattle.re_trees.specs.Bytes.{Text, Begins}
 use Rattle.re_syntax.specs.Working.Ahead.{IsAfter}
-use Rattle.re_syntax.specs.Basic.{ItemPlace, Later, IsAtEnd}
-use Rattle.re_syntax.specs.BasicTokens.{NeedsItem}
+use Rattle.re_syntax.specs.declared.tokens.ItemPlace.{ItemPlace}
+use Rattle.re_syntax.specs.declared.tokens.ItemPlace.TheVariants.{Later}
+use Rattle.re_syntax.specs.BasicTokens.{IsAtEnd, NeedsItem}
 
 -- the text begins with nothing that opens a duplication
 pub record OpensNoDuplication (t : Text) : Type 0 where
