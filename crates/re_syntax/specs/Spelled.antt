@@ -1,7 +1,7 @@
 -- The expression that the text of a pattern spells, and the one that it means (XCU grep, OPTIONS
 -- -E, -F, -i). The text is cut into tokens, and these are read by one grammar for all syntaxes (XBD
 -- 9.5.2, 9.5.3).
-use Rattle.std.specs.Prelude.{◌≡◌, ℕ, Bool, true, false, List, [], ◌∷◌, ◌++◌, Option}
+use Rattle.std.specs.Prelude.{◌≡◌, ℕ, Bool, true, List, [], ◌∷◌, ◌++◌, Option}
 use Rattle.std.specs.Prelude.{if◌then◌else◌}
 use Rattle.re_syntax.specs.declared.syntax.Syntax.{Syntax}
 use Rattle.re_syntax.specs.declared.syntax.Syntax.TheVariants.{Basic, Extended, Fixed}

@@ -1,5 +1,5 @@
 -- The laws of the definitions: one cut, one expression, one split, one list of parts.
-use Rattle.re_syntax.proofs.Prelude.{◌≡◌, ap, FaultKind, Text, Expression, choice, Syntax, Basic, Extended, Fixed, IsSpelled, SpellsOne, HasOneSplit, HasOnePartList}
+use Rattle.re_syntax.proofs.Prelude.{ap, FaultKind, Text, Expression, choice, Syntax, Basic, Extended, Fixed, IsSpelled, SpellsOne, HasOneSplit, HasOnePartList}
 use Rattle.re_syntax.specs.FirstFaults.{start, FirstFault}
 use Rattle.re_syntax.specs.Laws.{HasOneCut}
 use Rattle.re_syntax.specs.Spelled.{by_tokens}
