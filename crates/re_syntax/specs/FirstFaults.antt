@@ -1,7 +1,7 @@
 -- The one cut of a text into tokens, or its one fault: the first from the left that has no token or
 -- goes too deep, or a group that is open at the text's end.
 use Rattle.std.specs.Prelude.{◌≡◌, ℕ, suc, max, ◌+◌, ◌≤◌, Bool, true, false, List, [], ◌∷◌}
-use Rattle.std.specs.Prelude.{Option, length}
+use Rattle.std.specs.Prelude.{length}
 use Rattle.re_syntax.specs.declared.tokens.ItemPlace.{ItemPlace}
 use Rattle.re_syntax.specs.declared.tokens.ItemPlace.TheVariants.{First}
 use Rattle.re_syntax.specs.declared.fault.FaultKind.{FaultKind}
@@ -69,10 +69,10 @@ after t (times least most) c =
     }
 
 -- one level more would pass the limit: a group's, or a duplication's
-pub data IsTooDeep (c : Context) : Token → Type 0 where
-  group : most_levels ≤ length c.around → IsTooDeep c opening
-  item : {least : ℕ} {most : Option ℕ} → most_levels ≤ c.last + length c.around →
-      IsTooDeep c (times least most)
+abbrev pub IsTooDeep : Context → Token → Type 0
+IsTooDeep c opening = most_levels ≤ length c.around
+IsTooDeep c (times least most) = most_levels ≤ c.last + length c.around
+IsTooDeep c k = ⊥
 
 -- a token of the syntax: a fixed string's are its bytes
 abbrev pub IsToken : Syntax → Bool → ItemPlace → Text → Text → Token → Type 0
@@ -98,11 +98,11 @@ module _ (syntax : Syntax) where
   pub data FirstFault : Context → Text → FaultKind → Text → Type 0 where
     no_token : {c : Context} {t from : Text} {kind : FaultKind} →
         IsTokenFault syntax (is_group c.around) c.place t kind from → FirstFault c t kind from
-    too_deep : {c : Context} {t : Text} {k : Token} (u : Text) →
+    too_deep : {c : Context} {t : Text} (k : Token) (u : Text) →
         IsToken syntax (is_group c.around) c.place t u k → IsTooDeep c k → FirstFault c t TooDeep t
     unclosed : {c : Context} {a : Around} {outer : List Around} → c.around ≡ a ∷ outer →
         FirstFault c [] UnclosedGroup a.from
-    later : {c : Context} {t u from : Text} {k : Token} {kind : FaultKind} →
+    later : {c : Context} {t u from : Text} {kind : FaultKind} (k : Token) →
         IsToken syntax (is_group c.around) c.place t u k → ¬ IsTooDeep c k →
         FirstFault (after t k c) u kind from → FirstFault c t kind from
 

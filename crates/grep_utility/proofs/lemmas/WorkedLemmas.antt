@@ -5,7 +5,7 @@ use Rattle.std.specs.Fmt.{digits}
 use Rattle.re_syntax.specs.Lines.{lines_of}
 use Rattle.re_syntax.specs.BasicTokens.{ordinary}
 use Rattle.re_syntax.proofs.lemmas.Decisions.{Any-first, Any-later, Any-cases, Any-none}
-use Rattle.re_syntax.proofs.lemmas.SpelledParts.{token_item, no_items, more_items, last_branch, spells}
+use Rattle.re_syntax.proofs.lemmas.SpelledParts.{single, none, item, last, spells}
 use Rattle.grep_utility.proofs.lemmas.FullLemmas.{predicted}
 
 -- ---- what the words ask for
@@ -23,7 +23,7 @@ row_read = refl
 -- ---- what the pattern means
 
 pub a_meant : IsMeant Basic false (codes "a") (byte 97)
-a_meant = (byte 97, spells (last_branch (more_items (token_item (ordinary 97 refl (λ is. let no : ⊥ = omega (arith, is) in absurd no))) no_items)) (omega arith), refl)
+a_meant = (byte 97, spells (last (item (single (ordinary 97 refl (λ is. let no : ⊥ = omega (arith, is) in absurd no))) none)) (omega arith), refl)
 
 in_itself : Matches (byte 97) (97 ∷ []) false
 in_itself = (0, 1, omega arith, (97, refl, refl, refl))

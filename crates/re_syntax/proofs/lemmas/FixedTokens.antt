@@ -4,7 +4,7 @@ use Rattle.re_syntax.specs.declared.tokens.ItemPlace.{ItemPlace}
 use Rattle.re_syntax.specs.Tokens.{Token, FixedToken, one_byte}
 use Rattle.re_syntax.proofs.lemmas.BracketsUnique.{heads, tails}
 use Rattle.re_syntax.proofs.lemmas.CutsUnique.{IsExact, SameToken}
-use Rattle.re_syntax.proofs.lemmas.SpelledParts.{ItemsRead, token_item, no_items, more_items, last_branch, spells}
+use Rattle.re_syntax.proofs.lemmas.SpelledParts.{ItemsRead, single, none, item, last, spells}
 
 token-unique : {g : Bool} {p : ItemPlace} {t s u v : Text} {j k : Token} → FixedToken g p t u j → FixedToken g p s v k → t ≡ s → SameToken j k u v
 token-unique (one_byte b) (one_byte c) e = record { tokens = rw (heads e); rests = tails e }
@@ -22,9 +22,9 @@ fixed_exact = record {
 }
 
 bytes_read : (t : Text) {p : ItemPlace} {g : Bool} → ItemsRead Fixed g p 0 t [] (map byte t)
-bytes_read [] = no_items
-bytes_read (b ∷ t) = more_items (token_item (one_byte b)) (bytes_read t)
+bytes_read [] = none
+bytes_read (b ∷ t) = item (single (one_byte b)) (bytes_read t)
 
 -- a fixed string spells the sequence of its bytes
 pub fixed_spelled : (t : Text) → IsSpelled Fixed t (sequence (map byte t))
-fixed_spelled t = spells (last_branch (bytes_read t)) (omega arith)
+fixed_spelled t = spells (last (bytes_read t)) (omega arith)

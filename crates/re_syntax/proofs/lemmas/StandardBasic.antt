@@ -4,7 +4,8 @@ use Rattle.re_syntax.specs.declared.tokens.ItemPlace.{ItemPlace}
 use Rattle.re_syntax.specs.BasicTokens as basic
 use Rattle.re_syntax.specs.Working.StandardBasic.{Duplication, star, interval, IsAtEnd as StandardEnd, of_text as standard_of_text, of_group as standard_of_group, Items, none, leading, trailing, item, Item, bracket, period, escaped, ordinary, group, repeated, as_basic}
 use Rattle.re_syntax.proofs.lemmas.BasicTokensUnique.{at_end, ordinary_apart}
-use Rattle.re_syntax.proofs.lemmas.SpelledParts.{ItemReads, ItemsRead, token_item, group_item, repeated_item, no_items, anchor_items, more_items, last_branch, spells}
+use Rattle.re_syntax.proofs.lemmas.SpelledParts.{ItemReads, ItemsRead, BranchesRead, spells}
+use Rattle.re_syntax.proofs.lemmas.SpelledParts as parts
 use Rattle.re_syntax.proofs.lemmas.StandardIntervals.{interval-kept}
 
 end-kept : {t : Text} → StandardEnd t → IsAtEnd t
@@ -33,19 +34,19 @@ items_end (item i is) s a = absurd (item_apart i a)
 
 mutual
   items_read : {p : ItemPlace} {h : ℕ} {t u : Text} {es : List Expression} → Items p h t u es → StandardEnd u → {g : Bool} → ItemsRead Basic g p h t u es
-  items_read none s = no_items
-  items_read (leading is) s = anchor_items (basic.leads refl) (items_read is s)
-  items_read (trailing l) s = more_items (token_item (basic.trails (end-kept l))) no_items
-  items_read (item i is) s = more_items (item_read i (items_end is s)) (items_read is s)
+  items_read none s = parts.none
+  items_read (leading is) s = parts.anchor (basic.leads refl) (items_read is s)
+  items_read (trailing l) s = parts.item (parts.single (basic.trails (end-kept l))) parts.none
+  items_read (item i is) s = parts.item (item_read i (items_end is s)) (items_read is s)
 
   item_read : {p : ItemPlace} {h : ℕ} {t u : Text} {e : Expression} → Item p h t u e → (IsAtEnd u → StandardEnd u) → {g : Bool} → ItemReads Basic g p h t u e
-  item_read (bracket b) n = token_item (basic.bracket b)
-  item_read period n = token_item basic.period
-  item_read (escaped b h) n = token_item (basic.escaped b h)
-  item_read (ordinary b h k) n = token_item (basic.ordinary b h (λ e a. k e (n a)))
-  item_read (group is) n = group_item basic.opens (last_branch (items_read is standard_of_group)) (λ q. basic.closes refl)
-  item_read (repeated i d) n = repeated_item (item_read i (λ a. absurd (at_end {g = false} (basic.repeats refl (duplication-kept d)) a refl))) (basic.repeats refl (duplication-kept d))
+  item_read (bracket b) n = parts.single (basic.bracket b)
+  item_read period n = parts.single basic.period
+  item_read (escaped b h) n = parts.single (basic.escaped b h)
+  item_read (ordinary b h k) n = parts.single (basic.ordinary b h (λ e a. k e (n a)))
+  item_read (group is) n = parts.group basic.opens (parts.last (items_read is standard_of_group)) (λ q. basic.closes refl)
+  item_read (repeated i d) n = parts.repeated (item_read i (λ a. absurd (at_end {g = false} (basic.repeats refl (duplication-kept d)) a refl))) (basic.repeats refl (duplication-kept d))
 
 -- a whole basic expression
 pub basic-kept : {t : Text} {e : Expression} → IsStandardBasic t e → IsSpelled Basic t e
-basic-kept (as_basic is h) = spells (last_branch (items_read is standard_of_text)) h
+basic-kept (as_basic is h) = spells (parts.last (items_read is standard_of_text)) h

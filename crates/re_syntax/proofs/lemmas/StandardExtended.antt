@@ -4,7 +4,8 @@ use Rattle.re_syntax.specs.declared.tokens.ItemPlace.{ItemPlace}
 use Rattle.re_syntax.specs.ExtendedTokens as extended
 use Rattle.re_syntax.specs.Working.StandardExtended.{Duplication, star, plus, question, interval, Branches, last, more, Items, none, anchor, item, Item, bracket, period, dollar, escaped, ordinary, group, repeated, as_extended}
 use Rattle.re_syntax.proofs.lemmas.BracketRests.{ComesAfter, after_two, beyond_byte, bracket_after}
-use Rattle.re_syntax.proofs.lemmas.SpelledParts.{ItemReads, ItemsRead, BranchesRead, token_item, group_item, repeated_item, no_items, anchor_items, more_items, last_branch, more_branches, spells}
+use Rattle.re_syntax.proofs.lemmas.SpelledParts.{ItemReads, ItemsRead, BranchesRead, spells}
+use Rattle.re_syntax.proofs.lemmas.SpelledParts as parts
 use Rattle.re_syntax.proofs.lemmas.StandardIntervals.{interval-kept, no_interval-kept}
 
 -- what follows some bytes of a text without `{,` has none either
@@ -40,22 +41,22 @@ mutual
 -- So each part of the standard is read here.
 mutual
   branches_read : {g : Bool} {h : ℕ} {t u : Text} {es : List Expression} → Branches g h t u es → HasNoOpenComma t → BranchesRead Extended g h t u es
-  branches_read (last is) n = last_branch (items_read is n)
-  branches_read (more is bs) n = more_branches (items_read is n) (λ q. extended.parts) (branches_read bs (lacks_after n (after_two (items_after is) (124 ∷ [], refl))))
+  branches_read (last is) n = parts.last (items_read is n)
+  branches_read (more is bs) n = parts.more (items_read is n) (λ q. extended.parts) (branches_read bs (lacks_after n (after_two (items_after is) (124 ∷ [], refl))))
 
   items_read : {g : Bool} {h : ℕ} {t u : Text} {es : List Expression} → Items g h t u es → HasNoOpenComma t → {p : ItemPlace} → ItemsRead Extended g p h t u es
-  items_read none n = no_items
-  items_read (anchor is) n = anchor_items extended.leads (items_read is (lacks_after n (94 ∷ [], refl)))
-  items_read (item i is) n = more_items (item_read i n) (items_read is (lacks_after n (item_after i)))
+  items_read none n = parts.none
+  items_read (anchor is) n = parts.anchor extended.leads (items_read is (lacks_after n (94 ∷ [], refl)))
+  items_read (item i is) n = parts.item (item_read i n) (items_read is (lacks_after n (item_after i)))
 
   item_read : {g : Bool} {h : ℕ} {t u : Text} {e : Expression} → Item g h t u e → HasNoOpenComma t → {p : ItemPlace} → ItemReads Extended g p h t u e
-  item_read (bracket b) n = token_item (extended.bracket b)
-  item_read period n = token_item extended.period
-  item_read dollar n = token_item extended.dollar
-  item_read (escaped b h) n = token_item (extended.escaped b h)
-  item_read (ordinary b h k) n = token_item (extended.ordinary b h (λ e. no_interval-kept n e (k e)))
-  item_read (group bs) n = group_item extended.opens (branches_read bs (lacks_after n (40 ∷ [], refl))) (λ q. extended.closes refl)
-  item_read (repeated i q) n = repeated_item (item_read i n) (extended.repeats refl (duplication-kept q))
+  item_read (bracket b) n = parts.single (extended.bracket b)
+  item_read period n = parts.single extended.period
+  item_read dollar n = parts.single extended.dollar
+  item_read (escaped b h) n = parts.single (extended.escaped b h)
+  item_read (ordinary b h k) n = parts.single (extended.ordinary b h (λ e. no_interval-kept n e (k e)))
+  item_read (group bs) n = parts.group extended.opens (branches_read bs (lacks_after n (40 ∷ [], refl))) (λ q. extended.closes refl)
+  item_read (repeated i q) n = parts.repeated (item_read i n) (extended.repeats refl (duplication-kept q))
 
 -- a whole extended expression
 pub extended-kept : {t : Text} {e : Expression} → IsStandardExtended t e → HasNoOpenComma t → IsSpelled Extended t e
