@@ -4,16 +4,13 @@
 -- keeps its meaning uses this; no definition rests on it.
 use Rattle.std.specs.Prelude.{◌≡◌, ℕ, suc, max, ◌≤◌, List, [], ◌∷◌, ◌++◌, Option, None, IsTrue}
 use Rattle.std.specs.Prelude.{codes}
-use Rattle.re_trees.specs.Bytes.{Text, any_but_nul}
 use Rattle.re_trees.specs.Expression.{Expression, one_of, begin, end, repeat, byte, sequence}
-use Rattle.re_syntax.specs.declared.tokens.ItemPlace.{ItemPlace}
+use Rattle.re_trees.specs.Bytes.{Text, any_but_nul}
 use Rattle.re_syntax.specs.declared.tokens.ItemPlace.TheVariants.{First, AfterAnchor, Later}
-use Rattle.re_syntax.specs.BasicTokens.{is_ordinary}
-use Rattle.re_syntax.specs.Brackets.{IsBracket}
-use Rattle.re_syntax.specs.Intervals.{IsAllowed}
-use Rattle.re_syntax.specs.Profile.{most_levels, basic_escaped}
-use Rattle.re_syntax.specs.Escapes.{is_undefined}
-use Rattle.re_syntax.specs.Working.StandardIntervals.{Interval}
+use Rattle.re_syntax.specs.{declared.tokens.ItemPlace.ItemPlace, BasicTokens.is_ordinary}
+use Rattle.re_syntax.specs.{Brackets.IsBracket, Intervals.IsAllowed, Profile.most_levels}
+use Rattle.re_syntax.specs.{Profile.basic_escaped, Escapes.is_undefined}
+use Rattle.re_syntax.specs.{Working.StandardIntervals.Interval}
 
 -- `*`, or an interval in `\{` and `\}` (XBD 9.3.6)
 pub data Duplication : Text → ℕ → Option ℕ → Type 0 where
