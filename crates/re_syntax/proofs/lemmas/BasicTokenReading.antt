@@ -2,7 +2,7 @@
 use Rattle.re_syntax.proofs.Prelude.{HasNoTimes, ◌≡◌, ◌≢◌, ℕ, ◌+◌, ◌<◌, ◌≤◌, ◌⊎◌, inl, inr, Bool, [], ◌∷◌, length, drop, Option, IsTrue, codes, refl, sym, ap, ◌∙◌, arith, ne_eqb, cases_eq, length-drop, Text, Begins, one_of, EscapeStands, basic_refused, IsAtEnd, of_text, of_group, of_branch, NeedsItem, needs_interval, needs_plus, needs_question, meant_bytes, HasNoSign, HasNoTail, OpensNoDuplication, is_undefined}
 use Rattle.re_syntax.specs.declared.tokens.ItemPlace.{ItemPlace}
 use Rattle.re_syntax.specs.declared.tokens.ItemPlace.TheVariants.{First, AfterAnchor, Later}
-use Rattle.re_syntax.specs.Basic.{Duplication, is_ordinary, star, plus, question, interval}
+use Rattle.re_syntax.specs.BasicTokens.{Duplication, is_ordinary, star, plus, question, interval}
 use Rattle.re_syntax.specs.Tokens.{atom}
 use Rattle.re_syntax.specs.BasicTokens.{BasicToken, period, ordinary}
 use Rattle.re_syntax.specs.Profile.{basic_escaped}

@@ -1,7 +1,7 @@
 -- Tokens of extended expressions, by the bytes at their place.
 use Rattle.re_syntax.proofs.Prelude.{HasOne, ◌≡◌, ◌≢◌, ℕ, ◌+◌, ◌<◌, ◌≤◌, ◌⊎◌, inl, inr, ◌&&◌, Bool, true, false, nat_eq, [], ◌∷◌, ◌++◌, length, drop, Option, Some, None, MatchOption, MatchBool, is_some, IsTrue, slice_get, codes, refl, sym, ap, ◌∙◌, arith, ne_eqb, cases_eq, append_assoc, length-drop, slice_get_within, Counts, Text, Begins, IsAfter, is_in, OpensDuplication, opens_star, opens_plus, opens_question, opens_interval, HasNoInterval, and_right}
 use Rattle.re_syntax.specs.declared.tokens.ItemPlace.{ItemPlace}
-use Rattle.re_syntax.specs.Extended.{Duplication, is_ordinary, star, plus, question, interval}
+use Rattle.re_syntax.specs.ExtendedTokens.{Duplication, is_ordinary, star, plus, question, interval}
 use Rattle.re_syntax.specs.ExtendedTokens.{ExtendedToken, closes, period, ordinary}
 use Rattle.re_syntax.specs.Working.TokenSteps.{byte_token}
 use Rattle.re_syntax.proofs.lemmas.BracketsUnique.{heads, tails, apart}
@@ -102,6 +102,6 @@ single {g} {p} b {u} m k l o w bar caret = go g (cases_eq b 41) (cases_eq b 46)
     plain g e f (inr n) = rw (e, ne_eqb b 46 n) (ordinary b (stands_for_itself g b u m k n l o w bar caret f) no_interval)
 
     go : (g : Bool) → (b ≡ 41) ⊎ (b ≡ 41 → ⊥) → (b ≡ 46) ⊎ (b ≡ 46 → ⊥) → ExtendedToken g p (b ∷ u) u (byte_token g b)
-    go true (inl e) d = rw e closes
+    go true (inl e) d = rw e (closes refl)
     go true (inr n) d = plain true (ne_eqb b 41 n) (rw (ne_eqb 41 b (λ x. n (sym x))) refl) d
     go false c d = plain _ refl refl d

@@ -1,7 +1,7 @@
 -- A place of an extended expression has one token, or one fault.
 use Rattle.re_syntax.proofs.Prelude.{EscapeFault, undefined, reference, ◌≡◌, ◌≢◌, ℕ, Bool, true, false, [], ◌∷◌, ◌++◌, Option, if◌then◌else◌, IsTrue, codes, refl, sym, ap, ◌∙◌, FaultKind, Extended, Text, byte, is_in, HasNoInterval, OpensDuplication, opens_star, opens_plus, opens_question, opens_interval}
 use Rattle.re_syntax.specs.declared.tokens.ItemPlace.{ItemPlace}
-use Rattle.re_syntax.specs.Extended.{Duplication, is_ordinary, star, plus, question, interval}
+use Rattle.re_syntax.specs.ExtendedTokens.{Duplication, is_ordinary, star, plus, question, interval}
 use Rattle.re_syntax.specs.Tokens.{Token, atom, times}
 use Rattle.re_syntax.specs.ExtendedTokens.{ExtendedToken, opens, closes, parts, leads, repeats, bracket, period, dollar, escaped, ordinary}
 use Rattle.re_syntax.specs.EscapeFaults.{trailing}
@@ -36,10 +36,10 @@ escape_kind (reference h) = refl
 
 abbrev token_kind : {g : Bool} {p : ItemPlace} {t u : Text} {k : Token} → ExtendedToken g p t u k → (n : ℕ) × (kind_of t ≡ n)
 token_kind opens = (40, refl)
-token_kind closes = (41, refl)
+token_kind (closes h) = (41, refl)
 token_kind parts = (124, refl)
 token_kind leads = (94, refl)
-token_kind (repeats {u = u} d) = (0, dup_kind d u)
+token_kind (repeats {u = u} q d) = (0, dup_kind d u)
 token_kind (bracket h) = (91, ap kind_of (bracket_front h).1)
 token_kind period = (46, refl)
 token_kind dollar = (36, refl)
@@ -50,7 +50,7 @@ abbrev fault_kind : {p : ItemPlace} {t v : Text} {k : FaultKind} → ExtendedTok
 fault_kind (in_bracket f) = (91, ap kind_of (bracket_fault_front f).1)
 fault_kind (in_escape f) = (92, escape_kind f)
 fault_kind (needs_item n o) = (0, opens_kind o)
-fault_kind (disallowed c d) = (0, refl)
+fault_kind (disallowed q c d) = (0, refl)
 
 -- where a byte stands for itself, that is the token, and there is no fault
 never : (g : Bool) {b c : ℕ} {t w : Text} → IsTrue (is_ordinary g b) → is_ordinary g c ≡ false → c ∷ t ≡ b ∷ w → ⊥
@@ -59,13 +59,13 @@ never g {b} h k e = let f : is_ordinary g b ≡ false = rw (heads e) at k in cc
 ordinary-only : {g : Bool} {p : ItemPlace} {t u w : Text} {k : Token} {b : ℕ} → ExtendedToken g p t u k → t ≡ b ∷ w → IsTrue (is_ordinary g b) → (b ≡ 123 → HasNoInterval (codes "}") w) → SameToken k (atom (byte b)) u w
 ordinary-only (ordinary c x m) e h n = record { tokens = rw (heads e); rests = tails e }
 ordinary-only {g} opens e h n = absurd (never g h refl e)
-ordinary-only closes e h n = absurd (never true h refl e)
+ordinary-only (closes k) e h n = absurd (never true (rw k at h) refl e)
 ordinary-only {g} parts e h n = absurd (never g h refl e)
 ordinary-only {g} leads e h n = absurd (never g h refl e)
-ordinary-only {g} (repeats star) e h n = absurd (never g h refl e)
-ordinary-only {g} (repeats plus) e h n = absurd (never g h refl e)
-ordinary-only {g} (repeats question) e h n = absurd (never g h refl e)
-ordinary-only (repeats {u = u} (interval form allowed)) e h n = absurd (no_closed (n (sym (heads e))) (closed_by {close = (codes "}")} u form) (tails e))
+ordinary-only {g} (repeats q star) e h n = absurd (never g h refl e)
+ordinary-only {g} (repeats q plus) e h n = absurd (never g h refl e)
+ordinary-only {g} (repeats q question) e h n = absurd (never g h refl e)
+ordinary-only (repeats {u = u} q (interval form allowed)) e h n = absurd (no_closed (n (sym (heads e))) (closed_by {close = (codes "}")} u form) (tails e))
 ordinary-only {g} (bracket x) e h n = absurd (never g h refl (sym (bracket_front x).1 ∙ e))
 ordinary-only {g} period e h n = absurd (never g h refl e)
 ordinary-only {g} dollar e h n = absurd (never g h refl e)
@@ -80,7 +80,7 @@ ordinary-no_fault g (needs_item m opens_star) e h n = never g h refl e
 ordinary-no_fault g (needs_item m opens_plus) e h n = never g h refl e
 ordinary-no_fault g (needs_item m opens_question) e h n = never g h refl e
 ordinary-no_fault g (needs_item m (opens_interval c)) e h n = no_closed (n (sym (heads e))) c (tails e)
-ordinary-no_fault g (disallowed c d) e h n = no_closed (n (sym (heads e))) c (tails e)
+ordinary-no_fault g (disallowed q c d) e h n = no_closed (n (sym (heads e))) c (tails e)
 
 abbrev first_byte : Text → ℕ
 first_byte [] = 0
@@ -105,10 +105,10 @@ token-unique : {g : Bool} {p : ItemPlace} {t s u v : Text} {j k : Token} → Ext
 token-unique (ordinary b h n) y e = swapped (ordinary-only y (sym e) h n)
 token-unique x (ordinary b h n) e = ordinary-only x e h n
 token-unique opens opens e = record { tokens = refl; rests = tails e }
-token-unique closes closes e = record { tokens = refl; rests = tails e }
+token-unique (closes h) (closes k) e = record { tokens = refl; rests = tails e }
 token-unique parts parts e = record { tokens = refl; rests = tails e }
 token-unique leads leads e = record { tokens = refl; rests = tails e }
-token-unique (repeats {u = u} d) (repeats {u = v} c) e = dup-unique d c e
+token-unique (repeats p d) (repeats q c) e = dup-unique d c e
 token-unique (bracket h) (bracket k) e = let same = IsBracket-unique h k e in record { tokens = rw same.expressions; rests = same.rests }
 token-unique period period e = record { tokens = refl; rests = tails e }
 token-unique dollar dollar e = record { tokens = refl; rests = tails e }
@@ -119,19 +119,19 @@ fault-unique : {p : ItemPlace} {t s u v : Text} {j k : FaultKind} → ExtendedTo
 fault-unique (in_bracket x) (in_bracket y) e = bracket_fault-unique x y e
 fault-unique (in_escape x) (in_escape y) e = escape_fault-unique x y e
 fault-unique (needs_item n o) (needs_item m q) e = record { kinds = refl; places = e }
-fault-unique (needs_item n o) (disallowed c d) e = absurd (n refl)
-fault-unique (disallowed c d) (needs_item n o) e = absurd (n refl)
-fault-unique (disallowed c d) (disallowed a b) e =
+fault-unique (needs_item n o) (disallowed q c d) e = absurd (n q)
+fault-unique (disallowed q c d) (needs_item n o) e = absurd (n q)
+fault-unique (disallowed p c d) (disallowed q a b) e =
     let same = closed-unique 125 [] refl refl c a (tails e) in record { kinds = disallowed-unique d b same.least same.most; places = e }
 fault-unique x y e = absurd (apart (sym (fault_kind x).1 ∙ ap kind_of e ∙ (fault_kind y).1) refl)
 
 fault-no_token : {g : Bool} {p : ItemPlace} {t s u v : Text} {k : Token} {j : FaultKind} → ExtendedTokenFault p s j v → ExtendedToken g p t u k → s ≡ t → ⊥
-fault-no_token (needs_item n o) (repeats d) e = n refl
+fault-no_token (needs_item n o) (repeats q d) e = n q
 fault-no_token {g} y (ordinary b h n) e = ordinary-no_fault g y e h n
-fault-no_token (disallowed c r) (repeats star) e = apart (heads e) refl
-fault-no_token (disallowed c r) (repeats plus) e = apart (heads e) refl
-fault-no_token (disallowed c r) (repeats question) e = apart (heads e) refl
-fault-no_token (disallowed c r) (repeats {u = u} (interval form allowed)) e =
+fault-no_token (disallowed p c r) (repeats q star) e = apart (heads e) refl
+fault-no_token (disallowed p c r) (repeats q plus) e = apart (heads e) refl
+fault-no_token (disallowed p c r) (repeats q question) e = apart (heads e) refl
+fault-no_token (disallowed p c r) (repeats {u = u} q (interval form allowed)) e =
     let same = closed-unique 125 [] refl refl (closed_by u form) c (sym (tails e)) in never_allowed same.least same.most allowed r
 fault-no_token (in_bracket f) (bracket h) e = bracket-no_fault h f (sym e)
 fault-no_token (in_escape f) (escaped b h) e = h (escape-no_fault f e)
