@@ -74,7 +74,6 @@ MAY_BE_QUICK = {
     "looks ask these, and what sets are made of": {"re_runs/alike.rt", "re_runs/lanes.rt", "re_runs/nibbles.rt",
                                                    "re_runs/probes.rt"},
     "makes what looks for a needle": {"re_needle/needle.rt", "re_runs/survey.rt", "re_match/strings.rt"},
-    "bytes without a stretch on its way, each a step": {"re_auto/beginnings.rt"},
     "the children of a node, each byte a step or passed": {"re_strings/trie.rt"},
     SPLITS: {"re_trees/split.rt", "re_runs/newline.rt", "re_runs/block.rt", "grep_io/input/newlines.rt",
              "grep_io/input/window.rt", "grep_io/devices/byte_buffer.rt"},

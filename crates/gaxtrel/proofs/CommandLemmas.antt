@@ -1,5 +1,5 @@
 -- A text of commands is read as a file of its lines, whatever the reader of a text gives at a time.
-use Rattle.gaxtrel.proofs.Prelude.{◌≡◌, ◌∙◌, ℕ, ◌+◌, ◌≤◌, Bool, true, false, List, [], ◌∷◌, ◌++◌, Option, Some, Result, Ok, Err, IfOk, IfErr, ◌⊎◌, inl, inr, if◌then◌else◌, nat_eq, length, sym, ap, subst, arith, append_assoc, append-nil, length-append, Text, ended_lines_of, lines_of, newline, put_before}
+use Rattle.gaxtrel.proofs.Prelude.{◌≡◌, ◌∙◌, ℕ, ◌+◌, ◌≤◌, Bool, true, false, List, [], ◌∷◌, ◌++◌, Option, Some, Result, Ok, Err, IfOk, IfErr, ◌⊎◌, inl, inr, if◌then◌else◌, nat_eq, length, sym, ap, refl, subst, arith, append_assoc, append-nil, length-append, Text, ended_lines_of, lines_of, newline, put_before}
 use Rattle.re_meter.specs.Meters.{Steps as StepCounts}
 use Rattle.std.specs.Io.KnownBytes.{Appends}
 use Rattle.re_syntax.proofs.lemmas.EndedLinesLaws.{AreEndedLines-ended_lines_of}
