@@ -22,7 +22,7 @@ item_apart : {p : ItemPlace} {h : ℕ} {t u : Text} {e : Expression} → Item p 
 item_apart {p} (bracket b) a = at_end {g = false} {p = p} (basic.bracket b) a refl
 item_apart {p} period a = at_end {g = false} {p = p} basic.period a refl
 item_apart {p} (escaped b h) a = at_end {g = false} {p = p} (basic.escaped b h) a refl
-item_apart (ordinary b h n) a = ordinary_apart _ h a refl
+item_apart (ordinary b h n) a = ordinary_apart _ h a
 item_apart {p} (group is) a = at_end {g = false} {p = p} basic.opens a refl
 item_apart (repeated i d) a = item_apart i a
 
