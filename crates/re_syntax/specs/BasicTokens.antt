@@ -12,7 +12,7 @@ use Rattle.re_syntax.specs.{declared.tokens.ItemPlace.ItemPlace, declared.fault.
 use Rattle.re_syntax.specs.{BracketFaults.BracketFault, Brackets.IsBracket}
 use Rattle.re_syntax.specs.{EscapeFaults.EscapeFault, Escapes.is_in, Escapes.is_undefined}
 use Rattle.re_syntax.specs.{IntervalFaults.IsDisallowed, Profile.basic_escaped}
-use Rattle.re_syntax.specs.{Profile.basic_refused}
+use Rattle.re_syntax.specs.Profile.{basic_refused}
 use Rattle.re_trees.specs.Expression.{Expression, one_of, end, byte}
 use Rattle.re_trees.specs.Bytes.{Text, any_but_nul}
 

@@ -3,11 +3,11 @@
 use Rattle.std.specs.Prelude.{◌≡◌, ◌≢◌, ℕ, ◌<◌, ◌⊎◌, [], ◌∷◌, ◌++◌, codes}
 use Rattle.re_syntax.specs.declared.fault.FaultKind.TheVariants.{UnclosedBracket, BadClass}
 use Rattle.re_syntax.specs.declared.fault.FaultKind.TheVariants.{BadCollatingSymbol, BadRange}
-use Rattle.re_syntax.specs.{declared.bracket.ListPlace.ListPlace}
-use Rattle.re_syntax.specs.{declared.bracket.ListPlace.TheVariants.First}
+use Rattle.re_syntax.specs.declared.bracket.ListPlace.{ListPlace}
+use Rattle.re_syntax.specs.declared.bracket.ListPlace.TheVariants.{First}
 use Rattle.re_syntax.specs.{declared.fault.FaultKind.FaultKind, Brackets.Point, Brackets.Element}
 use Rattle.re_trees.specs.{declared.class.Class.Class, Bytes.Text, Bytes.Begins, Bytes.Bytes}
-use Rattle.re_trees.specs.{Bytes.class_name}
+use Rattle.re_trees.specs.Bytes.{class_name}
 
 module _ (opening : Text) where
   -- no point is here: a `[.` without one byte and `.]`, or the text's end

@@ -4,10 +4,10 @@ use Rattle.std.specs.Prelude.{◌≡◌, ◌≢◌, ℕ, Bool, not, ◌&&◌, �
 use Rattle.std.specs.Prelude.{codes}
 use Rattle.re_syntax.specs.Intervals.{Interval, IsAllowed, ClosedInterval, HasNoInterval}
 use Rattle.re_syntax.specs.Tokens.{Token, opening, closing, bar, lead, atom, times}
-use Rattle.re_syntax.specs.{declared.tokens.ItemPlace.ItemPlace}
-use Rattle.re_syntax.specs.{declared.tokens.ItemPlace.TheVariants.Later}
-use Rattle.re_syntax.specs.{declared.fault.FaultKind.FaultKind}
-use Rattle.re_syntax.specs.{declared.fault.FaultKind.TheVariants.NothingToRepeat}
+use Rattle.re_syntax.specs.declared.tokens.ItemPlace.{ItemPlace}
+use Rattle.re_syntax.specs.declared.tokens.ItemPlace.TheVariants.{Later}
+use Rattle.re_syntax.specs.declared.fault.FaultKind.{FaultKind}
+use Rattle.re_syntax.specs.declared.fault.FaultKind.TheVariants.{NothingToRepeat}
 use Rattle.re_syntax.specs.{BracketFaults.BracketFault, Brackets.IsBracket}
 use Rattle.re_syntax.specs.{EscapeFaults.EscapeFault, Escapes.is_in, Escapes.is_undefined}
 use Rattle.re_syntax.specs.{IntervalFaults.IsDisallowed, Profile.extended_refused}

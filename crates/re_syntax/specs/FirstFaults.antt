@@ -5,8 +5,7 @@ use Rattle.re_syntax.specs.declared.tokens.ItemPlace.TheVariants.{First, AfterAn
 use Rattle.re_syntax.specs.declared.fault.FaultKind.TheVariants.{UnclosedGroup, TooDeep}
 use Rattle.re_syntax.specs.declared.syntax.Syntax.TheVariants.{Basic, Extended, Fixed}
 use Rattle.re_syntax.specs.Tokens.{Token, opening, closing, bar, lead, atom, times, FixedToken}
-use Rattle.re_syntax.specs.{declared.tokens.ItemPlace.ItemPlace}
-use Rattle.re_syntax.specs.{declared.fault.FaultKind.FaultKind}
+use Rattle.re_syntax.specs.{declared.tokens.ItemPlace.ItemPlace, declared.fault.FaultKind.FaultKind}
 use Rattle.re_syntax.specs.{declared.fault.PatternFault.PatternFault, declared.syntax.Syntax.Syntax}
 use Rattle.re_syntax.specs.{Profile.most_levels, ExtendedTokens.ExtendedToken}
 use Rattle.re_syntax.specs.{ExtendedTokens.ExtendedTokenFault, BasicTokens.BasicToken}

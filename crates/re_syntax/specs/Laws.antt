@@ -4,7 +4,7 @@ use Rattle.re_syntax.specs.declared.syntax.Syntax.TheVariants.{Basic, Extended}
 use Rattle.re_syntax.specs.{declared.syntax.Syntax.Syntax, declared.fault.PatternFault.PatternFault}
 use Rattle.re_syntax.specs.{Brackets.IsBracket, FirstFaults.IsCut, FirstFaults.IsFirstFault}
 use Rattle.re_syntax.specs.{Tokens.Token, Spelled.IsSpelled, Working.StandardBasic.IsStandardBasic}
-use Rattle.re_syntax.specs.{Working.StandardExtended.IsStandardExtended}
+use Rattle.re_syntax.specs.Working.StandardExtended.{IsStandardExtended}
 use Rattle.re_trees.specs.Lines.{lines_of, ended_lines_of, list_of, AreLines, AreEndedLines}
 use Rattle.re_trees.specs.Lines.{AreListed}
 use Rattle.re_trees.specs.{Bytes.Text, Expression.Expression, Parts.AreParts}

@@ -3,7 +3,7 @@ use Rattle.std.specs.Prelude.{◌≡◌, ℕ, ◌++◌, drop, codes}
 use Rattle.re_trees.specs.Bytes.{Text, Begins}
 use Rattle.re_syntax.specs.{Working.Ahead.IsAfter, declared.tokens.ItemPlace.ItemPlace}
 use Rattle.re_syntax.specs.{declared.tokens.ItemPlace.TheVariants.Later, BasicTokens.IsAtEnd}
-use Rattle.re_syntax.specs.{BasicTokens.NeedsItem}
+use Rattle.re_syntax.specs.BasicTokens.{NeedsItem}
 
 -- the text begins with nothing that opens a duplication
 pub record OpensNoDuplication (t : Text) : Type 0 where

@@ -3,7 +3,7 @@
 use Rattle.std.specs.Prelude.{◌≡◌, ◌≢◌, ℕ, ◌≤◌, ◌++◌, ◌⊎◌, drop, length, codes}
 use Rattle.re_syntax.specs.declared.bracket.ListPlace.TheVariants.{First, AfterPoint}
 use Rattle.re_syntax.specs.{declared.bracket.ListPlace.ListPlace, declared.cursor.Cursor.Cursor}
-use Rattle.re_syntax.specs.{declared.fault.FaultKind.FaultKind}
+use Rattle.re_syntax.specs.declared.fault.FaultKind.{FaultKind}
 use Rattle.re_syntax.specs.{declared.fault.PatternFault.PatternFault, BracketFaults.ElementFault}
 use Rattle.re_syntax.specs.{Faults.IsAt, Working.Cursors.left, Working.Cursors.Passes}
 use Rattle.re_trees.specs.Bytes.{Text, Begins}

@@ -1,7 +1,7 @@
 -- What a machine builds of tokens, one after another, and what the code's levels mean of it.
 use Rattle.std.specs.Prelude.{◌≡◌, ℕ, ◌+◌, List, [], ◌∷◌, ◌++◌, Option, map}
 use Rattle.re_syntax.specs.Tokens.{Token, opening, closing, bar, lead, atom, times}
-use Rattle.re_syntax.specs.{declared.building.TreeFrame.TreeFrame}
+use Rattle.re_syntax.specs.declared.building.TreeFrame.{TreeFrame}
 use Rattle.re_syntax.specs.{declared.building.Building.Building, Working.Mirrors.Mirrors}
 use Rattle.re_trees.specs.Expression.{Expression, begin, repeat, sequence, choice, cat}
 use Rattle.re_trees.specs.{Holds.positions, Working.Trees.expression_of}

@@ -4,9 +4,9 @@ use Rattle.re_syntax.specs.FirstFaults.{Around, Context, start, after, IsTooDeep
 use Rattle.re_syntax.specs.FirstFaults.{IsCut, IsFirstFault}
 use Rattle.re_syntax.specs.Working.Builds.{Frame, Built, build, build_all, nothing_built}
 use Rattle.re_syntax.specs.Working.Builds.{level_positions, rest_positions, last_positions}
-use Rattle.re_syntax.specs.{declared.fault.FaultKind.FaultKind}
-use Rattle.re_syntax.specs.{declared.fault.FaultKind.TheVariants.TooDeep}
-use Rattle.re_syntax.specs.{declared.fault.PatternFault.PatternFault}
+use Rattle.re_syntax.specs.declared.fault.FaultKind.{FaultKind}
+use Rattle.re_syntax.specs.declared.fault.FaultKind.TheVariants.{TooDeep}
+use Rattle.re_syntax.specs.declared.fault.PatternFault.{PatternFault}
 use Rattle.re_syntax.specs.{declared.shape.OpenGroup.OpenGroup, declared.shape.Shape.Shape}
 use Rattle.re_syntax.specs.{declared.syntax.Syntax.Syntax, Profile.most_levels, Tokens.Token}
 use Rattle.re_syntax.specs.{Working.Counted.up_to_word, Working.Mirrors.Mirrors}

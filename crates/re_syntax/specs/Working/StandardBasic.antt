@@ -10,7 +10,7 @@ use Rattle.re_syntax.specs.declared.tokens.ItemPlace.TheVariants.{First, AfterAn
 use Rattle.re_syntax.specs.{declared.tokens.ItemPlace.ItemPlace, BasicTokens.is_ordinary}
 use Rattle.re_syntax.specs.{Brackets.IsBracket, Intervals.IsAllowed, Profile.most_levels}
 use Rattle.re_syntax.specs.{Profile.basic_escaped, Escapes.is_undefined}
-use Rattle.re_syntax.specs.{Working.StandardIntervals.Interval}
+use Rattle.re_syntax.specs.Working.StandardIntervals.{Interval}
 
 -- `*`, or an interval in `\{` and `\}` (XBD 9.3.6)
 pub data Duplication : Text → ℕ → Option ℕ → Type 0 where

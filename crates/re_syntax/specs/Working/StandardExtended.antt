@@ -7,8 +7,8 @@ use Rattle.re_trees.specs.Expression.{choice}
 use Rattle.re_trees.specs.Bytes.{Text, any_but_nul}
 use Rattle.re_syntax.specs.{ExtendedTokens.is_ordinary, Brackets.IsBracket, Intervals.IsAllowed}
 use Rattle.re_syntax.specs.{Profile.most_levels, Profile.extended_refused, Escapes.is_undefined}
-use Rattle.re_syntax.specs.{Working.StandardIntervals.Interval}
-use Rattle.re_syntax.specs.{Working.StandardIntervals.HasNoInterval}
+use Rattle.re_syntax.specs.Working.StandardIntervals.{Interval}
+use Rattle.re_syntax.specs.Working.StandardIntervals.{HasNoInterval}
 
 -- `*`, `+`, `?`, or an interval in braces (XBD 9.4.6)
 pub data Duplication : Text → ℕ → Option ℕ → Type 0 where

@@ -6,10 +6,10 @@ use Rattle.re_syntax.specs.declared.tokens.Token.TheVariants.{Atom as Atomic}
 use Rattle.re_syntax.specs.Tokens.{Token, opening, closing, bar, lead, atom, times}
 use Rattle.re_syntax.specs.{declared.tokens.ItemPlace.ItemPlace, declared.syntax.Syntax.Syntax}
 use Rattle.re_syntax.specs.{declared.tokens.Atom.Atom, declared.tokens.Token.Token as Read}
-use Rattle.re_syntax.specs.{FirstFaults.IsToken}
+use Rattle.re_syntax.specs.FirstFaults.{IsToken}
 use Rattle.re_trees.specs.Expression.{Expression, one_of, none_of, end}
 use Rattle.re_trees.specs.{Bytes.Text, Bytes.Bytes, Bytes.any_but_nul, Bytes.only}
-use Rattle.re_trees.specs.{Working.Trees.members}
+use Rattle.re_trees.specs.Working.Trees.{members}
 
 -- what an atom means
 abbrev pub atom_expression : Atom → Expression
