@@ -1,12 +1,12 @@
 -- A place of a basic expression has one token, or one fault.
 use Rattle.re_syntax.proofs.Prelude.{EscapeFault, undefined, reference, ◌≡◌, ◌≢◌, ℕ, ◌+◌, inl, inr, Bool, nat_eq, [], ◌∷◌, ◌++◌, Option, IsTrue, codes, if◌then◌else◌, refl, sym, ap, ◌∙◌, ne_eqb, or_cases, or_left, or_right, Alnum, in_class, FaultKind, Basic, Text, IsAtEnd, of_text, of_group, of_branch, NeedsItem, needs_interval, needs_plus, needs_question, basic_refused, is_in, is_undefined, one_to_nine}
 use Rattle.re_syntax.specs.declared.tokens.ItemPlace.{ItemPlace}
-use Rattle.re_syntax.specs.declared.tokens.ItemPlace.TheVariants.{First, AfterAnchor, Later}
+use Rattle.re_syntax.specs.declared.tokens.ItemPlace.TheVariants.{Later}
 use Rattle.re_syntax.specs.BasicTokens.{Duplication, is_ordinary, star, plus, question, interval}
 use Rattle.re_syntax.specs.Profile.{basic_escaped}
 use Rattle.re_syntax.specs.Tokens.{Token, closing, bar, times}
 use Rattle.re_syntax.specs.EscapeFaults.{trailing}
-use Rattle.re_syntax.specs.BasicTokens.{BasicToken, opens, closes, parts, leads, trails, repeats, bracket, period, escaped, ordinary, BasicTokenFault, in_bracket, in_escape, unopened, needs_item, no_form, disallowed}
+use Rattle.re_syntax.specs.BasicTokens.{BasicToken, opens, closes, parts, leads, trails, repeats, bracket, period, dollar, escaped, ordinary, BasicTokenFault, in_bracket, in_escape, unopened, needs_item, no_form, disallowed}
 use Rattle.re_syntax.proofs.lemmas.BracketsUnique.{heads, tails, apart, bracket_front, IsBracket-unique}
 use Rattle.re_syntax.proofs.lemmas.BracketFaultsUnique.{bracket_fault-unique, bracket-no_fault, bracket_fault_front}
 use Rattle.re_syntax.proofs.lemmas.CutsUnique.{SameToken, SameFault, IsExact}
@@ -48,22 +48,18 @@ refused_kind p trailing = refl
 refused_kind p (undefined {u = u} {b = b} h n) = plain_kind p b u (is_undefined basic_refused) (λ e. let f = sym e ∙ h in cc) refl refl refl refl refl refl
 refused_kind p (reference {u = u} {b = b} h) = plain_kind p b u one_to_nine (λ e. let f = sym e ∙ h in cc) refl refl refl refl refl refl
 
-dollar_kind : (p : ItemPlace) (u : Text) → kind_of p (36 ∷ u) ≡ 700
-dollar_kind First u = refl
-dollar_kind AfterAnchor u = refl
-dollar_kind Later u = refl
-
 abbrev token_kind : {g : Bool} {p : ItemPlace} {t u : Text} {k : Token} → BasicToken g p t u k → (n : ℕ) × (kind_of p t ≡ n)
 token_kind opens = (296, refl)
 token_kind (closes h) = (297, refl)
 token_kind parts = (380, refl)
 token_kind (leads q) = (94, rw q refl)
-token_kind {p} {u} (trails a) = (700, dollar_kind p u)
+token_kind (trails a) = (36, refl)
+token_kind (dollar n) = (36, refl)
 token_kind (repeats {u = u} q d) = (0, rw q (dup_kind d u))
 token_kind {p} (bracket h) = (91, ap (kind_of p) (bracket_front h).1)
 token_kind period = (46, refl)
 token_kind {p} (escaped {u = u} b h) = (500, escaped_kind p b u h)
-token_kind (ordinary b h n) = (700, rw h refl)
+token_kind (ordinary b h) = (700, rw h refl)
 
 abbrev fault_kind : {g : Bool} {p : ItemPlace} {t v : Text} {k : FaultKind} → BasicTokenFault g p t k v → (n : ℕ) × (kind_of p t ≡ n)
 fault_kind {p} (in_bracket f) = (91, ap (kind_of p) (bracket_fault_front f).1)
@@ -98,9 +94,10 @@ dup-unique (interval form i) (interval other j) {u} {v} e =
 dup-unique x y {u} {v} e = absurd (apart (sym (dup_mark x u).1 ∙ ap mark e ∙ (dup_mark y v).1) refl)
 
 token-unique : {g : Bool} {p : ItemPlace} {t s u v : Text} {j k : Token} → BasicToken g p t u j → BasicToken g p s v k → t ≡ s → SameToken j k u v
-token-unique (ordinary b h n) (ordinary c k m) e = record { tokens = rw (heads e); rests = tails e }
-token-unique (ordinary b h n) (trails a) e = absurd (n (heads e) (rw (tails e) a))
-token-unique (trails a) (ordinary b h n) e = absurd (n (sym (heads e)) (rw (← (tails e)) a))
+token-unique (ordinary b h) (ordinary c k) e = record { tokens = rw (heads e); rests = tails e }
+token-unique (dollar n) (dollar m) e = record { tokens = refl; rests = tails e }
+token-unique (dollar n) (trails a) e = absurd (n (rw (tails e) a))
+token-unique (trails a) (dollar n) e = absurd (n (rw (← (tails e)) a))
 token-unique opens opens e = record { tokens = refl; rests = tails (tails e) }
 token-unique (closes h) (closes k) e = record { tokens = refl; rests = tails (tails e) }
 token-unique parts parts e = record { tokens = refl; rests = tails (tails e) }
@@ -169,20 +166,8 @@ at_end {p} x of_text e = absurd (apart (sym (token_kind x).1 ∙ ap (kind_of p) 
 at_end {p} x of_group e = absurd (apart (sym (token_kind x).1 ∙ ap (kind_of p) e) refl)
 at_end {p} x of_branch e = absurd (apart (sym (token_kind x).1 ∙ ap (kind_of p) e) refl)
 
--- where a byte stands for itself no branch ends
-pub ordinary_apart : (p : ItemPlace) {b : ℕ} {t : Text} → IsTrue (is_ordinary p b) → ¬ IsAtEnd (b ∷ t)
-ordinary_apart p {b} {t} h a = go a refl
-  where
-    is : kind_of p (b ∷ t) ≡ 700
-    is = rw h refl
-
-    go : {s : Text} → IsAtEnd s → b ∷ t ≡ s → ⊥
-    go of_text e = cc
-    go of_group e = apart (sym is ∙ ap (kind_of p) e) refl
-    go of_branch e = apart (sym is ∙ ap (kind_of p) e) refl
-
 token_not_end : {g : Bool} {p : ItemPlace} {t u : Text} {k : Token} → BasicToken g p t u k → t ≢ []
-token_not_end (ordinary b h n) e = cc
+token_not_end (ordinary b h) e = cc
 token_not_end {p} x e = absurd (apart (sym (token_kind x).1 ∙ ap (kind_of p) e) refl)
 
 fault_not_end : {g : Bool} {p : ItemPlace} {t v : Text} {j : FaultKind} → BasicTokenFault g p t j v → t ≢ []
