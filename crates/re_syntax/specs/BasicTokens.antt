@@ -31,7 +31,8 @@ marks First = codes "^"
 marks AfterAnchor = []
 marks Later = codes "*"
 
--- whether a byte stands for itself: not `[`, `.`, `\` or `$`, nor a mark of its place
+-- whether a byte stands for itself whatever follows it: not `[`, `.`, `\` or `$`, nor a mark of its
+-- place
 abbrev pub is_ordinary : ItemPlace → ℕ → Bool
 is_ordinary p b = not (is_in (codes "[.\\$") b) && not (is_in (marks p) b)
 

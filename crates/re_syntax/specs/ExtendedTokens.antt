@@ -22,8 +22,8 @@ pub data Duplication : Text → ℕ → Option ℕ → Type 0 where
   interval : {t : Text} {least : ℕ} {most : Option ℕ} → Interval t least most →
       IsAllowed least most → Duplication (codes "{" ++ t ++ codes "}") least most
 
--- whether a byte stands for itself: none of `[.\(*+?|^${`, and `)` only where no group is open (XBD
--- 9.4.3)
+-- whether a byte stands for itself whatever follows it: none of `[.\(*+?|^${`, and `)` only where no
+-- group is open (XBD 9.4.3)
 abbrev pub is_ordinary : Bool → ℕ → Bool
 is_ordinary in_group b =
     not (is_in (codes "[.\\(*+?|^${") b) && not (in_group && is_in (codes ")") b)
