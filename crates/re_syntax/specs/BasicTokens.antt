@@ -1,6 +1,6 @@
--- The tokens of basic expressions (XBD 9.3, 9.5.1), with two duplications and a bar that the standard
--- leaves undefined and GNU grep has, and why none is at a place: the fault's kind, and the text from
--- its place on. The truth value says whether a group is open there.
+-- The tokens of basic expressions (XBD 9.3, 9.5.1), with two duplications and a bar that the
+-- standard leaves undefined and GNU grep has, and why none is at a place: the fault's kind, and the
+-- text from its place on. The truth value says whether a group is open there.
 use Rattle.std.specs.Prelude.{◌≡◌, ◌≢◌, ℕ, Bool, not, ◌&&◌, [], ◌∷◌, ◌++◌, Option, Some, None}
 use Rattle.std.specs.Prelude.{IsTrue, codes}
 use Rattle.re_syntax.specs.declared.tokens.ItemPlace.TheVariants.{First, AfterAnchor, Later}

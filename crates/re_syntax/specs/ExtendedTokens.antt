@@ -1,5 +1,5 @@
--- The tokens of extended expressions (XBD 9.4, 9.5.1), and why none is at a place: the fault's kind,
--- and the text from its place on. The truth value says whether a group is open there.
+-- The tokens of extended expressions (XBD 9.4, 9.5.1), and why none is at a place: the fault's
+-- kind, and the text from its place on. The truth value says whether a group is open there.
 use Rattle.std.specs.Prelude.{◌≡◌, ◌≢◌, ℕ, Bool, not, ◌&&◌, ◌∷◌, ◌++◌, Option, Some, None, IsTrue}
 use Rattle.std.specs.Prelude.{codes}
 use Rattle.re_syntax.specs.Intervals.{Interval, IsAllowed, ClosedInterval, HasNoInterval}
@@ -22,8 +22,8 @@ pub data Duplication : Text → ℕ → Option ℕ → Type 0 where
   interval : {t : Text} {least : ℕ} {most : Option ℕ} → Interval t least most →
       IsAllowed least most → Duplication (codes "{" ++ t ++ codes "}") least most
 
--- whether a byte stands for itself whatever follows it: none of `[.\(*+?|^${`, and `)` only where no
--- group is open (XBD 9.4.3)
+-- whether a byte stands for itself whatever follows it: none of `[.\(*+?|^${`, and `)` only where
+-- no group is open (XBD 9.4.3)
 abbrev pub is_ordinary : Bool → ℕ → Bool
 is_ordinary in_group b =
     not (is_in (codes "[.\\(*+?|^${") b) && not (in_group && is_in (codes ")") b)
