@@ -1,6 +1,6 @@
--- The tokens of basic expressions (XBD 9.3, 9.5.1), with two duplications and a bar that the standard
--- leaves undefined and GNU grep has, and why none is at a place: the fault's kind, and the text from
--- its place on. The truth value says whether a group is open there.
+-- The tokens of basic expressions (XBD 9.3, 9.5.1), with two duplications and a bar that the
+-- standard leaves undefined and GNU grep has, and why none is at a place: the fault's kind, and the
+-- text from its place on. The truth value says whether a group is open there.
 use Rattle.std.specs.Prelude.{◌≡◌, ◌≢◌, ℕ, Bool, not, ◌&&◌, [], ◌∷◌, ◌++◌, Option, Some, None}
 use Rattle.std.specs.Prelude.{IsTrue, codes}
 use Rattle.re_syntax.specs.declared.tokens.ItemPlace.TheVariants.{First, AfterAnchor, Later}
@@ -31,9 +31,10 @@ marks First = codes "^"
 marks AfterAnchor = []
 marks Later = codes "*"
 
--- whether a byte stands for itself: not `[`, `.` or `\`, nor a mark of its place
+-- whether a byte stands for itself whatever follows it: not `[`, `.`, `\` or `$`, nor a mark of its
+-- place
 abbrev pub is_ordinary : ItemPlace → ℕ → Bool
-is_ordinary p b = not (is_in (codes "[.\\") b) && not (is_in (marks p) b)
+is_ordinary p b = not (is_in (codes "[.\\$") b) && not (is_in (marks p) b)
 
 -- a branch ends here: the text ends, the group ends, or another branch follows
 pub data IsAtEnd : Text → Type 0 where
@@ -45,17 +46,17 @@ pub data BasicToken (g : Bool) (p : ItemPlace) : Text → Text → Token → Typ
   opens : {u : Text} → BasicToken g p (codes "\\(" ++ u) u opening
   closes : {u : Text} → IsTrue g → BasicToken g p (codes "\\)" ++ u) u closing
   parts : {u : Text} → BasicToken g p (codes "\\|" ++ u) u bar
-  -- a `^` that is first; a `$` that is last
+  -- a `^` that is first; a `$` that is last; a `$` that isn't
   leads : {u : Text} → p ≡ First → BasicToken g p (codes "^" ++ u) u lead
   trails : {u : Text} → IsAtEnd u → BasicToken g p (codes "$" ++ u) u (atom end)
+  dollar : {u : Text} → ¬ IsAtEnd u → BasicToken g p (codes "$" ++ u) u (atom (byte 36))
   repeats : {d u : Text} {least : ℕ} {most : Option ℕ} → p ≡ Later → Duplication d least most →
       BasicToken g p (d ++ u) u (times least most)
   bracket : {t u : Text} {e : Expression} → IsBracket t u e → BasicToken g p t u (atom e)
   period : {u : Text} → BasicToken g p (codes "." ++ u) u (atom (one_of any_but_nul))
   escaped : {u : Text} (b : ℕ) → ¬ IsTrue (is_undefined basic_escaped b) →
       BasicToken g p (codes "\\" ++ b ∷ u) u (atom (byte b))
-  -- a `$` is not last
-  ordinary : {u : Text} (b : ℕ) → IsTrue (is_ordinary p b) → (b ≡ 36 → ¬ IsAtEnd u) →
+  ordinary : {u : Text} (b : ℕ) → IsTrue (is_ordinary p b) →
       BasicToken g p (b ∷ u) u (atom (byte b))
 
 -- a `\{` of any form or none, a `\+` or a `\?`: it never stands for its own bytes, so it needs an

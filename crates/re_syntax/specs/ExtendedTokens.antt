@@ -1,5 +1,5 @@
--- The tokens of extended expressions (XBD 9.4, 9.5.1), and why none is at a place: the fault's kind,
--- and the text from its place on. The truth value says whether a group is open there.
+-- The tokens of extended expressions (XBD 9.4, 9.5.1), and why none is at a place: the fault's
+-- kind, and the text from its place on. The truth value says whether a group is open there.
 use Rattle.std.specs.Prelude.{◌≡◌, ◌≢◌, ℕ, Bool, not, ◌&&◌, ◌∷◌, ◌++◌, Option, Some, None, IsTrue}
 use Rattle.std.specs.Prelude.{codes}
 use Rattle.re_syntax.specs.Intervals.{Interval, IsAllowed, ClosedInterval, HasNoInterval}
@@ -22,11 +22,11 @@ pub data Duplication : Text → ℕ → Option ℕ → Type 0 where
   interval : {t : Text} {least : ℕ} {most : Option ℕ} → Interval t least most →
       IsAllowed least most → Duplication (codes "{" ++ t ++ codes "}") least most
 
--- whether a byte stands for itself: none of `[.\(*+?|^$`, and `)` only where no group is open (XBD
--- 9.4.3)
+-- whether a byte stands for itself whatever follows it: none of `[.\(*+?|^${`, and `)` only where
+-- no group is open (XBD 9.4.3)
 abbrev pub is_ordinary : Bool → ℕ → Bool
 is_ordinary in_group b =
-    not (is_in (codes "[.\\(*+?|^$") b) && not (in_group && is_in (codes ")") b)
+    not (is_in (codes "[.\\(*+?|^${") b) && not (in_group && is_in (codes ")") b)
 
 pub data ExtendedToken (g : Bool) (p : ItemPlace) : Text → Text → Token → Type 0 where
   opens : {u : Text} → ExtendedToken g p (codes "(" ++ u) u opening
@@ -42,9 +42,11 @@ pub data ExtendedToken (g : Bool) (p : ItemPlace) : Text → Text → Token → 
   dollar : {u : Text} → ExtendedToken g p (codes "$" ++ u) u (atom end)
   escaped : {u : Text} (b : ℕ) → ¬ IsTrue (is_undefined extended_refused b) →
       ExtendedToken g p (codes "\\" ++ b ∷ u) u (atom (byte b))
-  -- a `{` begins no text of an interval's form
   ordinary : {u : Text} (b : ℕ) → IsTrue (is_ordinary g b) →
-      (b ≡ 123 → HasNoInterval (codes "}") u) → ExtendedToken g p (b ∷ u) u (atom (byte b))
+      ExtendedToken g p (b ∷ u) u (atom (byte b))
+  -- a `{` that begins no text of an interval's form
+  brace : {u : Text} → HasNoInterval (codes "}") u →
+      ExtendedToken g p (codes "{" ++ u) u (atom (byte 123))
 
 -- the text begins with a duplication, or with an interval whose numbers are refused
 pub data OpensDuplication : Text → Type 0 where

@@ -14,8 +14,8 @@ abbrev pub SpellsOne : Text → Type 0
 SpellsOne text =
     (syntax : Syntax) (d e : Expression) → IsSpelled syntax text d → IsSpelled syntax text e → d ≡ e
 
--- a text is cut into tokens in one way, or has one first fault, and never both; and each text that is
--- cut spells an expression
+-- a text is cut into tokens in one way, or has one first fault, and never both; and each text that
+-- is cut spells an expression
 pub record HasOneCut (syntax : Syntax) (text : Text) : Type 0 where
   pub cuts : (ks ls : List Token) → IsCut syntax text ks → IsCut syntax text ls → ks ≡ ls
   pub faults : (f g : PatternFault) → IsFirstFault syntax text f → IsFirstFault syntax text g →

@@ -15,7 +15,7 @@ mutual
     more : {ks ls : List Token} {es fs : List Expression} → Items ks es → Branches ls fs →
         Branches (ks ++ bar ∷ ls) (sequence es ∷ fs)
 
-  -- the items of a branch, one after another; an anchor that leads takes no duplication
+  -- the items of a branch, one after another; a `^` that is an anchor takes no duplication
   pub data Items : List Token → List Expression → Type 0 where
     none : Items [] []
     anchor : {ks : List Token} {es : List Expression} → Items ks es →

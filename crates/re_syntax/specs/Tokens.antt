@@ -1,6 +1,6 @@
 -- The tokens that the text of an expression is cut into, as the standard's grammars have them (XBD
--- 9.5.1). In each syntax they are a relation between a text that begins with a token, the text after
--- it, and the token.
+-- 9.5.1). In each syntax they are a relation between a text that begins with a token, the text
+-- after it, and the token.
 use Rattle.std.specs.Prelude.{ℕ, Bool, ◌∷◌, Option}
 use Rattle.re_syntax.specs.declared.tokens.ItemPlace.{ItemPlace}
 use Rattle.re_trees.specs.{Bytes.Text, Expression.Expression, Expression.byte}

@@ -23,7 +23,7 @@ row_read = refl
 -- ---- what the pattern means
 
 pub a_meant : IsMeant Basic false (codes "a") (byte 97)
-a_meant = (byte 97, spells (last (item (single (ordinary 97 refl (λ is. let no : ⊥ = omega (arith, is) in absurd no))) none)) (omega arith), refl)
+a_meant = (byte 97, spells (last (item (single (ordinary 97 refl)) none)) (omega arith), refl)
 
 in_itself : Matches (byte 97) (97 ∷ []) false
 in_itself = (0, 1, omega arith, (97, refl, refl, refl))

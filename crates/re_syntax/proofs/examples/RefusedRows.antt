@@ -32,7 +32,7 @@ star_in_group =
 interval_after_bar : At NothingToRepeat 2 (codes "a|{1}")
 interval_after_bar = record {
   within = omega arith;
-  is_fault = later _ (ordinary 97 refl (λ e. absurd (omega arith))) (λ d. d) (later _ parts (λ d. d)
+  is_fault = later _ (ordinary 97 refl) (λ d. d) (later _ parts (λ d. d)
       (no_token (needs_item (λ e. cc) (opens_interval (record { inside = codes "1"; form = exactly (codes "1") one; whole = refl })))));
 }
 
@@ -40,7 +40,7 @@ interval_after_bar = record {
 too_large : At IntervalTooLarge 1 (codes "a{300,2}")
 too_large = record {
   within = omega arith;
-  is_fault = later _ (ordinary 97 refl (λ e. absurd (omega arith))) (λ d. d)
+  is_fault = later _ (ordinary 97 refl) (λ d. d)
       (no_token (disallowed refl (record { inside = codes "300,2"; form = between (codes "300") (codes "2") three_hundred two; whole = refl }) (least_too_large (omega arith))));
 }
 
@@ -48,10 +48,10 @@ too_large = record {
 two_unclosed : At UnclosedGroup 2 (codes "(a(b")
 two_unclosed = record {
   within = omega arith;
-  is_fault = later _ opens (λ d. omega arith) (later _ (ordinary 97 refl (λ e. absurd (omega arith))) (λ d. d)
-      (later _ opens (λ d. omega arith) (later _ (ordinary 98 refl (λ e. absurd (omega arith))) (λ d. d) (never_closed refl))));
+  is_fault = later _ opens (λ d. omega arith) (later _ (ordinary 97 refl) (λ d. d)
+      (later _ opens (λ d. omega arith) (later _ (ordinary 98 refl) (λ d. d) (never_closed refl))));
 }
 
 -- `a\)`, a basic expression: nothing is open
 closing_alone : BasicAt UnopenedGroup 1 (codes "a\\)")
-closing_alone = record { within = omega arith; is_fault = later _ (basic_ordinary 97 refl (λ e. absurd (omega arith))) (λ d. d) (no_token (unopened (λ h. cc))) }
+closing_alone = record { within = omega arith; is_fault = later _ (basic_ordinary 97 refl) (λ d. d) (no_token (unopened (λ h. cc))) }

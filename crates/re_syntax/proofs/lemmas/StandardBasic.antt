@@ -2,8 +2,8 @@
 use Rattle.re_syntax.proofs.Prelude.{ℕ, Bool, false, List, Option, refl, Basic, Text, Expression, IsAtEnd, of_text, of_group, IsSpelled, IsStandardBasic}
 use Rattle.re_syntax.specs.declared.tokens.ItemPlace.{ItemPlace}
 use Rattle.re_syntax.specs.BasicTokens as basic
-use Rattle.re_syntax.specs.Working.StandardBasic.{Duplication, star, interval, IsAtEnd as StandardEnd, of_text as standard_of_text, of_group as standard_of_group, Items, none, leading, trailing, item, Item, bracket, period, escaped, ordinary, group, repeated, as_basic}
-use Rattle.re_syntax.proofs.lemmas.BasicTokensUnique.{at_end, ordinary_apart}
+use Rattle.re_syntax.specs.Working.StandardBasic.{Duplication, star, interval, IsAtEnd as StandardEnd, of_text as standard_of_text, of_group as standard_of_group, Items, none, leading, trailing, item, Item, bracket, period, escaped, ordinary, dollar, group, repeated, as_basic}
+use Rattle.re_syntax.proofs.lemmas.BasicTokensUnique.{at_end}
 use Rattle.re_syntax.proofs.lemmas.SpelledParts.{ItemReads, ItemsRead, BranchesRead, spells}
 use Rattle.re_syntax.proofs.lemmas.SpelledParts as parts
 use Rattle.re_syntax.proofs.lemmas.StandardIntervals.{interval-kept}
@@ -20,16 +20,17 @@ duplication-kept (interval form allowed) = basic.interval (interval-kept form) a
 
 item_apart : {p : ItemPlace} {h : ℕ} {t u : Text} {e : Expression} → Item p h t u e → ¬ IsAtEnd t
 item_apart {p} (bracket b) a = at_end {g = false} {p = p} (basic.bracket b) a refl
-item_apart {p} period a = at_end {g = false} {p = p} basic.period a refl
+item_apart period a = elim a [ ]
 item_apart {p} (escaped b h) a = at_end {g = false} {p = p} (basic.escaped b h) a refl
-item_apart (ordinary b h n) a = ordinary_apart _ h a refl
-item_apart {p} (group is) a = at_end {g = false} {p = p} basic.opens a refl
+item_apart {p} (ordinary b h) a = at_end {g = false} {p = p} (basic.ordinary b h) a refl
+item_apart (dollar n) a = elim a [ ]
+item_apart (group is) a = elim a [ ]
 item_apart (repeated i d) a = item_apart i a
 
 items_end : {p : ItemPlace} {h : ℕ} {t u : Text} {es : List Expression} → Items p h t u es → StandardEnd u → IsAtEnd t → StandardEnd t
 items_end none s a = s
-items_end (leading is) s a = absurd (at_end {g = false} (basic.leads refl) a refl)
-items_end {p} (trailing l) s a = absurd (at_end {g = false} {p = p} (basic.trails (end-kept l)) a refl)
+items_end (leading is) s a = elim a [ ]
+items_end (trailing l) s a = elim a [ ]
 items_end (item i is) s a = absurd (item_apart i a)
 
 mutual
@@ -43,7 +44,8 @@ mutual
   item_read (bracket b) n = parts.single (basic.bracket b)
   item_read period n = parts.single basic.period
   item_read (escaped b h) n = parts.single (basic.escaped b h)
-  item_read (ordinary b h k) n = parts.single (basic.ordinary b h (λ e a. k e (n a)))
+  item_read (ordinary b h) n = parts.single (basic.ordinary b h)
+  item_read (dollar k) n = parts.single (basic.dollar (λ a. k (n a)))
   item_read (group is) n = parts.group basic.opens (parts.last (items_read is standard_of_group)) (λ q. basic.closes refl)
   item_read (repeated i d) n = parts.repeated (item_read i (λ a. absurd (at_end {g = false} (basic.repeats refl (duplication-kept d)) a refl))) (basic.repeats refl (duplication-kept d))
 

@@ -2,7 +2,7 @@
 use Rattle.re_syntax.proofs.Prelude.{ℕ, Bool, List, [], ◌∷◌, ◌++◌, Option, codes, refl, sym, ap, ◌∙◌, append_assoc, Extended, Text, Expression, HasNoOpenComma, IsSpelled, IsStandardExtended}
 use Rattle.re_syntax.specs.declared.tokens.ItemPlace.{ItemPlace}
 use Rattle.re_syntax.specs.ExtendedTokens as extended
-use Rattle.re_syntax.specs.Working.StandardExtended.{Duplication, star, plus, question, interval, Branches, last, more, Items, none, anchor, item, Item, bracket, period, dollar, escaped, ordinary, group, repeated, as_extended}
+use Rattle.re_syntax.specs.Working.StandardExtended.{Duplication, star, plus, question, interval, Branches, last, more, Items, none, anchor, item, Item, bracket, period, dollar, escaped, ordinary, brace, group, repeated, as_extended}
 use Rattle.re_syntax.proofs.lemmas.BracketRests.{ComesAfter, after_two, beyond_byte, bracket_after}
 use Rattle.re_syntax.proofs.lemmas.SpelledParts.{ItemReads, ItemsRead, BranchesRead, spells}
 use Rattle.re_syntax.proofs.lemmas.SpelledParts as parts
@@ -34,7 +34,8 @@ mutual
   item_after period = (46 ∷ [], refl)
   item_after dollar = (36 ∷ [], refl)
   item_after (escaped b h) = (92 ∷ b ∷ [], refl)
-  item_after (ordinary b h k) = (b ∷ [], refl)
+  item_after (ordinary b h) = (b ∷ [], refl)
+  item_after (brace k) = (123 ∷ [], refl)
   item_after (group bs) = beyond_byte 40 (after_two (branches_after bs) (41 ∷ [], refl))
   item_after (repeated {d = d} i q) = after_two (item_after i) (d, refl)
 
@@ -54,7 +55,8 @@ mutual
   item_read period n = parts.single extended.period
   item_read dollar n = parts.single extended.dollar
   item_read (escaped b h) n = parts.single (extended.escaped b h)
-  item_read (ordinary b h k) n = parts.single (extended.ordinary b h (λ e. no_interval-kept n e (k e)))
+  item_read (ordinary b h) n = parts.single (extended.ordinary b h)
+  item_read (brace k) n = parts.single (extended.brace (no_interval-kept n k))
   item_read (group bs) n = parts.group extended.opens (branches_read bs (lacks_after n (40 ∷ [], refl))) (λ q. extended.closes refl)
   item_read (repeated i q) n = parts.repeated (item_read i n) (extended.repeats refl (duplication-kept q))
 

@@ -2,7 +2,7 @@
 -- begins with a part, the text after the part, and what the part means; a number is the part's
 -- height: how deep groups and duplications are nested in it. The law that what the standard defines
 -- keeps its meaning uses this; no definition rests on it.
-use Rattle.std.specs.Prelude.{◌≡◌, ℕ, suc, max, ◌≤◌, List, [], ◌∷◌, ◌++◌, Option, None, IsTrue}
+use Rattle.std.specs.Prelude.{ℕ, suc, max, ◌≤◌, List, [], ◌∷◌, ◌++◌, Option, None, IsTrue}
 use Rattle.std.specs.Prelude.{codes}
 use Rattle.re_trees.specs.Expression.{Expression, one_of, begin, end, repeat, byte, sequence}
 use Rattle.re_trees.specs.Bytes.{Text, any_but_nul}
@@ -40,9 +40,10 @@ mutual
     period : {p : ItemPlace} {u : Text} → Item p 0 (codes "." ++ u) u (one_of any_but_nul)
     escaped : {p : ItemPlace} {u : Text} (b : ℕ) → ¬ IsTrue (is_undefined basic_escaped b) →
         Item p 0 (codes "\\" ++ b ∷ u) u (byte b)
-    -- a `$` is not last
     ordinary : {p : ItemPlace} {u : Text} (b : ℕ) → IsTrue (is_ordinary p b) →
-        (b ≡ 36 → ¬ IsAtEnd u) → Item p 0 (b ∷ u) u (byte b)
+        Item p 0 (b ∷ u) u (byte b)
+    -- a `$` that is not last
+    dollar : {p : ItemPlace} {u : Text} → ¬ IsAtEnd u → Item p 0 (codes "$" ++ u) u (byte 36)
     group : {p : ItemPlace} {h : ℕ} {t u : Text} {es : List Expression} →
         Items First h t (codes "\\)" ++ u) es → Item p (suc h) (codes "\\(" ++ t) u (sequence es)
     repeated : {p : ItemPlace} {h : ℕ} {t d u : Text} {e : Expression}

@@ -1,6 +1,6 @@
 -- Extended regular expressions of the standard alone (XBD 9.4), as in StandardBasic. A truth value
 -- says whether the part is in a group.
-use Rattle.std.specs.Prelude.{◌≡◌, ℕ, suc, max, ◌≤◌, Bool, true, false, List, [], ◌∷◌, ◌++◌, Option}
+use Rattle.std.specs.Prelude.{ℕ, suc, max, ◌≤◌, Bool, true, false, List, [], ◌∷◌, ◌++◌, Option}
 use Rattle.std.specs.Prelude.{Some, None, IsTrue, codes}
 use Rattle.re_trees.specs.Expression.{Expression, one_of, begin, end, repeat, byte, sequence}
 use Rattle.re_trees.specs.Expression.{choice}
@@ -43,9 +43,11 @@ mutual
     dollar : {g : Bool} {u : Text} → Item g 0 (codes "$" ++ u) u end
     escaped : {g : Bool} {u : Text} (b : ℕ) → ¬ IsTrue (is_undefined extended_refused b) →
         Item g 0 (codes "\\" ++ b ∷ u) u (byte b)
-    -- a `{` begins no text of an interval's form
     ordinary : {g : Bool} {u : Text} (b : ℕ) → IsTrue (is_ordinary g b) →
-        (b ≡ 123 → HasNoInterval (codes "}") u) → Item g 0 (b ∷ u) u (byte b)
+        Item g 0 (b ∷ u) u (byte b)
+    -- a `{` that begins no text of an interval's form
+    brace : {g : Bool} {u : Text} → HasNoInterval (codes "}") u →
+        Item g 0 (codes "{" ++ u) u (byte 123)
     group : {g : Bool} {h : ℕ} {t u : Text} {es : List Expression} →
         Branches true h t (codes ")" ++ u) es → Item g (suc h) (codes "(" ++ t) u (choice es)
     repeated : {g : Bool} {h : ℕ} {t d u : Text} {e : Expression} {least : ℕ} {most : Option ℕ} →
