@@ -2,8 +2,7 @@
 -- begins with a part, the text after the part, and what the part means; a number is the part's
 -- height: how deep groups and duplications are nested in it. The law that what the standard defines
 -- keeps its meaning uses this; no definition rests on it.
-use Rattle.std.specs.Prelude.{ℕ, suc, max, ◌≤◌, List, [], ◌∷◌, ◌++◌, Option, None, IsTrue}
-use Rattle.std.specs.Prelude.{codes}
+use Rattle.std.specs.Prelude.{ℕ, suc, max, ◌≤◌, List, [], ◌∷◌, ◌++◌, Option, None, IsTrue, codes}
 use Rattle.re_trees.specs.Expression.{Expression, one_of, begin, end, repeat, byte, sequence}
 use Rattle.re_trees.specs.Bytes.{Text, any_but_nul}
 use Rattle.re_syntax.specs.declared.tokens.ItemPlace.TheVariants.{First, AfterAnchor, Later}
