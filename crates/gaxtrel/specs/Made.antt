@@ -1,22 +1,18 @@
 -- How a matcher is made.
-use Rattle.std.specs.Prelude.{◌≡◌, ℕ, ◌<◌, ◌≤◌, ◌⊎◌, Bool, true, List, [], ◌∷◌, All, Option, Some, None, if◌then◌else◌, length}
+use Rattle.std.specs.Prelude.{◌≡◌, ℕ, ◌<◌, ◌≤◌, ◌⊎◌, Bool, true, List, [], ◌∷◌, All, Option, Some}
+use Rattle.std.specs.Prelude.{None, if◌then◌else◌, length}
 use Rattle.std.specs.List.{AllZip}
-use Rattle.re_syntax.specs.Bytes.{Text}
-use Rattle.re_syntax.specs.declared.syntax.Syntax.{Syntax}
-use Rattle.re_syntax.specs.declared.fault.PatternFault.{PatternFault}
-use Rattle.re_syntax.specs.Expression.{Expression}
-use Rattle.re_syntax.specs.Lines.{lines_of}
-use Rattle.re_syntax.specs.Profile.{most_patterns}
-use Rattle.re_syntax.specs.Spelled.{IsMeant}
+use Rattle.re_syntax.specs.{Bytes.Text, declared.syntax.Syntax.Syntax}
+use Rattle.re_syntax.specs.{declared.fault.PatternFault.PatternFault, Expression.Expression}
+use Rattle.re_syntax.specs.{Lines.lines_of, Profile.most_patterns, Spelled.IsMeant}
 use Rattle.re_meter.specs.Meters.{fresh}
 use Rattle.re_search.specs.Reading.{IsReadable}
 use Rattle.grep_core.specs.Matchers.{IsFirstRefused}
-use Rattle.gaxtrel.specs.declared.held.Held.{Held}
-use Rattle.gaxtrel.specs.declared.numbers.GaxtrelFault.{GaxtrelFault}
-use Rattle.gaxtrel.specs.declared.options.GaxtrelOptions.{GaxtrelOptions}
-use Rattle.gaxtrel.specs.declared.work.GaxtrelWork.{GaxtrelWork}
-use Rattle.gaxtrel.specs.Kept.{Kept, Serves, sought_in}
-use Rattle.gaxtrel.specs.Calls.{kind_number, patterns_in, steps_of, syntax_number}
+use Rattle.gaxtrel.specs.{declared.held.Held.Held, declared.numbers.GaxtrelFault.GaxtrelFault}
+use Rattle.gaxtrel.specs.{declared.options.GaxtrelOptions.GaxtrelOptions}
+use Rattle.gaxtrel.specs.{declared.work.GaxtrelWork.GaxtrelWork, Kept.Kept, Kept.Serves}
+use Rattle.gaxtrel.specs.{Kept.sought_in, Calls.kind_number, Calls.patterns_in, Calls.steps_of}
+use Rattle.gaxtrel.specs.{Calls.syntax_number}
 
 -- the options of the calls that take none
 abbrev pub options_for : ℕ → Bool → Bool → Bool → Bool → GaxtrelOptions

@@ -2,17 +2,12 @@
 use Rattle.std.specs.Prelude.{◌≡◌, ℕ, ◌+◌, ◌<◌, ◌^◌, Bool, true, false, List, [], ◌∷◌, ◌++◌, length}
 use Rattle.std.specs.Prelude.{take, codes, bytes_eq, if◌then◌else◌, map, ◌≢◌, ◌⊎◌}
 use Rattle.std.specs.List.{All, AllZip, list_any, sum_by}
-use Rattle.re_syntax.specs.Bytes.{Text}
-use Rattle.re_syntax.specs.Expression.{Expression}
-use Rattle.grep_core.specs.declared.status.Status.{Status}
-use Rattle.grep_core.specs.Choose.{IfHolds}
-use Rattle.grep_core.specs.Meters.{Steps as StepCounts}
-use Rattle.grep_core.specs.Files.{File, Mean}
-use Rattle.grep_live.specs.Hits.{Hit, View, AreHits}
+use Rattle.re_syntax.specs.{Bytes.Text, Expression.Expression}
+use Rattle.grep_core.specs.{declared.status.Status.Status, Choose.IfHolds}
+use Rattle.grep_core.specs.{Meters.Steps as StepCounts, Files.File, Files.Mean}
+use Rattle.grep_live.specs.{Hits.Hit, Hits.View, Hits.AreHits, Changes.Change, Changes.all_after}
+use Rattle.grep_live.specs.{Follows.Follows, Follows.view_after, Rows.changes_rows}
 use Rattle.grep_session.specs.Marks.{Watched}
-use Rattle.grep_live.specs.Changes.{Change, all_after}
-use Rattle.grep_live.specs.Follows.{Follows, view_after}
-use Rattle.grep_live.specs.Rows.{changes_rows}
 use Rattle.grep_cmd.specs.Script.{Step, does, reports, reports_changes, reports_page, sets_text}
 use Rattle.grep_cmd.specs.Script.{text_after}
 use Rattle.grep_cmd.specs.Replies.{Replies, AnswersScript, ScriptState, new_state, status_line}

@@ -2,13 +2,10 @@
 -- FILES).
 use Rattle.std.specs.Prelude.{List, MatchBool, Any}
 use Rattle.std.specs.List.{AllZip}
-use Rattle.re_syntax.specs.declared.syntax.Syntax.{Syntax}
-use Rattle.re_syntax.specs.Bytes.{Text}
-use Rattle.re_syntax.specs.Expression.{Expression}
-use Rattle.re_syntax.specs.Holds.{Matches}
-use Rattle.re_syntax.specs.Spelled.{IsMeant}
-pub use Rattle.grep_io.specs.File.{File, Ending, whole, missing, broken}
+use Rattle.re_syntax.specs.{declared.syntax.Syntax.Syntax, Bytes.Text, Expression.Expression}
+use Rattle.re_syntax.specs.{Holds.Matches, Spelled.IsMeant}
 use Rattle.grep_core.specs.declared.options.Options.{Options}
+pub use Rattle.grep_io.specs.File.{File, Ending, whole, missing, broken}
 
 -- all that grep's output is of
 pub record Inputs : Type 0 where

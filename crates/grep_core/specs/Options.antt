@@ -1,8 +1,7 @@
 -- The options of grep that are set or not (XCU grep, OPTIONS), by their names.
 use Rattle.std.specs.Prelude.{Bool, false, None}
-use Rattle.grep_core.specs.declared.options.Flag.{Flag}
+use Rattle.grep_core.specs.{declared.options.Flag.Flag, declared.options.Options.Options}
 use Rattle.grep_core.specs.declared.options.Flag.TheVariants as flag
-use Rattle.grep_core.specs.declared.options.Options.{Options}
 
 -- an option's value
 abbrev pub option_of : Flag → Options → Bool

@@ -2,17 +2,12 @@
 -- grep, -o).
 use Rattle.std.specs.Prelude.{◌≡◌, ℕ, nat_le, Bool, ◌&&◌, if◌then◌else◌, List, [], ◌∷◌, ◌++◌}
 use Rattle.std.specs.Prelude.{length, map, drop, Option, None, Some, slice_range}
-use Rattle.std.specs.List.{enumerate_from, flat_map}
-use Rattle.std.specs.Fmt.{decimal}
-use Rattle.re_syntax.specs.Bytes.{Text}
-use Rattle.re_syntax.specs.Expression.{Expression}
-use Rattle.re_syntax.specs.Parts.{AreParts}
-use Rattle.grep_core.specs.declared.options.Context.{Context}
-use Rattle.grep_core.specs.declared.options.Options.{Options}
-use Rattle.grep_core.specs.Row.{colon, prefix, head, output_line}
-use Rattle.grep_core.specs.Choose.{EachGives, Chosen}
-use Rattle.grep_core.specs.Files.{File, Ending, missing, Selected, HasSelected}
-use Rattle.grep_core.specs.Around.{Groups}
+use Rattle.std.specs.{List.enumerate_from, List.flat_map, Fmt.decimal}
+use Rattle.re_syntax.specs.{Bytes.Text, Expression.Expression, Parts.AreParts}
+use Rattle.grep_core.specs.{declared.options.Context.Context, declared.options.Options.Options}
+use Rattle.grep_core.specs.{Row.colon, Row.prefix, Row.head, Row.output_line, Choose.EachGives}
+use Rattle.grep_core.specs.{Choose.Chosen, Files.File, Files.Ending, Files.missing, Files.Selected}
+use Rattle.grep_core.specs.{Files.HasSelected, Around.Groups}
 
 -- there are two files or more
 abbrev pub are_many : List File → Bool

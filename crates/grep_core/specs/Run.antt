@@ -1,25 +1,20 @@
 -- What a run over sources writes, each source read once from front to back.
-use Rattle.std.specs.Prelude.{◌≡◌, ℕ, suc, ◌+◌, ◌<◌, ◌≤◌, IsTrue, List, [], ◌∷◌, ◌++◌}
-use Rattle.std.specs.Prelude.{length, take, get_or, Option, Result, Ok, Err}
-use Rattle.std.specs.List.{AllZip}
-use Rattle.std.specs.Io.KnownBytes.{Appends}
-use Rattle.re_syntax.specs.Bytes.{Text}
-use Rattle.re_syntax.specs.Expression.{Expression}
+use Rattle.std.specs.Prelude.{◌≡◌, ℕ, suc, ◌+◌, ◌<◌, ◌≤◌, IsTrue, List, [], ◌∷◌, ◌++◌, length, take}
+use Rattle.std.specs.Prelude.{get_or, Option, Result, Ok, Err}
+use Rattle.std.specs.{List.AllZip, Io.KnownBytes.Appends}
+use Rattle.re_syntax.specs.{Bytes.Text, Expression.Expression}
 use Rattle.re_search.specs.Meters.{Steps}
-use Rattle.grep_core.specs.declared.options.Options.{Options}
-use Rattle.grep_core.specs.declared.status.Status.{Status}
-use Rattle.grep_core.specs.declared.status.RunFault.{RunFault}
 use Rattle.grep_core.specs.declared.status.RunFault.TheVariants.{Write, MessageWrite, Memory}
-pub use Rattle.grep_io.specs.Counted.{count_more}
-use Rattle.grep_io.specs.Counted.{one_more}
-use Rattle.grep_core.specs.Choose.{IfHolds}
-use Rattle.grep_core.specs.Files.{File, whole, missing, HasSelected}
 use Rattle.grep_core.specs.Output.{Form, parts, lines, around, form, OutAs, Out, are_many, written}
-use Rattle.grep_core.specs.Messages.{FaultMet, Messages, StatusOf}
+use Rattle.grep_core.specs.{declared.options.Options.Options, declared.status.Status.Status}
+use Rattle.grep_core.specs.{declared.status.RunFault.RunFault, Choose.IfHolds, Files.File}
+use Rattle.grep_core.specs.{Files.whole, Files.missing, Files.HasSelected, Messages.FaultMet}
+use Rattle.grep_core.specs.{Messages.Messages, Messages.StatusOf, Sources.source_at}
+use Rattle.grep_core.specs.{Cost.SearchesFiles}
 use Rattle.grep_io.specs.Reading.{Source, Reading, IsReadingOf, file_of, failures_of, AreLeft}
 use Rattle.grep_io.specs.Reading.{HasRead}
-use Rattle.grep_core.specs.Sources.{source_at}
-use Rattle.grep_core.specs.Cost.{SearchesFiles}
+use Rattle.grep_io.specs.Counted.{one_more}
+pub use Rattle.grep_io.specs.Counted.{count_more}
 
 -- ---- devices
 

@@ -2,8 +2,7 @@
 use Rattle.std.specs.Prelude.{◌≡◌, ℕ, true, false, List, [], ◌++◌, get_or, Option, None}
 use Rattle.std.specs.Prelude.{MatchOption, IfSome}
 use Rattle.re_syntax.specs.Bytes.{Text}
-use Rattle.grep_io.specs.Counted.{one_more}
-use Rattle.grep_io.specs.Reading.{Source}
+use Rattle.grep_io.specs.{Counted.one_more, Reading.Source}
 
 -- source k, which is there
 abbrev pub source_at : List Source → ℕ → Source

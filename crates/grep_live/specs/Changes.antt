@@ -2,12 +2,9 @@
 use Rattle.std.specs.Prelude.{◌≡◌, ℕ, ◌+◌, ◌-◌, ◌<◌, ◌≤◌, nat_lt, nat_le, nat_eq, ◌&&◌, Bool}
 use Rattle.std.specs.Prelude.{if◌then◌else◌, List, [], ◌∷◌, ◌++◌, map, drop, slice_range}
 use Rattle.std.specs.List.{filter}
-use Rattle.re_syntax.specs.Bytes.{Text}
-use Rattle.re_syntax.specs.Expression.{Expression}
-use Rattle.grep_core.specs.declared.options.Options.{Options}
-use Rattle.grep_core.specs.Files.{File}
-use Rattle.line_marks.specs.Stretches.{Marked}
-use Rattle.line_marks.specs.declared.stretch.Stretch.{Stretch}
+use Rattle.re_syntax.specs.{Bytes.Text, Expression.Expression}
+use Rattle.grep_core.specs.{declared.options.Options.Options, Files.File}
+use Rattle.line_marks.specs.{Stretches.Marked, declared.stretch.Stretch.Stretch}
 use Rattle.grep_live.specs.Hits.{Hit, View, HitsFrom}
 
 -- ---- what an editor does

@@ -1,11 +1,9 @@
 -- How changes and pages are written (occur(1), REPLIES).
 use Rattle.std.specs.Prelude.{ℕ, ◌+◌, ◌-◌, ◌^◌, min, List, [], ◌∷◌, ◌++◌, map, length, take, drop}
 use Rattle.std.specs.Prelude.{Bool, if◌then◌else◌, codes}
-use Rattle.std.specs.List.{flat_map}
-use Rattle.std.specs.Fmt.{decimal}
+use Rattle.std.specs.{List.flat_map, Fmt.decimal}
 use Rattle.re_syntax.specs.Bytes.{Text}
-use Rattle.grep_live.specs.Hits.{Hit, View}
-use Rattle.grep_live.specs.Changes.{Change, is_idle}
+use Rattle.grep_live.specs.{Hits.Hit, Hits.View, Changes.Change, Changes.is_idle}
 
 -- numbers, each after a space
 abbrev pub spaced : List ℕ → Text

@@ -1,26 +1,20 @@
 -- The edits of a session, and the inputs that each leaves.
-use Rattle.std.specs.Prelude.{◌≡◌, ◌≢◌, ℕ, ◌+◌, ◌<◌, ◌≤◌, Bool, List, [], ◌∷◌, ◌++◌, length}
-use Rattle.std.specs.Prelude.{Option, Result, Ok, Err, All, slice_set}
+use Rattle.std.specs.Prelude.{◌≡◌, ◌≢◌, ℕ, ◌+◌, ◌<◌, ◌≤◌, Bool, List, [], ◌∷◌, ◌++◌, length, Option}
+use Rattle.std.specs.Prelude.{Result, Ok, Err, All, slice_set}
 use Rattle.std.specs.List.{splice, remove}
-use Rattle.re_syntax.specs.declared.fault.PatternFault.{PatternFault}
-use Rattle.re_syntax.specs.declared.syntax.Syntax.{Syntax}
-use Rattle.re_syntax.specs.declared.syntax.Syntax.TheVariants.{Basic}
-use Rattle.re_syntax.specs.Bytes.{Text}
-use Rattle.re_syntax.specs.Lines.{HasNoNewline, list_of}
+use Rattle.re_syntax.specs.{declared.fault.PatternFault.PatternFault, declared.syntax.Syntax.Syntax}
+use Rattle.re_syntax.specs.{declared.syntax.Syntax.TheVariants.Basic, Bytes.Text}
+use Rattle.re_syntax.specs.{Lines.HasNoNewline, Lines.list_of, Profile.most_patterns}
 use Rattle.re_search.specs.Reading.{IsReadable}
-use Rattle.grep_core.specs.declared.options.Flag.{Flag}
-use Rattle.grep_core.specs.declared.options.Context.{Context}
-use Rattle.grep_core.specs.Options.{no_options, with_option}
-use Rattle.grep_core.specs.Choose.{IfHolds}
-use Rattle.grep_core.specs.Files.{File, Inputs, whole, missing}
-use Rattle.re_syntax.specs.Profile.{most_patterns}
-use Rattle.grep_core.specs.Matchers.{IsFirstRefused}
-use Rattle.grep_core.specs.Run.{file_at}
-use Rattle.grep_session.specs.declared.fault.EditFault.{EditFault}
+use Rattle.grep_core.specs.{declared.options.Flag.Flag, declared.options.Context.Context}
+use Rattle.grep_core.specs.{Options.no_options, Options.with_option, Choose.IfHolds, Files.File}
+use Rattle.grep_core.specs.{Files.Inputs, Files.whole, Files.missing, Matchers.IsFirstRefused}
+use Rattle.grep_core.specs.{Run.file_at}
 use Rattle.grep_session.specs.declared.fault.EditFault.TheVariants.{NoSuchFile, FileIsMissing}
 use Rattle.grep_session.specs.declared.fault.EditFault.TheVariants.{OutOfRange, LineHasNewline}
 use Rattle.grep_session.specs.declared.fault.EditFault.TheVariants.{NoSuchPattern, Pattern}
 use Rattle.grep_session.specs.declared.fault.EditFault.TheVariants.{TooManyPatterns, Memory}
+use Rattle.grep_session.specs.declared.fault.EditFault.{EditFault}
 
 -- the calls that change a session; files, lines and patterns are numbered from 0
 pub data Edit : Type 0 where

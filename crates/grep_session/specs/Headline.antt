@@ -3,15 +3,12 @@
 -- edits leave;
 -- an edit is refused only for its named cause, and a refused edit changes nothing.
 use Rattle.std.specs.Prelude.{◌≡◌, ℕ, List, [], ◌∷◌, ◌++◌, Option, Result, Ok, Err, IfOk}
-use Rattle.re_syntax.specs.Bytes.{Text}
-use Rattle.re_syntax.specs.Expression.{Expression}
-use Rattle.grep_core.specs.declared.status.Status.{Status}
-use Rattle.grep_core.specs.Files.{Inputs, Mean}
-use Rattle.grep_core.specs.Messages.{Messages, StatusOf}
-use Rattle.grep_core.specs.Output.{Out, written}
-use Rattle.grep_core.specs.Written.{Writes}
-use Rattle.grep_session.specs.declared.fault.EditFault.{EditFault}
-use Rattle.grep_session.specs.Edits.{Edit, Applies, EditGives, no_inputs}
+use Rattle.re_syntax.specs.{Bytes.Text, Expression.Expression}
+use Rattle.grep_core.specs.{declared.status.Status.Status, Files.Inputs, Files.Mean}
+use Rattle.grep_core.specs.{Messages.Messages, Messages.StatusOf, Output.Out, Output.written}
+use Rattle.grep_core.specs.{Written.Writes}
+use Rattle.grep_session.specs.{declared.fault.EditFault.EditFault, Edits.Edit, Edits.Applies}
+use Rattle.grep_session.specs.{Edits.EditGives, Edits.no_inputs}
 
 -- ---- from scratch
 

@@ -1,10 +1,9 @@
 -- Laws of the definitions.
 use Rattle.std.specs.Prelude.{◌≡◌, ℕ, Result, Ok, Err}
 use Rattle.grep_core.specs.Files.{Inputs}
-use Rattle.grep_session.specs.declared.fault.EditFault.{EditFault}
-use Rattle.grep_session.specs.declared.fault.EditFault.TheVariants.{Pattern}
-use Rattle.grep_session.specs.Edits.{Edit, Applies}
-use Rattle.grep_session.specs.Touched.{Costs}
+use Rattle.grep_session.specs.{declared.fault.EditFault.EditFault}
+use Rattle.grep_session.specs.{declared.fault.EditFault.TheVariants.Pattern, Edits.Edit}
+use Rattle.grep_session.specs.{Edits.Applies, Touched.Costs}
 
 -- two refusals are the same, or differ in what is reported of the same pattern
 abbrev pub AreAlikeFaults : EditFault → EditFault → Type 0

@@ -1,8 +1,6 @@
 -- What an editor lists of a line that grep selects.
 use Rattle.std.specs.Prelude.{◌≡◌, ℕ, List, [], MatchBool}
-use Rattle.re_syntax.specs.Bytes.{Text}
-use Rattle.re_syntax.specs.Expression.{Expression}
-use Rattle.re_syntax.specs.Parts.{AreParts}
+use Rattle.re_syntax.specs.{Bytes.Text, Expression.Expression, Parts.AreParts}
 use Rattle.grep_core.specs.declared.options.Options.{Options}
 
 -- under `-o` all parts of a line are listed, and otherwise none; a line that is selected under `-v`

@@ -1,17 +1,15 @@
 -- Marks: which lines of each file edits left untouched since its changes were last reported.
-use Rattle.std.specs.Prelude.{◌≡◌, ℕ, List, [], ◌∷◌, ◌++◌, map, length}
-use Rattle.std.specs.Prelude.{get_or, slice_set, Result, Ok, Err, Bool, true, false, if◌then◌else◌}
+use Rattle.std.specs.Prelude.{◌≡◌, ℕ, List, [], ◌∷◌, ◌++◌, map, length, get_or, slice_set, Result}
+use Rattle.std.specs.Prelude.{Ok, Err, Bool, true, false, if◌then◌else◌}
 use Rattle.std.specs.List.{remove, AllZip}
-use Rattle.grep_core.specs.declared.options.Flag.{Flag}
-use Rattle.grep_core.specs.declared.options.Flag.TheVariants.{IgnoreCase, OnlyMatching}
-use Rattle.grep_core.specs.declared.options.Flag.TheVariants.{InvertMatch, LineRegexp}
-use Rattle.grep_core.specs.Options.{option_of}
-use Rattle.grep_core.specs.Choose.{IfHolds}
-use Rattle.grep_core.specs.Files.{File, Inputs}
-use Rattle.grep_session.specs.declared.fault.EditFault.{EditFault}
+use Rattle.grep_core.specs.declared.options.Flag.TheVariants.{IgnoreCase, OnlyMatching, InvertMatch}
+use Rattle.grep_core.specs.declared.options.Flag.TheVariants.{LineRegexp}
+use Rattle.grep_core.specs.{declared.options.Flag.Flag, Options.option_of, Choose.IfHolds}
+use Rattle.grep_core.specs.{Files.File, Files.Inputs}
 use Rattle.grep_session.specs.Edits.{Edit, AddFile, AddMissing, DropFile, Splice, AddPatterns}
 use Rattle.grep_session.specs.Edits.{DropPattern, ChangePattern, SetFlag, SetSyntax, SetContext}
 use Rattle.grep_session.specs.Edits.{no_inputs}
+use Rattle.grep_session.specs.declared.fault.EditFault.{EditFault}
 use Rattle.line_marks.specs.Stretches.{Marked, Fits, Splices, whole_mark, new_mark, lost}
 
 -- what an editor sees of a session: its inputs, a mark for each file, and how many states each of

@@ -1,14 +1,13 @@
 -- The fixed texts on standard error (XCU grep, STDERR).
 use Rattle.std.specs.Prelude.{ℕ, ◌+◌, List, [], ◌∷◌, ◌++◌, codes, encode_utf8}
 use Rattle.std.specs.Fmt.{decimal}
-use Rattle.re_syntax.specs.declared.fault.FaultKind.{FaultKind}
-use Rattle.re_syntax.specs.declared.fault.FaultKind.TheVariants as kind
-use Rattle.re_syntax.specs.declared.fault.PatternFault.{PatternFault}
-use Rattle.re_syntax.specs.Bytes.{Text}
-use Rattle.grep_utility.specs.declared.words.UsageFault.{UsageFault}
+use Rattle.re_syntax.specs.{declared.fault.FaultKind.FaultKind}
+use Rattle.re_syntax.specs.{declared.fault.PatternFault.PatternFault, Bytes.Text}
 use Rattle.grep_utility.specs.declared.words.UsageFault.TheVariants.{UnknownOption, MissingArgument}
-use Rattle.grep_utility.specs.declared.words.UsageFault.TheVariants.{BadNumber, TwoSyntaxes, NoPattern}
-use Rattle.grep_utility.specs.declared.words.UsageFault.TheVariants.{Memory}
+use Rattle.grep_utility.specs.declared.words.UsageFault.TheVariants.{BadNumber, TwoSyntaxes}
+use Rattle.grep_utility.specs.declared.words.UsageFault.TheVariants.{NoPattern, Memory}
+use Rattle.grep_utility.specs.declared.words.UsageFault.{UsageFault}
+use Rattle.re_syntax.specs.declared.fault.FaultKind.TheVariants as kind
 
 abbrev pub out_of_memory : Text
 out_of_memory = codes "grep: out of memory"

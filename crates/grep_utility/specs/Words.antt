@@ -2,34 +2,28 @@
 -- OPERANDS). An option after an operand is still an option, as GNU grep has it; Guideline 9 has
 -- all options before the operands.
 use Rattle.std.specs.Prelude.{ℕ, ◌-◌, ◌^◌, nat_eq, nat_lt, min, Bool, true, false, ◌&&◌}
-use Rattle.std.specs.Prelude.{if◌then◌else◌}
-use Rattle.std.specs.Prelude.{List, [], ◌∷◌, ◌++◌, map, codes, bytes_eq, Option, Some, None}
-use Rattle.std.specs.Prelude.{Result, Ok, Err, String}
-use Rattle.std.specs.List.{list_all}
-use Rattle.std.specs.Option.{option_or, unwrap_or}
-use Rattle.std.specs.Str.{byte, chars, encode_utf8_all}
-use Rattle.std.specs.String.{string_bytes}
+use Rattle.std.specs.Prelude.{if◌then◌else◌, List, [], ◌∷◌, ◌++◌, map, codes, bytes_eq, Option}
+use Rattle.std.specs.Prelude.{Some, None, Result, Ok, Err, String}
+use Rattle.std.specs.{List.list_all, Option.option_or, Option.unwrap_or, Str.byte, Str.chars}
+use Rattle.std.specs.{Str.encode_utf8_all, String.string_bytes}
 use Rattle.re_trees.specs.declared.class.Class.TheVariants.{Digit}
-use Rattle.re_syntax.specs.Bytes.{Text, in_class}
-use Rattle.re_syntax.specs.Intervals.{value}
-use Rattle.re_syntax.specs.declared.syntax.Syntax.{Syntax}
 use Rattle.re_syntax.specs.declared.syntax.Syntax.TheVariants.{Basic, Extended, Fixed}
-use Rattle.grep_core.specs.declared.options.Context.{Context}
-use Rattle.grep_core.specs.declared.options.Options.{Options}
-use Rattle.grep_core.specs.Options.{no_options, with_option}
-use Rattle.grep_core.specs.declared.options.Flag.{Flag}
+use Rattle.re_syntax.specs.{Bytes.Text, Bytes.in_class, Intervals.value}
+use Rattle.re_syntax.specs.{declared.syntax.Syntax.Syntax}
 use Rattle.grep_core.specs.declared.options.Flag.TheVariants.{Count, IgnoreCase, FilesWithMatches}
 use Rattle.grep_core.specs.declared.options.Flag.TheVariants.{LineNumber, OnlyMatching, Quiet}
 use Rattle.grep_core.specs.declared.options.Flag.TheVariants.{NoMessages, InvertMatch, LineRegexp}
-use Rattle.grep_utility.specs.declared.words.UsageFault.{UsageFault}
+use Rattle.grep_core.specs.{declared.options.Context.Context, declared.options.Options.Options}
+use Rattle.grep_core.specs.{Options.no_options, Options.with_option, declared.options.Flag.Flag}
 use Rattle.grep_utility.specs.declared.words.UsageFault.TheVariants.{UnknownOption, MissingArgument}
-use Rattle.grep_utility.specs.declared.words.UsageFault.TheVariants.{BadNumber, TwoSyntaxes, NoPattern}
-use Rattle.grep_utility.specs.declared.words.around.Side.{Side}
+use Rattle.grep_utility.specs.declared.words.UsageFault.TheVariants.{BadNumber, TwoSyntaxes}
+use Rattle.grep_utility.specs.declared.words.UsageFault.TheVariants.{NoPattern}
 use Rattle.grep_utility.specs.declared.words.around.Side.TheVariants.{After, Before, Both}
-use Rattle.grep_utility.specs.declared.words.around.Around.{Around}
-use Rattle.grep_utility.specs.declared.words.tokens.Argument.{Argument}
+use Rattle.grep_utility.specs.{declared.words.UsageFault.UsageFault}
+use Rattle.grep_utility.specs.{declared.words.around.Side.Side, declared.words.around.Around.Around}
+use Rattle.grep_utility.specs.{declared.words.tokens.Argument.Argument}
+use Rattle.grep_utility.specs.{declared.words.tokens.Meaning.Meaning}
 use Rattle.grep_utility.specs.declared.words.tokens.Argument.TheVariants as argument
-use Rattle.grep_utility.specs.declared.words.tokens.Meaning.{Meaning}
 use Rattle.grep_utility.specs.declared.words.tokens.Meaning.TheVariants as meaning
 
 -- a pattern list, or the name of a pattern file

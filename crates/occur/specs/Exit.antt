@@ -1,17 +1,14 @@
 -- How the program reports its faults, and its exit status.
 use Rattle.std.specs.Prelude.{◌≡◌, ◌≢◌, ℕ, [], ◌∷◌, ◌++◌, codes, Option, Result, Ok, Err}
-use Rattle.clap.specs.declared.error.kind.ErrorKind.{ErrorKind}
 use Rattle.clap.specs.declared.error.kind.ErrorKind.TheVariants.{DisplayHelp, DisplayVersion}
-use Rattle.grep_core.specs.Buffer.{BufferedWriter, all_contents}
-use Rattle.grep_core.specs.Meters.{Steps}
-use Rattle.grep_core.specs.Run.{Writer}
-use Rattle.grep_cmd.specs.Bytes.{Text}
-use Rattle.grep_cmd.specs.Replies.{GaveLines, ScriptGives, ScriptState, new_state}
-use Rattle.grep_utility.specs.Command.{ReportsLines, SendsMessages}
-use Rattle.grep_cmd.specs.declared.script.ScriptEnd.{ScriptEnd}
+use Rattle.clap.specs.declared.error.kind.ErrorKind.{ErrorKind}
+use Rattle.grep_core.specs.{Buffer.BufferedWriter, Buffer.all_contents, Meters.Steps, Run.Writer}
 use Rattle.grep_cmd.specs.declared.script.ScriptEnd.TheVariants.{Clean, Refused}
-use Rattle.grep_cmd.specs.declared.script.ScriptFault.{ScriptFault}
 use Rattle.grep_cmd.specs.declared.script.ScriptFault.TheVariants.{Read, Write, Memory}
+use Rattle.grep_cmd.specs.{Bytes.Text, Replies.GaveLines, Replies.ScriptGives, Replies.ScriptState}
+use Rattle.grep_cmd.specs.{Replies.new_state, declared.script.ScriptEnd.ScriptEnd}
+use Rattle.grep_cmd.specs.{declared.script.ScriptFault.ScriptFault}
+use Rattle.grep_utility.specs.Command.{ReportsLines, SendsMessages}
 
 abbrev pub words_refused : Text
 words_refused = codes "occur: words must be UTF-8"

@@ -1,15 +1,11 @@
 -- Which texts are patterns of a syntax, and why others are refused (XCU grep, OPTIONS -E, -F, -i).
 use Rattle.std.specs.Prelude.{◌≡◌, ◌<◌, ◌≤◌, Bool, IsTrue, ◌⊎◌}
-use Rattle.re_syntax.specs.declared.syntax.Syntax.{Syntax}
-use Rattle.re_syntax.specs.declared.fault.FaultKind.TheVariants.{TooLarge}
-use Rattle.re_syntax.specs.declared.fault.PatternFault.{PatternFault}
-use Rattle.re_syntax.specs.Bytes.{Text}
-use Rattle.re_syntax.specs.Expression.{Expression}
+use Rattle.re_syntax.specs.{declared.syntax.Syntax.Syntax}
+use Rattle.re_syntax.specs.{declared.fault.FaultKind.TheVariants.TooLarge}
+use Rattle.re_syntax.specs.{declared.fault.PatternFault.PatternFault, Bytes.Text}
+use Rattle.re_syntax.specs.{Expression.Expression, FirstFaults.IsFirstFault, Holds.positions}
+use Rattle.re_syntax.specs.{Profile.most_positions, Spelled.IsMeant, Spelled.has_limit}
 pub use Rattle.re_syntax.specs.Faults.{IsOutOfMemory}
-use Rattle.re_syntax.specs.FirstFaults.{IsFirstFault}
-use Rattle.re_syntax.specs.Holds.{positions}
-use Rattle.re_syntax.specs.Profile.{most_positions}
-use Rattle.re_syntax.specs.Spelled.{IsMeant, has_limit}
 
 -- the expression is small enough, if it has to be
 abbrev pub IsSmallFor : Syntax → Bool → Expression → Type 0

@@ -2,16 +2,15 @@
 use Rattle.std.specs.Prelude.{◌≡◌, ℕ, ◌≤◌, nat_eq, Bool, true, false, if◌then◌else◌, List, [], ◌∷◌}
 use Rattle.std.specs.Prelude.{length, codes, bytes_eq, Option, Some, None, option_and_then}
 use Rattle.std.specs.Prelude.{option_map}
-use Rattle.re_syntax.specs.declared.syntax.Syntax.{Syntax}
 use Rattle.re_syntax.specs.declared.syntax.Syntax.TheVariants.{Basic, Extended, Fixed}
-use Rattle.re_syntax.specs.Bytes.{Text}
-use Rattle.re_syntax.specs.Lines.{put_before, joined}
+use Rattle.re_syntax.specs.{declared.syntax.Syntax.Syntax, Bytes.Text, Lines.put_before}
+use Rattle.re_syntax.specs.{Lines.joined}
 use Rattle.grep_core.specs.declared.options.Flag.{Flag}
 use Rattle.grep_session.specs.Edits.{Edit, AddFile, AddMissing, DropFile, Splice, AddPatterns}
 use Rattle.grep_session.specs.Edits.{DropPattern, ChangePattern, SetFlag, SetSyntax, SetContext}
-use Rattle.grep_utility.specs.declared.words.tokens.Meaning.{Meaning}
+use Rattle.grep_utility.specs.{declared.words.tokens.Meaning.Meaning, Words.meaning_of}
+use Rattle.grep_utility.specs.{Words.number_of}
 use Rattle.grep_utility.specs.declared.words.tokens.Meaning.TheVariants as meaning
-use Rattle.grep_utility.specs.Words.{meaning_of, number_of}
 
 -- ---- words
 

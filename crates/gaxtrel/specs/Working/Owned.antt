@@ -1,12 +1,11 @@
 -- What a handle owns, and what the calls leave of it.
 use Rattle.std.specs.Prelude.{◌≡◌, Bool, true, false, Option, Some, None}
+use Rattle.std.specs.{Box.Ownership.box_owns, contracts.impls.GlobalAllocator.TheImpl.ghosts}
+use Rattle.gaxtrel.specs.Kept.{Kept, sought_in}
 use base.Fml.{Fml, ftrue}
 use denote.RattleType.{RattleType}
 use denote.RawPtr.{Ptr}
-use Rattle.std.specs.Box.Ownership.{box_owns}
 use Rattle.std.specs.contracts.alloc.Global as global
-use Rattle.std.specs.contracts.impls.GlobalAllocator.TheImpl.{ghosts}
-use Rattle.gaxtrel.specs.Kept.{Kept, sought_in}
 
 -- what is boxed at the pointer, a value of this type, with the right to free it, if there is any
 abbrev pub held_owns : (R : RattleType) → (global.the_row).Denot → Ptr → Option R.Denot → Fml

@@ -3,23 +3,19 @@ use Rattle.std.specs.Prelude.{◌≡◌, ℕ, ◌<◌, ◌≤◌, Bool, true, fa
 use Rattle.std.specs.Prelude.{Option, Some, None, Result, Ok, Err, ◌⊎◌}
 use Rattle.std.specs.List.{list_any}
 use Rattle.re_syntax.specs.Bytes.{Text}
-use Rattle.grep_core.specs.Files.{Ending, whole, broken}
-use Rattle.grep_core.specs.Meters.{AddsAtMost, Steps as StepCounts}
-use Rattle.grep_core.specs.Output.{written}
-use Rattle.grep_core.specs.Written.{GoesOut, StopsWithin}
-use Rattle.grep_core.specs.Reading.{IsOneLineAndFew}
 use Rattle.grep_core.specs.Working.Numbered.{Numbered, HasHanded, StandsAs}
-use Rattle.grep_session.specs.declared.fault.EditFault.{EditFault}
-use Rattle.grep_cmd.specs.declared.script.ScriptFault.{ScriptFault}
+use Rattle.grep_core.specs.{Files.Ending, Files.whole, Files.broken, Meters.AddsAtMost}
+use Rattle.grep_core.specs.{Meters.Steps as StepCounts, Output.written, Written.GoesOut}
+use Rattle.grep_core.specs.{Written.StopsWithin, Reading.IsOneLineAndFew}
+use Rattle.grep_session.specs.{declared.fault.EditFault.EditFault, Marks.Watched}
 use Rattle.grep_cmd.specs.declared.script.ScriptFault.TheVariants.{Read, Write, Memory}
-use Rattle.grep_cmd.specs.declared.script.ScriptEnd.{ScriptEnd}
-use Rattle.grep_cmd.specs.declared.script.reply.Answer.{Answer}
 use Rattle.grep_cmd.specs.declared.script.reply.Answer.TheVariants.{Accepted, Refused, Truncated}
+use Rattle.grep_cmd.specs.Replies.{RepliesTo, Replies, SearchesAtMost, truncated, is_refusal}
+use Rattle.grep_cmd.specs.Replies.{end_for, ScriptState, IsUpToReport}
+use Rattle.grep_cmd.specs.{declared.script.ScriptFault.ScriptFault}
+use Rattle.grep_cmd.specs.{declared.script.ScriptEnd.ScriptEnd, declared.script.reply.Answer.Answer}
+use Rattle.grep_cmd.specs.{Script.Step, Script.IsStep, Script.WantsMore}
 use Rattle.script_commands.specs.Commands.{AsksForMemory, line_command}
-use Rattle.grep_cmd.specs.Script.{Step, IsStep, WantsMore}
-use Rattle.grep_cmd.specs.Replies.{RepliesTo, Replies, SearchesAtMost, truncated}
-use Rattle.grep_session.specs.Marks.{Watched}
-use Rattle.grep_cmd.specs.Replies.{is_refusal, end_for, ScriptState, IsUpToReport}
 
 -- the state of a script by its session and its flag
 abbrev pub state_of : Watched → Bool → ScriptState

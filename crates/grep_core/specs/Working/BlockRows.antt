@@ -1,21 +1,15 @@
 -- What is written for several lines of a file, one after the other.
 use Rattle.std.specs.Prelude.{◌≡◌, ℕ, ◌+◌, ◌≤◌, Bool, IsTrue, ◌↔◌, List, [], ◌∷◌, ◌++◌, All, length}
 use Rattle.std.specs.Prelude.{if◌then◌else◌}
-use Rattle.re_syntax.specs.Bytes.{Text}
-use Rattle.re_syntax.specs.Lines.{HasNoNewline, terminated}
-use Rattle.re_syntax.specs.Expression.{Expression}
+use Rattle.re_syntax.specs.{Bytes.Text, Lines.HasNoNewline, Lines.terminated, Expression.Expression}
 use Rattle.re_search.specs.Meters.{Steps}
-use Rattle.grep_core.specs.declared.options.Options.{Options}
-use Rattle.grep_core.specs.declared.search.searched_block.SearchedLines.{SearchedLines}
-use Rattle.grep_core.specs.declared.status.SearchFault.{SearchFault}
 use Rattle.grep_core.specs.declared.status.SearchFault.TheVariants.{Write, Memory}
-use Rattle.grep_io.specs.Counted.{one_more}
-use Rattle.grep_io.specs.Working.Numbered.{Numbered}
-use Rattle.grep_core.specs.Cost.{SearchesLines}
-use Rattle.grep_core.specs.Files.{Selected}
-use Rattle.grep_core.specs.Run.{Writer, TakesAll, TakesFront}
-use Rattle.grep_core.specs.Working.OneLine.{RowsOfLine}
-use Rattle.grep_core.specs.Working.SearchedBlocks.{IsNextOf}
+use Rattle.grep_core.specs.{declared.options.Options.Options}
+use Rattle.grep_core.specs.{declared.search.searched_block.SearchedLines.SearchedLines}
+use Rattle.grep_core.specs.{declared.status.SearchFault.SearchFault, Cost.SearchesLines}
+use Rattle.grep_core.specs.{Files.Selected, Run.Writer, Run.TakesAll, Run.TakesFront}
+use Rattle.grep_core.specs.{Working.OneLine.RowsOfLine, Working.SearchedBlocks.IsNextOf}
+use Rattle.grep_io.specs.{Counted.one_more, Working.Numbered.Numbered}
 
 module _ (es : List Expression) (options : Options) (many : Bool) (name : Text) where
   -- the rows of the lines, the first of which has this number; `found` of them are selected

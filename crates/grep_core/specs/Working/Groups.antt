@@ -1,12 +1,9 @@
 -- Output in which each group of lines around selected ones is after a separator, the first one too,
 -- so that the output of several files is that of each of them in turn.
 use Rattle.std.specs.Prelude.{Bool, List, drop, if◌then◌else◌}
-use Rattle.re_syntax.specs.Bytes.{Text}
-use Rattle.re_syntax.specs.Expression.{Expression}
-use Rattle.grep_core.specs.declared.options.Options.{Options}
-use Rattle.grep_core.specs.Choose.{EachGives}
-use Rattle.grep_core.specs.Files.{File}
-use Rattle.grep_core.specs.Output.{Form, around, OutAs, GroupsOf}
+use Rattle.re_syntax.specs.{Bytes.Text, Expression.Expression}
+use Rattle.grep_core.specs.{declared.options.Options.Options, Choose.EachGives, Files.File}
+use Rattle.grep_core.specs.{Output.Form, Output.around, Output.OutAs, Output.GroupsOf}
 
 module _ (es : List Expression) (options : Options) (many : Bool) where
   abbrev pub GroupedAs : Form → List File → List Text → Type 0

@@ -1,12 +1,9 @@
 -- The matchers of patterns.
 use Rattle.std.specs.Prelude.{◌≡◌, ℕ, ◌≤◌, List, length, map, All}
-use Rattle.re_syntax.specs.declared.syntax.Syntax.{Syntax}
-use Rattle.re_syntax.specs.Bytes.{Text}
-use Rattle.re_search.specs.declared.matcher.Matcher.{Matcher}
-use Rattle.re_search.specs.Reading.{IsReadable}
+use Rattle.re_syntax.specs.{declared.syntax.Syntax.Syntax, Bytes.Text}
 use Rattle.re_search.specs.Working.Matchers.{AreAlike, expressions_of, room_of}
-use Rattle.grep_core.specs.declared.options.Options.{Options}
-use Rattle.grep_core.specs.Files.{AreMeant}
+use Rattle.re_search.specs.{declared.matcher.Matcher.Matcher, Reading.IsReadable}
+use Rattle.grep_core.specs.{declared.options.Options.Options, Files.AreMeant}
 
 -- one matcher for each pattern, each of which is readable
 pub record AreMatchers (syntax : Syntax) (options : Options) (texts : List Text)

@@ -1,20 +1,14 @@
 -- What is written for one line of a file, and for a file's first lines.
 use Rattle.std.specs.Prelude.{◌≡◌, ℕ, ◌+◌, Bool, false, IsTrue, ◌↔◌, List, [], ◌∷◌, ◌++◌, ⊤}
-use Rattle.re_syntax.specs.Bytes.{Text}
-use Rattle.re_syntax.specs.Expression.{Expression}
-use Rattle.grep_core.specs.declared.options.Options.{Options}
-use Rattle.grep_core.specs.declared.status.SearchFault.{SearchFault}
+use Rattle.re_syntax.specs.{Bytes.Text, Expression.Expression}
 use Rattle.grep_core.specs.declared.status.SearchFault.TheVariants.{Write, Memory}
-use Rattle.grep_io.specs.Counted.{one_more}
-use Rattle.grep_core.specs.Choose.{IfHolds}
-use Rattle.grep_core.specs.Files.{File, Selected}
-use Rattle.grep_core.specs.Row.{colon, head}
-use Rattle.grep_core.specs.Output.{Form, parts, lines, around, form, head_of, shown_number}
-use Rattle.grep_core.specs.Output.{RowsOf, PartsOfLine}
-use Rattle.grep_core.specs.Output.{PartRowsOf, GroupsOf}
-use Rattle.grep_core.specs.Run.{Writer, TakesAll, TakesFront}
-use Rattle.grep_io.specs.Working.Handed.{file_so_far}
-use Rattle.grep_core.specs.Working.Requests.{name_shown}
+use Rattle.grep_core.specs.Output.{Form, parts, lines, around, form, head_of, shown_number, RowsOf}
+use Rattle.grep_core.specs.Output.{PartsOfLine, PartRowsOf, GroupsOf}
+use Rattle.grep_core.specs.{declared.options.Options.Options}
+use Rattle.grep_core.specs.{declared.status.SearchFault.SearchFault, Choose.IfHolds, Files.File}
+use Rattle.grep_core.specs.{Files.Selected, Row.colon, Row.head, Run.Writer, Run.TakesAll}
+use Rattle.grep_core.specs.{Run.TakesFront, Working.Requests.name_shown}
+use Rattle.grep_io.specs.{Counted.one_more, Working.Handed.file_so_far}
 
 -- no lines are shown around selected ones
 abbrev pub IsPlain : Form → Type 0

@@ -1,14 +1,10 @@
 -- Expressions that can replace others: they hold on the same stretches, as the one choice of
 -- several expressions does for these.
 use Rattle.std.specs.Prelude.{◌≡◌, ℕ, ◌≤◌, ◌↔◌, List, Option, length, Any, Result}
-use Rattle.re_syntax.specs.Bytes.{Text}
-use Rattle.re_syntax.specs.Expression.{Expression}
-use Rattle.re_syntax.specs.Holds.{Holds}
-use Rattle.grep_core.specs.declared.options.Options.{Options}
-use Rattle.grep_core.specs.declared.status.RunFault.{RunFault}
-use Rattle.grep_core.specs.declared.status.Status.{Status}
+use Rattle.re_syntax.specs.{Bytes.Text, Expression.Expression, Holds.Holds}
+use Rattle.grep_core.specs.{declared.options.Options.Options, declared.status.RunFault.RunFault}
+use Rattle.grep_core.specs.{declared.status.Status.Status, Run.Devices, Run.RunGives}
 use Rattle.grep_io.specs.Reading.{Source}
-use Rattle.grep_core.specs.Run.{Devices, RunGives}
 
 -- some expression of the first list holds on a stretch where some of the second does
 abbrev pub IsSameChoice : List Expression → List Expression → Type 0

@@ -3,19 +3,14 @@ use Rattle.std.specs.Prelude.{◌≡◌, ℕ, zero, suc, ◌<◌, Bool, true, fa
 use Rattle.std.specs.Prelude.{length, drop, take, get_or, slice_range, ◌+◌, ◌-◌, ◌≤◌, ◌&&◌, ◌||◌}
 use Rattle.std.specs.Prelude.{Option, Some, None, if◌then◌else◌}
 use Rattle.std.specs.List.{AllZip, Any}
-use Rattle.re_syntax.specs.Bytes.{Text}
-use Rattle.re_syntax.specs.Expression.{Expression}
-use Rattle.re_syntax.specs.Holds.{Matches}
-use Rattle.re_syntax.specs.Lines.{terminated}
+use Rattle.re_syntax.specs.{Bytes.Text, Expression.Expression, Holds.Matches, Lines.terminated}
 use Rattle.re_trees.specs.declared.span.Span.{Span}
-use Rattle.grep_core.specs.declared.options.Options.{Options}
-use Rattle.grep_core.specs.Cost.{search_cost}
+use Rattle.grep_core.specs.{declared.options.Options.Options, Cost.search_cost}
 use Rattle.line_chunks.specs.Working.Finds.{FoundIn, AreBelow, has_own, is_paired, left_numbers}
 use Rattle.line_chunks.specs.Working.Finds.{numbers_at}
 use Rattle.line_chunks.specs.Working.Chunks.{KeptLine, no_line, FitsColumn}
-use Rattle.grep_session.specs.declared.change.Change.{Change}
-use Rattle.grep_session.specs.Working.Changed.{HasChanged}
 use Rattle.grep_session.specs.Working.Kept.{AddsMatching, ArePartsKept, IsColumn, IsKept}
+use Rattle.grep_session.specs.{declared.change.Change.Change, Working.Changed.HasChanged}
 
 -- ---- the numbers of a line
 

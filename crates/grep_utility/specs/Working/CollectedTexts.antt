@@ -1,20 +1,15 @@
 -- How patterns are buffered: one after the other, each followed by a newline.
 use Rattle.std.specs.Prelude.{◌≡◌, ℕ, Bool, List, ◌++◌, All, Option, Result, Ok, Err, if◌then◌else◌}
-use Rattle.re_syntax.specs.Bytes.{Text}
-use Rattle.re_syntax.specs.Lines.{terminated, HasNoNewline}
-use Rattle.grep_core.specs.Files.{whole, broken}
-use Rattle.grep_core.specs.Messages.{cannot_open, read_error}
-use Rattle.grep_core.specs.Working.Handed.{StandsFor}
+use Rattle.re_syntax.specs.{Bytes.Text, Lines.terminated, Lines.HasNoNewline}
+use Rattle.grep_core.specs.{Files.whole, Files.broken, Messages.cannot_open, Messages.read_error}
+use Rattle.grep_core.specs.{Working.Handed.StandsFor, Run.count_more}
+use Rattle.grep_utility.specs.{declared.patterns.FileRead.FileRead}
+use Rattle.grep_utility.specs.{declared.patterns.PatternsFault.PatternsFault, Folder.Folder}
+use Rattle.grep_utility.specs.{Folder.display_name, Patterns.Unread, Patterns.FileGives}
+use Rattle.grep_utility.specs.{Patterns.GivesPatterns, Texts.out_of_memory, Words.PatternsFrom}
 use Rattle.grep_core.specs.Reading as reading
-use Rattle.grep_core.specs.Run.{count_more}
-use Rattle.grep_utility.specs.declared.patterns.FileRead.{FileRead}
 use Rattle.grep_utility.specs.declared.patterns.FileRead.TheVariants as read
-use Rattle.grep_utility.specs.declared.patterns.PatternsFault.{PatternsFault}
 use Rattle.grep_utility.specs.declared.patterns.PatternsFault.TheVariants as fault
-use Rattle.grep_utility.specs.Folder.{Folder, display_name}
-use Rattle.grep_utility.specs.Patterns.{Unread, FileGives, GivesPatterns}
-use Rattle.grep_utility.specs.Texts.{out_of_memory}
-use Rattle.grep_utility.specs.Words.{PatternsFrom}
 
 -- these patterns were added
 pub record Adds (old new : Text) (texts : List Text) : Type 0 where

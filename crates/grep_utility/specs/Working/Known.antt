@@ -1,22 +1,16 @@
 -- Sources about which all is known, and what they stand for where no read fails.
 use Rattle.std.specs.Prelude.{◌≡◌, ℕ, ◌+◌, ◌-◌, ◌^◌, ◌<◌, ◌≤◌, Bool, true, false, List, [], ◌∷◌}
 use Rattle.std.specs.Prelude.{◌++◌, ◌⊎◌, min, Option, Some, Ok, All, Any, map, length, ⊤}
-use Rattle.re_syntax.specs.Bytes.{Text}
-use Rattle.re_syntax.specs.Expression.{Expression}
-use Rattle.re_syntax.specs.Lines.{list_of}
-use Rattle.re_syntax.specs.Profile.{most_patterns}
+use Rattle.re_syntax.specs.{Bytes.Text, Expression.Expression, Lines.list_of, Profile.most_patterns}
 use Rattle.re_search.specs.Reading.{IsReadable}
-use Rattle.grep_core.specs.declared.options.Options.{Options}
-use Rattle.grep_core.specs.declared.status.Status.{Status}
-use Rattle.grep_core.specs.Files.{File, AreMeant}
-use Rattle.grep_core.specs.Output.{Out}
-use Rattle.grep_core.specs.Messages.{Messages, StatusOf}
-use Rattle.grep_core.specs.Reading.{Source, Reading, not_opened, ends_after}
-use Rattle.grep_core.specs.Run.{files_of, AreReadings, FailuresMet, Writer, Devices, TakesAll}
-use Rattle.grep_utility.specs.Command.{status_number, CommandGives}
-use Rattle.grep_utility.specs.Folder.{Folder, sources_named, searched}
-use Rattle.grep_utility.specs.Texts.{out_of_memory}
-use Rattle.grep_utility.specs.Words.{Asked, list, read}
+use Rattle.grep_core.specs.{declared.options.Options.Options, declared.status.Status.Status}
+use Rattle.grep_core.specs.{Files.File, Files.AreMeant, Output.Out, Messages.Messages}
+use Rattle.grep_core.specs.{Messages.StatusOf, Reading.Source, Reading.Reading, Reading.not_opened}
+use Rattle.grep_core.specs.{Reading.ends_after, Run.files_of, Run.AreReadings, Run.FailuresMet}
+use Rattle.grep_core.specs.{Run.Writer, Run.Devices, Run.TakesAll}
+use Rattle.grep_utility.specs.{Command.status_number, Command.CommandGives, Folder.Folder}
+use Rattle.grep_utility.specs.{Folder.sources_named, Folder.searched, Texts.out_of_memory}
+use Rattle.grep_utility.specs.{Words.Asked, Words.list, Words.read}
 
 -- by whether a source can be opened, and its bytes: both are known, as far as there are any
 abbrev pub AllIsKnown : Option Bool → Option Text → Type 0

@@ -1,17 +1,15 @@
 -- A command before its search: its patterns are read, or it ends.
 use Rattle.std.specs.Prelude.{◌≡◌, ℕ, nat_lt, ◌<◌, ◌-◌, ◌^◌, true, false, List, length, ⊤}
-use Rattle.re_syntax.specs.Bytes.{Text}
-use Rattle.re_syntax.specs.Profile.{most_patterns}
+use Rattle.re_syntax.specs.{Bytes.Text, Profile.most_patterns}
 use Rattle.re_search.specs.declared.matcher.Matcher.{Matcher}
 use Rattle.grep_core.specs.Matchers.{IsFirstRefused}
-use Rattle.grep_utility.specs.declared.prepare.CommandFault.{CommandFault}
 use Rattle.grep_utility.specs.declared.prepare.CommandFault.TheVariants.{Unread, TooMany, Refused}
-use Rattle.grep_utility.specs.Folder.{Folder}
-use Rattle.grep_utility.specs.Patterns.{folder_after_all, GivePatterns, FirstUnread}
-use Rattle.grep_utility.specs.Texts.{too_many_patterns, pattern_refused}
-use Rattle.grep_utility.specs.Words.{Asked}
-use Rattle.grep_utility.specs.Working.CollectedTexts.{StopsFor, reported_of_patterns}
-use Rattle.grep_utility.specs.Working.ServingMatchers.{ServeFor}
+use Rattle.grep_utility.specs.{declared.prepare.CommandFault.CommandFault, Folder.Folder}
+use Rattle.grep_utility.specs.{Patterns.folder_after_all, Patterns.GivePatterns}
+use Rattle.grep_utility.specs.{Patterns.FirstUnread, Texts.too_many_patterns, Texts.pattern_refused}
+use Rattle.grep_utility.specs.{Words.Asked, Working.CollectedTexts.StopsFor}
+use Rattle.grep_utility.specs.{Working.CollectedTexts.reported_of_patterns}
+use Rattle.grep_utility.specs.{Working.ServingMatchers.ServeFor}
 
 module _ (asked : Asked) (folder : Folder) where
   -- the patterns are read, and these matchers serve for them; `after` is then known of the files

@@ -1,20 +1,15 @@
 -- The matchers that a search uses for the patterns of a request.
 use Rattle.std.specs.Prelude.{◌≡◌, ℕ, ◌≤◌, ◌+◌, Bool, List, [], ◌∷◌, ◌++◌, length, map, All}
 use Rattle.std.specs.List.{AllZip}
-use Rattle.re_syntax.specs.declared.syntax.Syntax.{Syntax}
-use Rattle.re_syntax.specs.Bytes.{Text}
-use Rattle.re_syntax.specs.Expression.{Expression}
-use Rattle.re_search.specs.declared.matcher.Matcher.{Matcher}
-use Rattle.re_search.specs.Reading.{IsReadable}
-use Rattle.re_search.specs.Working.Literals.{any_literal, literal_meaning}
-use Rattle.re_search.specs.Working.Matchers.{AreAlike, expressions_of, matched_expression}
-use Rattle.re_search.specs.Working.Matchers.{room_of, wants_whole}
-use Rattle.re_search.specs.declared.pattern.Pattern.{Pattern}
-use Rattle.re_search.specs.Working.Patterns.{meant_by, IsPattern}
-use Rattle.grep_core.specs.declared.options.Options.{Options}
-use Rattle.grep_core.specs.Files.{AreMeant}
-use Rattle.grep_core.specs.Working.MatcherLists.{KeepAtMost}
-use Rattle.grep_core.specs.Working.SameChoice.{IsSameChoice}
+use Rattle.re_syntax.specs.{declared.syntax.Syntax.Syntax, Bytes.Text, Expression.Expression}
+use Rattle.re_search.specs.Working.Matchers.{AreAlike, expressions_of, matched_expression, room_of}
+use Rattle.re_search.specs.Working.Matchers.{wants_whole}
+use Rattle.re_search.specs.{declared.matcher.Matcher.Matcher, Reading.IsReadable}
+use Rattle.re_search.specs.{Working.Literals.any_literal, Working.Literals.literal_meaning}
+use Rattle.re_search.specs.{declared.pattern.Pattern.Pattern, Working.Patterns.meant_by}
+use Rattle.re_search.specs.{Working.Patterns.IsPattern}
+use Rattle.grep_core.specs.{declared.options.Options.Options, Files.AreMeant}
+use Rattle.grep_core.specs.{Working.MatcherLists.KeepAtMost, Working.SameChoice.IsSameChoice}
 
 -- how many entries the cache of a matcher may have at most
 abbrev pub most_kept : ℕ

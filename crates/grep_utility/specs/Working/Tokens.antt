@@ -1,23 +1,21 @@
 -- How words are cut into pieces from the first one on, and what is made of them.
 use Rattle.std.specs.Prelude.{◌≡◌, List, [], ◌∷◌, map, Option, Some, None, Result, Ok, Err}
-use Rattle.std.specs.String.{string_bytes}
-use Rattle.std.specs.Borrow.{Bor}
-use Rattle.std.specs.Str.{chars}
+use Rattle.std.specs.{String.string_bytes, Borrow.Bor, Str.chars}
 use Rattle.re_syntax.specs.Bytes.{Text}
-use Rattle.grep_utility.specs.Words.{Token, flag, reads_as, source, list, file, around, operand, fault}
-use Rattle.grep_utility.specs.Words.{an_operand, ends_options, a_group, word_of, group, pieces}
-use Rattle.grep_utility.specs.Words.{texts_of, read, Asked, PatternsFrom, Draft}
-use Rattle.grep_utility.specs.declared.words.UsageFault.{UsageFault}
-use Rattle.grep_utility.specs.declared.words.UsageFault.TheVariants.{Memory}
-use Rattle.grep_utility.specs.declared.words.PatternSource.{PatternSource}
+use Rattle.grep_utility.specs.Words.{Token, flag, reads_as, source, list, file, around, operand}
+use Rattle.grep_utility.specs.Words.{fault, an_operand, ends_options, a_group, word_of, group}
+use Rattle.grep_utility.specs.Words.{pieces, texts_of, read, Asked, PatternsFrom, Draft}
+use Rattle.grep_utility.specs.declared.words.tokens.Word.TheVariants.{Operand, EndOfOptions, Group}
+use Rattle.grep_utility.specs.{declared.words.UsageFault.UsageFault}
+use Rattle.grep_utility.specs.{declared.words.UsageFault.TheVariants.Memory}
+use Rattle.grep_utility.specs.{declared.words.PatternSource.PatternSource}
+use Rattle.grep_utility.specs.{declared.words.Request.Request}
+use Rattle.grep_utility.specs.{declared.words.tokens.WordTokens.WordTokens}
 use Rattle.grep_utility.specs.declared.words.PatternSource.TheVariants as given
-use Rattle.grep_utility.specs.declared.words.Request.{Request}
 use Rattle.grep_utility.specs.declared.words.Draft as code_draft
 use Rattle.grep_utility.specs.declared.words.tokens.Token as code
 use Rattle.grep_utility.specs.declared.words.tokens.Token.TheVariants as piece
 use Rattle.grep_utility.specs.declared.words.tokens.Word as kind
-use Rattle.grep_utility.specs.declared.words.tokens.Word.TheVariants.{Operand, EndOfOptions, Group}
-use Rattle.grep_utility.specs.declared.words.tokens.WordTokens.{WordTokens}
 
 -- ---- requests by their texts
 

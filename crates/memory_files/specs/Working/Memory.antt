@@ -2,14 +2,11 @@
 use Rattle.std.specs.Prelude.{◌≡◌, ℕ, min, nat_eq, List, [], find, Option, Some, is_some}
 use Rattle.std.specs.Prelude.{option_and_then, bytes_eq, if◌then◌else◌}
 use Rattle.re_syntax.specs.Bytes.{Text}
-use Rattle.grep_core.specs.Working.Limited.{limited}
-use Rattle.grep_core.specs.Reading.{Source}
-use Rattle.memory_files.specs.declared.files.Content.{Content}
-use Rattle.memory_files.specs.declared.files.MemoryFile.{MemoryFile}
-use Rattle.memory_files.specs.declared.files.MemoryFiles.{MemoryFiles}
-use Rattle.memory_files.specs.declared.files.MemoryReader.{MemoryReader}
-use Rattle.grep_utility.specs.Folder.{Folder}
-use Rattle.grep_utility.specs.Working.Known.{HasReturned}
+use Rattle.grep_core.specs.{Working.Limited.limited, Reading.Source}
+use Rattle.memory_files.specs.{declared.files.Content.Content, declared.files.MemoryFile.MemoryFile}
+use Rattle.memory_files.specs.{declared.files.MemoryFiles.MemoryFiles}
+use Rattle.memory_files.specs.{declared.files.MemoryReader.MemoryReader}
+use Rattle.grep_utility.specs.{Folder.Folder, Working.Known.HasReturned}
 
 -- the bytes that reads of the content give
 abbrev pub bytes_of : Content → Option Text

@@ -1,18 +1,16 @@
 -- Looks over lines and blocks: what they pass, where a sweep stops, and what is known of the line
 -- there.
-use Rattle.std.specs.Prelude.{◌≡◌, ℕ, ◌+◌, ◌-◌, ◌≤◌, ◌↔◌, ◌⊎◌, Bool, IsTrue, Option, None, min, max, length, slice_range, ⊤}
-use Rattle.re_trees.specs.Bytes.{Text}
-use Rattle.re_trees.specs.Expression.{Expression}
-use Rattle.re_trees.specs.Holds.{Matches}
+use Rattle.std.specs.Prelude.{◌≡◌, ℕ, ◌+◌, ◌-◌, ◌≤◌, ◌↔◌, ◌⊎◌, Bool, IsTrue, Option, None, min, max}
+use Rattle.std.specs.Prelude.{length, slice_range, ⊤}
+use Rattle.re_trees.specs.{Bytes.Text, Expression.Expression, Holds.Matches}
 use Rattle.re_meter.specs.Meters.{Steps, AddsBetween, many_passed}
+use Rattle.re_runs.specs.Working.Runs.{Runs, FindsRun, longest_of, look_cost}
 use Rattle.re_runs.specs.Working.Blocks.{IsLineFrom}
 use Rattle.re_needle.specs.Working.Needles.{RunIsNeeded, RunBegins}
-use Rattle.re_runs.specs.Working.Runs.{Runs, FindsRun, longest_of, look_cost}
-use Rattle.re_match.specs.Working.Literals.{Literals, LooksForAny}
-use Rattle.re_match.specs.Working.Prefilters.{AreNeeded}
-use Rattle.re_match.specs.declared.sweeps.Stop.{Stop}
 use Rattle.re_match.specs.declared.sweeps.Stop.TheVariants.{Unseen, Seen, Decided}
-use Rattle.re_match.specs.declared.sweeps.Sweep.{Sweep}
+use Rattle.re_match.specs.{Working.Literals.Literals, Working.Literals.LooksForAny}
+use Rattle.re_match.specs.{Working.Prefilters.AreNeeded, declared.sweeps.Stop.Stop}
+use Rattle.re_match.specs.{declared.sweeps.Sweep.Sweep}
 
 -- how many bytes of a line may still be passed
 abbrev pub left_for : Stop → ℕ → ℕ

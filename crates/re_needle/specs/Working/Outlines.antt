@@ -1,13 +1,12 @@
 -- Outlines of expressions: sets of bytes one after another, with stretches between them that may be
 -- anything.
-use Rattle.std.specs.Prelude.{◌≡◌, ℕ, ◌+◌, ◌<◌, ◌≤◌, ⊤, IsTrue, List, [], ◌∷◌, ◌++◌, length, map, min, replicate, slice_get, Option, None, Some}
-use Rattle.re_trees.specs.Bytes.{Bytes, Text}
-use Rattle.re_trees.specs.Expression.{Expression, one_of}
-use Rattle.re_trees.specs.Holds.{Holds}
-use Rattle.re_trees.specs.Working.Trees.{members}
+use Rattle.std.specs.Prelude.{◌≡◌, ℕ, ◌+◌, ◌<◌, ◌≤◌, ⊤, IsTrue, List, [], ◌∷◌, ◌++◌, length, map}
+use Rattle.std.specs.Prelude.{min, replicate, slice_get, Option, None, Some}
+use Rattle.re_trees.specs.{Bytes.Bytes, Bytes.Text, Expression.Expression, Expression.one_of}
+use Rattle.re_trees.specs.{Holds.Holds, Working.Trees.members}
 use Rattle.re_needle.specs.declared.outline_item.OutlineItem.{OutlineItem}
-use Rattle.re_needle.specs.declared.outline_item.OutlineItem.TheVariants as m
 use Rattle.re_runs.specs.Working.Runs.{set_at}
+use Rattle.re_needle.specs.declared.outline_item.OutlineItem.TheVariants as m
 
 -- a mark of an outline: a set, or any stretch
 abbrev pub shown : OutlineItem → Option Bytes

@@ -1,16 +1,11 @@
 -- What the text of a pattern is read as.
 use Rattle.std.specs.Prelude.{◌≡◌, ◌≤◌, Bool, true, false, IsTrue, if◌then◌else◌, length}
-use Rattle.re_syntax.specs.declared.syntax.Syntax.{Syntax}
-use Rattle.re_syntax.specs.Bytes.{Text}
-use Rattle.re_syntax.specs.Expression.{Expression}
-use Rattle.re_syntax.specs.Holds.{folded, positions}
-use Rattle.re_syntax.specs.Profile.{most_positions}
-use Rattle.re_syntax.specs.Spelled.{IsSpelled, has_limit}
-use Rattle.re_syntax.specs.Working.Trees.{expression_of}
-use Rattle.re_search.specs.declared.pattern.Pattern.{Pattern}
+use Rattle.re_syntax.specs.{declared.syntax.Syntax.Syntax, Bytes.Text, Expression.Expression}
+use Rattle.re_syntax.specs.{Holds.folded, Holds.positions, Profile.most_positions}
+use Rattle.re_syntax.specs.{Spelled.IsSpelled, Spelled.has_limit, Working.Trees.expression_of}
+use Rattle.re_search.specs.{declared.pattern.Pattern.Pattern, Reading.IsSmallFor}
+use Rattle.re_search.specs.{Working.Strings.string_expression}
 use Rattle.re_search.specs.declared.pattern.Pattern.TheVariants as p
-use Rattle.re_search.specs.Reading.{IsSmallFor}
-use Rattle.re_search.specs.Working.Strings.{string_expression}
 
 -- its expression
 abbrev pub pattern_expression : Pattern → Expression

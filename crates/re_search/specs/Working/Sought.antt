@@ -1,12 +1,10 @@
 -- What several matchers search for together, and what they find in a block of whole lines.
 use Rattle.std.specs.Prelude.{ℕ, Bool, List, Option}
-use Rattle.re_syntax.specs.Bytes.{Text}
-use Rattle.re_syntax.specs.Expression.{Expression}
+use Rattle.re_syntax.specs.{Bytes.Text, Expression.Expression}
 use Rattle.re_trees.specs.declared.span.Span.{Span}
 use Rattle.re_auto.specs.Searches.{SomeMatches}
 use Rattle.re_runs.specs.Working.Blocks.{PassesAll, FindsNext, HoldsOfMany}
-use Rattle.re_search.specs.declared.matcher.Matcher.{Matcher}
-use Rattle.re_search.specs.Working.Matchers.{expressions_of}
+use Rattle.re_search.specs.{declared.matcher.Matcher.Matcher, Working.Matchers.expressions_of}
 
 -- the expressions, and whether the whole line has to be matched
 pub record Sought : Type 0 where

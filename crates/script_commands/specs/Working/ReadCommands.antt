@@ -1,21 +1,20 @@
 -- What a command that was read means.
 use Rattle.std.specs.Prelude.{List}
-use Rattle.re_syntax.specs.Bytes.{Text}
-use Rattle.re_syntax.specs.Lines.{joined}
+use Rattle.re_syntax.specs.{Bytes.Text, Lines.joined}
 use Rattle.grep_session.specs.Edits.{Edit, AddFile, AddMissing, DropFile, Splice, AddPatterns}
 use Rattle.grep_session.specs.Edits.{DropPattern, ChangePattern, SetFlag, SetSyntax, SetContext}
-use Rattle.script_commands.specs.declared.command.LineEdit.{LineEdit}
+use Rattle.script_commands.specs.Commands.{Command, edits, counts, shows, lists_changes, lists_page}
+use Rattle.script_commands.specs.Commands.{asks_version, switches_text}
+use Rattle.script_commands.specs.{declared.command.LineEdit.LineEdit}
+use Rattle.script_commands.specs.{declared.command.FileEdit.FileEdit}
+use Rattle.script_commands.specs.{declared.command.PatternEdit.PatternEdit}
+use Rattle.script_commands.specs.{declared.command.CountedEdit.CountedEdit}
 use Rattle.script_commands.specs.declared.command.LineEdit.TheVariants as line_edit
-use Rattle.script_commands.specs.declared.command.FileEdit.{FileEdit}
 use Rattle.script_commands.specs.declared.command.FileEdit.TheVariants as file_edit
-use Rattle.script_commands.specs.declared.command.PatternEdit.{PatternEdit}
 use Rattle.script_commands.specs.declared.command.PatternEdit.TheVariants as pattern_edit
-use Rattle.script_commands.specs.declared.command.CountedEdit.{CountedEdit}
 use Rattle.script_commands.specs.declared.command.CountedEdit.TheVariants as counted
 use Rattle.script_commands.specs.declared.command.Command as declared
 use Rattle.script_commands.specs.declared.command.Command.TheVariants as command
-use Rattle.script_commands.specs.Commands.{Command, edits, counts, shows, lists_changes, lists_page}
-use Rattle.script_commands.specs.Commands.{asks_version, switches_text}
 
 abbrev pub line_meant : LineEdit → Edit
 line_meant (line_edit.AddMissing name) = AddMissing name.items
