@@ -1,4 +1,4 @@
-use Rattle.grep_live.proofs.Prelude.{ℕ, ◌-◌, [], ◌∷◌, ◌++◌, codes, length, map, subst, output_line, GoesOut, StopsWithin, spaced, hit_row}
+use Rattle.grep_live.proofs.Prelude.{ℕ, ◌-◌, [], ◌∷◌, ◌++◌, codes, length, map, spaced, hit_row}
 use Rattle.grep_session.proofs.lemmas.Writing.{writes_err, one_went, one_stopped, stops_before, writes_after}
 use Rattle.grep_live.proofs.change_rows.write_rows.Goals as goal
 

@@ -1,4 +1,4 @@
-use Rattle.grep_live.proofs.Prelude.{◌-◌, sym, subst, written, GoesOut, Writes}
+use Rattle.grep_live.proofs.Prelude.{◌-◌, sym}
 use Rattle.grep_core.proofs.lemmas.RowLemmas.{goes_nowhere}
 use Rattle.grep_live.proofs.lemmas.ChangesLemmas.{rows_idle, rows_busy}
 use Rattle.grep_live.proofs.change_rows.write_stretch.Goals as goal

@@ -1,4 +1,4 @@
-use Rattle.grep_live.proofs.Prelude.{List, Ok, Err, refl, sym, subst, Expression, WriteFault, written, GoesOut, StopsWithin, Marked, AllThree, Change, ChangesFile, changes_rows, AreFit, Mean}
+use Rattle.grep_live.proofs.Prelude.{refl, WriteFault}
 use Rattle.grep_live.proofs.lemmas.CatchLemmas.{writes_all}
 use Rattle.grep_live.proofs.lists.changes.Goals as goal
 

@@ -1,4 +1,4 @@
-use Rattle.grep_live.proofs.Prelude.{Ok, Err, refl, WriteFault}
+use Rattle.grep_live.proofs.Prelude.{refl, WriteFault}
 use Rattle.grep_live.proofs.lemmas.PageLemmas.{shows_page}
 use Rattle.grep_live.proofs.lists.page.Goals as goal
 

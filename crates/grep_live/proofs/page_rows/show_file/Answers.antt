@@ -1,4 +1,4 @@
-use Rattle.grep_live.proofs.Prelude.{ℕ, arith, subst, sym, written, GoesOut, StopsWithin, HitsBetween}
+use Rattle.grep_live.proofs.Prelude.{arith}
 use Rattle.grep_session.proofs.lemmas.Writing.{writes_err}
 use Rattle.grep_live.proofs.lemmas.PageLemmas.{shown_from}
 use Rattle.grep_live.proofs.page_rows.show_file.Goals as goal

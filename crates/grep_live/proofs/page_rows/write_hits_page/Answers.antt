@@ -1,4 +1,4 @@
-use Rattle.grep_live.proofs.Prelude.{ℕ, ◌-◌, ◌^◌, [], ◌∷◌, length, min, subst, output_line, GoesOut, StopsWithin, total_row, page_rows, all_hits}
+use Rattle.grep_live.proofs.Prelude.{◌-◌, ◌^◌, [], ◌∷◌, length, min, total_row, page_rows, all_hits}
 use Rattle.grep_session.proofs.lemmas.Writing.{writes_err, one_went, one_stopped, stops_before, writes_after}
 use Rattle.grep_live.proofs.page_rows.write_hits_page.Goals as goal
 

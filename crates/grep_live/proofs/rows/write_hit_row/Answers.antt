@@ -1,4 +1,4 @@
-use Rattle.grep_live.proofs.Prelude.{[], ◌∷◌, ◌++◌, map, subst, Text, newline, StopsWithin, Writes, span_places, spaced, parts_text, line_text}
+use Rattle.grep_live.proofs.Prelude.{[], ◌∷◌, ◌++◌, map, newline, span_places, spaced, parts_text, line_text}
 use Rattle.grep_core.proofs.lemmas.RowLemmas.{stops_early, writes_last}
 use Rattle.grep_session.proofs.lemmas.Writing.{writes_err}
 use Rattle.grep_live.proofs.lemmas.Pushing.{row_grouped}

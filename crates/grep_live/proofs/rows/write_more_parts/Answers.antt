@@ -1,4 +1,4 @@
-use Rattle.grep_live.proofs.Prelude.{ℕ, ◌<◌, ◌∷◌, [], length, map, get_or, subst, sym, arith, length-map, Span, GoesOut, StopsWithin, span_places, part_text, more_parts}
+use Rattle.grep_live.proofs.Prelude.{◌<◌, ◌∷◌, [], length, map, get_or, arith, length-map, Span, GoesOut, StopsWithin, span_places, part_text, more_parts}
 use Rattle.std.proofs.Math.ListN.{get_or-map}
 use Rattle.grep_session.proofs.lemmas.Writing.{writes_err}
 use Rattle.grep_live.proofs.lemmas.Pushing.{each_none, each_on, each_stops, each_all}
