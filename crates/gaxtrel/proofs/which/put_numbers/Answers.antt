@@ -1,6 +1,9 @@
-use Rattle.gaxtrel.proofs.Prelude.{◌≡◌, ◌∙◌, [], get_or, arith, refl, sym, subst, drop_all, length-map, expressions_of, matched_expression, wants_whole, AreNumbers}
+use Rattle.std.proofs.Common.{◌≡◌, ◌∙◌, [], get_or, arith, refl, sym, subst}
+use Rattle.std.proofs.lemmas.List.{drop_all, length-map}
+use Rattle.re_search.specs.Working.Matchers.{expressions_of, matched_expression, wants_whole}
 use Rattle.re_search.proofs.lemmas.KeptMatchers.{one_kept}
 use Rattle.re_search.proofs.lemmas.OneMatcherMore.{steps_more, value_at, within}
+use Rattle.gaxtrel.specs.Calls.{AreNumbers}
 use Rattle.gaxtrel.proofs.ArrayLemmas.{all_put}
 use Rattle.gaxtrel.proofs.WhichLemmas.{one_asked}
 use Rattle.gaxtrel.proofs.which.put_numbers.Goals as goal
@@ -16,9 +19,9 @@ loop-matcher-preserved c =
     let ws = inv.same.same_wholes in
     let h = c.loop-matcher-test.true in
     let m = get_or now i d in
-    let is_whole = sym (value_at wants_whole old now ws i d h (wants_whole m)) ∙ c.requires i (wants_whole m) (within wants_whole old now ws i d h).1 in
+    let is_whole : wants_whole m ≡ c.args._whole = sym (value_at wants_whole old now ws i d h (wants_whole m)) ∙ c.requires i (wants_whole m) (within wants_whole old now ws i d h).1 in
     record {
-      found = one_asked _ _ _ i _ (within matched_expression old now es i d h).1 (value_at matched_expression old now es i d h (matched_expression m)) _ _ _ _ _ _
+      found = one_asked c.args._whole c.args.line.now (expressions_of old) i (matched_expression m) (within matched_expression old now es i d h).1 (value_at matched_expression old now es i d h (matched_expression m)) c.is_match-matched.result c.loop-matcher.count c.put_if-count.result _ _ _
           (rw is_whole at c.is_match-matched.ensures.reported) inv.found (rw inv.number at c.put_if-count.ensures.put);
       number = omega (arith, inv.number);
       few = omega (arith, inv.few, c.put_if-count.ensures.few);
@@ -30,4 +33,4 @@ pub returns-clause-put : goal.returns-clause-put
 returns-clause-put c =
     let old = c.args.matchers.now in
     let i = c.loop-matcher.matcher-index in
-    all_put c.loop-matcher.invariant.found (rw (drop_all i (expressions_of old) (omega (arith, length-map old matched_expression, c.loop-matcher-test.false))) refl)
+    all_put _ _ c.loop-matcher.count _ _ c.loop-matcher.invariant.found (subst (λ l. AreNumbers c.args._whole c.args.line.now l i []) (sym (drop_all i (expressions_of old) (omega (arith, length-map old matched_expression, c.loop-matcher-test.false)))) refl)

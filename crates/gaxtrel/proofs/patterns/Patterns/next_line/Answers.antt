@@ -1,4 +1,7 @@
-use Rattle.gaxtrel.proofs.Prelude.{◌∙◌, None, Some, ap, arith, sought_of, take_rest, sought_in}
+use Rattle.std.proofs.Common.{◌∙◌, None, Some, ap, arith}
+use Rattle.re_search.specs.Working.Sought.{sought_of}
+use Rattle.std.proofs.lemmas.List.{take_rest}
+use Rattle.gaxtrel.specs.Kept.{sought_in}
 use Rattle.gaxtrel.proofs.KeptLemmas.{still_right}
 use Rattle.gaxtrel.proofs.TextLemmas.{none_past, line_found}
 use Rattle.gaxtrel.proofs.patterns.Patterns.next_line.Goals as goal
@@ -10,7 +13,7 @@ pub invariant_of-self-2 : goal.invariant_of-self-2
 invariant_of-self-2 c = still_right _ _ _ _ _ c.next_in_text-found.ensures.same c.deref_mut.ensures.value c.deref_mut.ensures.len c.self.invariant
 
 pub returns-then-from-text-clause-reported : goal.returns-then-from-text-clause-reported
-returns-then-from-text-clause-reported c = none_past _ _ _ _ (omega (arith, c.if-from-text.true))
+returns-then-from-text-clause-reported c = none_past _ c.args.text.now c.args.from _ (omega (arith, c.if-from-text.true))
 
 pub returns-in_default-clause-reported : goal.returns-in_default-clause-reported
 returns-in_default-clause-reported c =
@@ -20,4 +23,4 @@ returns-in_default-clause-reported c =
 pub returns-clause-reported : goal.returns-clause-reported
 returns-clause-reported c =
     let same = ap (sought_of c.self.inside.whole) c.deref_mut.ensures.value ∙ ap sought_in c.self.view_is in
-    line_found _ _ _ _ _ _ _ _ same (take_rest c.args.text.now c.args.from) c.in-Some.ensures.reported c.in-Some.ensures.steps
+    line_found _ _ _ _ _ (Some c.in-Some.at) _ _ same (take_rest c.args.text.now c.args.from) c.in-Some.ensures.reported c.in-Some.ensures.steps
