@@ -4,16 +4,16 @@ use Rattle.std.specs.Prelude.{Option, Some, None, drop, length, map, min, take}
 use Rattle.re_syntax.specs.{Bytes.Text, declared.syntax.Syntax.Syntax}
 use Rattle.re_syntax.specs.{declared.fault.FaultKind.FaultKind, Expression.Expression}
 use Rattle.re_syntax.specs.{Holds.Matches, Lines.ended_lines_of, Lines.lines_of, Lines.terminated}
-use Rattle.re_syntax.specs.{Parts.ArePartsFrom}
+use Rattle.re_syntax.specs.Parts.{ArePartsFrom}
 use Rattle.re_trees.specs.declared.span.Span.{Span}
 use Rattle.re_meter.specs.Meters.{Steps, AddsAtMost, fresh}
 use Rattle.re_search.specs.Working.Sought.{FindsSought, IsSought, Sought}
 use Rattle.gaxtrel.specs.declared.held.Held.TheVariants.{Patterns, Session}
 use Rattle.gaxtrel.specs.{Kept.Allows, Kept.Kept, Kept.Serves, Kept.Terms, Kept.sought_in}
 use Rattle.gaxtrel.specs.{Kept.terms_of, Live.LiveKept, declared.held.Held.Held}
-use Rattle.gaxtrel.specs.{declared.part.GaxtrelPart.GaxtrelPart}
-use Rattle.gaxtrel.specs.{declared.text_lines.GaxtrelLine.GaxtrelLine}
-use Rattle.gaxtrel.specs.{declared.work.GaxtrelWork.GaxtrelWork}
+use Rattle.gaxtrel.specs.declared.part.GaxtrelPart.{GaxtrelPart}
+use Rattle.gaxtrel.specs.declared.text_lines.GaxtrelLine.{GaxtrelLine}
+use Rattle.gaxtrel.specs.declared.work.GaxtrelWork.{GaxtrelWork}
 use Rattle.re_syntax.specs.declared.syntax.Syntax.TheVariants as s
 use Rattle.re_syntax.specs.declared.fault.FaultKind.TheVariants as f
 

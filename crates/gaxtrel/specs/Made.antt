@@ -9,10 +9,10 @@ use Rattle.re_meter.specs.Meters.{fresh}
 use Rattle.re_search.specs.Reading.{IsReadable}
 use Rattle.grep_core.specs.Matchers.{IsFirstRefused}
 use Rattle.gaxtrel.specs.{declared.held.Held.Held, declared.numbers.GaxtrelFault.GaxtrelFault}
-use Rattle.gaxtrel.specs.{declared.options.GaxtrelOptions.GaxtrelOptions}
+use Rattle.gaxtrel.specs.declared.options.GaxtrelOptions.{GaxtrelOptions}
 use Rattle.gaxtrel.specs.{declared.work.GaxtrelWork.GaxtrelWork, Kept.Kept, Kept.Serves}
 use Rattle.gaxtrel.specs.{Kept.sought_in, Calls.kind_number, Calls.patterns_in, Calls.steps_of}
-use Rattle.gaxtrel.specs.{Calls.syntax_number}
+use Rattle.gaxtrel.specs.Calls.{syntax_number}
 
 -- the options of the calls that take none
 abbrev pub options_for : ℕ → Bool → Bool → Bool → Bool → GaxtrelOptions

@@ -2,7 +2,7 @@
 use Rattle.std.specs.Prelude.{◌≡◌, ◌≢◌, ℕ, ◌+◌, length, if◌then◌else◌, List, [], ◌∷◌, ◌++◌, drop}
 use Rattle.std.specs.Prelude.{map, take, Bool, true, codes, bytes_eq, Option, Result, Ok, Err, ◌⊎◌}
 use Rattle.std.specs.{List.list_any, Fmt.decimal, Io.KnownBytes.prepend_known}
-use Rattle.std.specs.{Io.KnownBytes.Consumes}
+use Rattle.std.specs.Io.KnownBytes.{Consumes}
 use Rattle.re_syntax.specs.{Bytes.Text, Lines.lines_of}
 use Rattle.grep_core.specs.Reading.{Reading, IsReadingOf, AreLeft, open_source, file_of}
 use Rattle.grep_core.specs.Reading.{failures_of, IsOneLineAndFew}
@@ -10,7 +10,7 @@ use Rattle.grep_core.specs.declared.status.Status.TheVariants.{Selected, NoneSel
 use Rattle.grep_core.specs.{Files.File, Files.Inputs, Files.whole, Files.broken, Meters.AddsAtMost}
 use Rattle.grep_core.specs.{Meters.Steps as StepCounts, Output.written, Run.count_more}
 use Rattle.grep_core.specs.{Written.GoesOut, Written.StopsWithin, Written.Writes}
-use Rattle.grep_core.specs.{declared.status.Status.Status}
+use Rattle.grep_core.specs.declared.status.Status.{Status}
 use Rattle.grep_session.specs.{declared.fault.EditFault.EditFault, Edits.Edit, Edits.EditGives}
 use Rattle.grep_session.specs.{Headline.GrepGives, Touched.Costs, Touched.NeedsNoMemory}
 use Rattle.grep_session.specs.{Marks.Watched, Marks.new_watched, Marks.all_known, Marks.MarksGiven}
@@ -19,10 +19,10 @@ use Rattle.grep_cmd.specs.declared.script.ScriptFault.TheVariants.{Read, Write, 
 use Rattle.grep_cmd.specs.Script.{Step, does, reports, reports_changes, reports_page, is_bad}
 use Rattle.grep_cmd.specs.Script.{is_truncated, tells_version, sets_text, Steps, IsUnfinished}
 use Rattle.grep_cmd.specs.Script.{IsBegun}
-use Rattle.grep_cmd.specs.{declared.script.ScriptEnd.ScriptEnd}
-use Rattle.grep_cmd.specs.{declared.script.ScriptFault.ScriptFault}
+use Rattle.grep_cmd.specs.declared.script.ScriptEnd.{ScriptEnd}
+use Rattle.grep_cmd.specs.declared.script.ScriptFault.{ScriptFault}
 use Rattle.grep_live.specs.{Reported.AllChanges, Reported.AllHits, Rows.changes_rows}
-use Rattle.grep_live.specs.{Rows.page_lines}
+use Rattle.grep_live.specs.Rows.{page_lines}
 use Rattle.grep_utility.specs.Texts.{kind_name}
 use Rattle.grep_session.specs.declared.fault.EditFault.TheVariants as fault
 

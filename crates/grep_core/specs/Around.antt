@@ -5,7 +5,7 @@ use Rattle.std.specs.List.{enumerate_from}
 use Rattle.re_syntax.specs.{Bytes.Text, Expression.Expression}
 use Rattle.grep_core.specs.{declared.options.Context.Context, declared.options.Options.Options}
 use Rattle.grep_core.specs.{Row.colon, Row.hyphen, Row.head, Choose.IfHolds, Choose.EachGives}
-use Rattle.grep_core.specs.{Files.Selected}
+use Rattle.grep_core.specs.Files.{Selected}
 
 -- the output line between groups of lines that follow one another
 abbrev pub group_separator : Text

@@ -6,7 +6,7 @@ use Rattle.std.specs.Prelude.{ℕ, ◌+◌, ◌*◌, List, length, sum_by}
 use Rattle.re_meter.specs.Meters.{Steps, AddsAtMost}
 use Rattle.re_syntax.specs.Bytes.{Text}
 use Rattle.grep_core.specs.{declared.options.Options.Options, Files.File, Output.Form, Output.parts}
-use Rattle.grep_core.specs.{Output.form}
+use Rattle.grep_core.specs.Output.{form}
 
 -- one search of a line by each of the matchers
 abbrev pub search_cost : ℕ → Text → ℕ

@@ -10,7 +10,7 @@ use Rattle.grep_core.specs.{declared.options.Options.Options, declared.status.St
 use Rattle.grep_core.specs.{declared.status.RunFault.RunFault, Choose.IfHolds, Files.File}
 use Rattle.grep_core.specs.{Files.whole, Files.missing, Files.HasSelected, Messages.FaultMet}
 use Rattle.grep_core.specs.{Messages.Messages, Messages.StatusOf, Sources.source_at}
-use Rattle.grep_core.specs.{Cost.SearchesFiles}
+use Rattle.grep_core.specs.Cost.{SearchesFiles}
 use Rattle.grep_io.specs.Reading.{Source, Reading, IsReadingOf, file_of, failures_of, AreLeft}
 use Rattle.grep_io.specs.Reading.{HasRead}
 use Rattle.grep_io.specs.Counted.{one_more}

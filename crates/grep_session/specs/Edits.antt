@@ -9,7 +9,7 @@ use Rattle.re_search.specs.Reading.{IsReadable}
 use Rattle.grep_core.specs.{declared.options.Flag.Flag, declared.options.Context.Context}
 use Rattle.grep_core.specs.{Options.no_options, Options.with_option, Choose.IfHolds, Files.File}
 use Rattle.grep_core.specs.{Files.Inputs, Files.whole, Files.missing, Matchers.IsFirstRefused}
-use Rattle.grep_core.specs.{Run.file_at}
+use Rattle.grep_core.specs.Run.{file_at}
 use Rattle.grep_session.specs.declared.fault.EditFault.TheVariants.{NoSuchFile, FileIsMissing}
 use Rattle.grep_session.specs.declared.fault.EditFault.TheVariants.{OutOfRange, LineHasNewline}
 use Rattle.grep_session.specs.declared.fault.EditFault.TheVariants.{NoSuchPattern, Pattern}

@@ -6,7 +6,7 @@ use Rattle.std.specs.Prelude.{◌≡◌, ℕ, List, [], ◌∷◌, ◌++◌, Opt
 use Rattle.re_syntax.specs.{Bytes.Text, Expression.Expression}
 use Rattle.grep_core.specs.{declared.status.Status.Status, Files.Inputs, Files.Mean}
 use Rattle.grep_core.specs.{Messages.Messages, Messages.StatusOf, Output.Out, Output.written}
-use Rattle.grep_core.specs.{Written.Writes}
+use Rattle.grep_core.specs.Written.{Writes}
 use Rattle.grep_session.specs.{declared.fault.EditFault.EditFault, Edits.Edit, Edits.Applies}
 use Rattle.grep_session.specs.{Edits.EditGives, Edits.no_inputs}
 

@@ -1,7 +1,7 @@
 -- Laws of the definitions.
 use Rattle.std.specs.Prelude.{◌≡◌, ℕ, Result, Ok, Err}
 use Rattle.grep_core.specs.Files.{Inputs}
-use Rattle.grep_session.specs.{declared.fault.EditFault.EditFault}
+use Rattle.grep_session.specs.declared.fault.EditFault.{EditFault}
 use Rattle.grep_session.specs.{declared.fault.EditFault.TheVariants.Pattern, Edits.Edit}
 use Rattle.grep_session.specs.{Edits.Applies, Touched.Costs}
 

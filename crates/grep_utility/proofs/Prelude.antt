@@ -64,7 +64,7 @@ pub use Rattle.re_syntax.specs.Intervals.{value, value_after}
 pub use Rattle.re_syntax.specs.Lines.{AreListed, HasNoNewline, joined, newline, terminated}
 unfoldable pub use Rattle.re_syntax.specs.Lines.{ended_lines_of, list_of}
 pub use Rattle.re_syntax.specs.Profile.{most_patterns}
-pub use Rattle.re_syntax.specs.Spelled.{IsMeant, as_basic}
+pub use Rattle.re_syntax.specs.Spelled.{IsMeant}
 pub use Rattle.re_syntax.specs.contracts.fault.FaultKind.{the_type}
 pub use Rattle.re_trees.specs.declared.class.Class.TheVariants.{Digit}
 pub use Rattle.re_syntax.specs.declared.fault.FaultKind.{FaultKind}

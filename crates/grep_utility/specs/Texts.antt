@@ -1,7 +1,7 @@
 -- The fixed texts on standard error (XCU grep, STDERR).
 use Rattle.std.specs.Prelude.{ℕ, ◌+◌, List, [], ◌∷◌, ◌++◌, codes, encode_utf8}
 use Rattle.std.specs.Fmt.{decimal}
-use Rattle.re_syntax.specs.{declared.fault.FaultKind.FaultKind}
+use Rattle.re_syntax.specs.declared.fault.FaultKind.{FaultKind}
 use Rattle.re_syntax.specs.{declared.fault.PatternFault.PatternFault, Bytes.Text}
 use Rattle.grep_utility.specs.declared.words.UsageFault.TheVariants.{UnknownOption, MissingArgument}
 use Rattle.grep_utility.specs.declared.words.UsageFault.TheVariants.{BadNumber, TwoSyntaxes}

@@ -9,7 +9,7 @@ use Rattle.std.specs.{Str.encode_utf8_all, String.string_bytes}
 use Rattle.re_trees.specs.declared.class.Class.TheVariants.{Digit}
 use Rattle.re_syntax.specs.declared.syntax.Syntax.TheVariants.{Basic, Extended, Fixed}
 use Rattle.re_syntax.specs.{Bytes.Text, Bytes.in_class, Intervals.value}
-use Rattle.re_syntax.specs.{declared.syntax.Syntax.Syntax}
+use Rattle.re_syntax.specs.declared.syntax.Syntax.{Syntax}
 use Rattle.grep_core.specs.declared.options.Flag.TheVariants.{Count, IgnoreCase, FilesWithMatches}
 use Rattle.grep_core.specs.declared.options.Flag.TheVariants.{LineNumber, OnlyMatching, Quiet}
 use Rattle.grep_core.specs.declared.options.Flag.TheVariants.{NoMessages, InvertMatch, LineRegexp}
@@ -19,10 +19,10 @@ use Rattle.grep_utility.specs.declared.words.UsageFault.TheVariants.{UnknownOpti
 use Rattle.grep_utility.specs.declared.words.UsageFault.TheVariants.{BadNumber, TwoSyntaxes}
 use Rattle.grep_utility.specs.declared.words.UsageFault.TheVariants.{NoPattern}
 use Rattle.grep_utility.specs.declared.words.around.Side.TheVariants.{After, Before, Both}
-use Rattle.grep_utility.specs.{declared.words.UsageFault.UsageFault}
+use Rattle.grep_utility.specs.declared.words.UsageFault.{UsageFault}
 use Rattle.grep_utility.specs.{declared.words.around.Side.Side, declared.words.around.Around.Around}
-use Rattle.grep_utility.specs.{declared.words.tokens.Argument.Argument}
-use Rattle.grep_utility.specs.{declared.words.tokens.Meaning.Meaning}
+use Rattle.grep_utility.specs.declared.words.tokens.Argument.{Argument}
+use Rattle.grep_utility.specs.declared.words.tokens.Meaning.{Meaning}
 use Rattle.grep_utility.specs.declared.words.tokens.Argument.TheVariants as argument
 use Rattle.grep_utility.specs.declared.words.tokens.Meaning.TheVariants as meaning
 

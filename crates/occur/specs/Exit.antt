@@ -7,7 +7,7 @@ use Rattle.grep_cmd.specs.declared.script.ScriptEnd.TheVariants.{Clean, Refused}
 use Rattle.grep_cmd.specs.declared.script.ScriptFault.TheVariants.{Read, Write, Memory}
 use Rattle.grep_cmd.specs.{Bytes.Text, Replies.GaveLines, Replies.ScriptGives, Replies.ScriptState}
 use Rattle.grep_cmd.specs.{Replies.new_state, declared.script.ScriptEnd.ScriptEnd}
-use Rattle.grep_cmd.specs.{declared.script.ScriptFault.ScriptFault}
+use Rattle.grep_cmd.specs.declared.script.ScriptFault.{ScriptFault}
 use Rattle.grep_utility.specs.Command.{ReportsLines, SendsMessages}
 
 abbrev pub words_refused : Text

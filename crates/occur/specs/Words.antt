@@ -6,14 +6,14 @@ use Rattle.std.specs.{Option.option_map_or, Str.Parse.digits_value, Str.Parse.wi
 use Rattle.clap.specs.Words.{App, IsUnsignedIn, Row, Rule, Text, first_of, kind_of, new_app}
 use Rattle.clap.specs.Words.{new_rule, one_of, one_text, with_rule}
 use Rattle.clap.specs.{Kinds.Kinds, Kinds.IsAmong}
-use Rattle.clap.specs.{declared.builder.action.ArgAction.TheVariants.Set}
-use Rattle.clap.specs.{declared.builder.value_parser.ValueParser.TheVariants.Unsigned}
+use Rattle.clap.specs.declared.builder.action.ArgAction.TheVariants.{Set}
+use Rattle.clap.specs.declared.builder.value_parser.ValueParser.TheVariants.{Unsigned}
 use Rattle.clap.specs.{declared.error.Error.Error, declared.error.kind.ErrorKind.ErrorKind}
-use Rattle.clap.specs.{declared.error.kind.ErrorKind.TheVariants.OutOfMemory}
-use Rattle.clap.specs.{declared.parser.matches.Found.Found}
+use Rattle.clap.specs.declared.error.kind.ErrorKind.TheVariants.{OutOfMemory}
+use Rattle.clap.specs.declared.parser.matches.Found.{Found}
 use Rattle.grep_utility.specs.Folder.{is_standard}
-use Rattle.occur.specs.{declared.words.ScriptRequest.ScriptRequest}
-use Rattle.occur.specs.{declared.words.OccurFault.OccurFault}
+use Rattle.occur.specs.declared.words.ScriptRequest.{ScriptRequest}
+use Rattle.occur.specs.declared.words.OccurFault.{OccurFault}
 use Rattle.occur.specs.declared.words.OccurFault.TheVariants as fault
 
 abbrev pub texts_of : {Z : Type 0} → List (String Z) → List Text

@@ -1,11 +1,8 @@
 -- What a search of a line finds, and how much work it takes.
 use Rattle.std.specs.Prelude.{ℕ, Bool, List, Option, MatchOption, Any}
-use Rattle.re_trees.specs.Bytes.{Text}
-use Rattle.re_trees.specs.Expression.{Expression}
-use Rattle.re_trees.specs.Holds.{Matches}
-use Rattle.re_trees.specs.Parts.{IsFound, IsPart}
+use Rattle.re_trees.specs.{Bytes.Text, Expression.Expression, Holds.Matches, Parts.IsFound}
+use Rattle.re_trees.specs.{Parts.IsPart, declared.span.Span.Span}
 pub use Rattle.re_meter.specs.Meters.{AddsAtMost}
-use Rattle.re_trees.specs.declared.span.Span.{Span}
 
 -- the span is the next part of the line for these expressions (XBD 9.1); None says that there is
 -- none

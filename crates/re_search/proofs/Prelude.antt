@@ -22,7 +22,7 @@ pub use Rattle.re_syntax.specs.Lines.{HasNoNewline, newline, terminated}
 unfoldable pub use Rattle.re_syntax.specs.Lines.{lines_of}
 pub use Rattle.re_syntax.specs.Parts.{IsFound, IsPart}
 pub use Rattle.re_syntax.specs.Profile.{most_positions}
-pub use Rattle.re_syntax.specs.Spelled.{IsMeant, IsSpelled, as_fixed, has_limit}
+pub use Rattle.re_syntax.specs.Spelled.{IsMeant, IsSpelled, has_limit}
 pub use Rattle.re_syntax.specs.Working.Counted.{HasPositions, up_to_word}
 pub use Rattle.re_syntax.specs.Working.Trees.{expression_of}
 pub use Rattle.re_syntax.specs.declared.fault.FaultKind.TheVariants.{TooLarge}

@@ -45,8 +45,5 @@ pub mod Built
 pub mod BasicTokensUnique
 pub mod BasicTokenReading
 pub mod BuildingLaws
-pub mod TokenBridge
-pub mod ExtendedBridge
-pub mod BasicBridge
-pub mod FixedBridge
-pub mod TokenLaws
+pub mod SpelledParts
+pub mod FixedTokens

@@ -1,42 +1,63 @@
--- The tokens of basic expressions (XBD 9.3, 9.5.1), and why none is at a place.
-use Rattle.std.specs.Prelude.{◌≡◌, ◌≢◌, ℕ, Bool, true, false, ◌∷◌, ◌++◌, Option, IsTrue, codes}
-use Rattle.re_syntax.specs.declared.tokens.ItemPlace.{ItemPlace}
-use Rattle.re_syntax.specs.declared.tokens.ItemPlace.TheVariants.{First, Later}
-use Rattle.re_syntax.specs.declared.fault.FaultKind.{FaultKind}
+-- The tokens of basic expressions (XBD 9.3, 9.5.1), with two duplications and a bar that the
+-- standard leaves undefined and GNU grep has, and why none is at a place: the fault's kind, and the
+-- text from its place on. The truth value says whether a group is open there.
+use Rattle.std.specs.Prelude.{◌≡◌, ◌≢◌, ℕ, Bool, not, ◌&&◌, [], ◌∷◌, ◌++◌, Option, Some, None}
+use Rattle.std.specs.Prelude.{IsTrue, codes}
+use Rattle.re_syntax.specs.declared.tokens.ItemPlace.TheVariants.{First, AfterAnchor, Later}
 use Rattle.re_syntax.specs.declared.fault.FaultKind.TheVariants.{UnopenedGroup, BadInterval}
 use Rattle.re_syntax.specs.declared.fault.FaultKind.TheVariants.{NothingToRepeat}
-use Rattle.re_syntax.specs.Basic.{Duplication, IsAtEnd, is_ordinary}
-use Rattle.re_trees.specs.Bytes.{Text, any_but_nul}
-use Rattle.re_syntax.specs.BracketFaults.{BracketFault}
-use Rattle.re_syntax.specs.Brackets.{IsBracket}
-use Rattle.re_syntax.specs.EscapeFaults.{EscapeFault}
-use Rattle.re_syntax.specs.Escapes.{is_undefined}
-use Rattle.re_trees.specs.Expression.{Expression, one_of, end, byte}
-use Rattle.re_syntax.specs.IntervalFaults.{IsDisallowed}
-use Rattle.re_syntax.specs.Intervals.{ClosedInterval, HasNoInterval}
-use Rattle.re_syntax.specs.Profile.{basic_escaped, basic_refused}
+use Rattle.re_syntax.specs.Intervals.{Interval, IsAllowed, ClosedInterval, HasNoInterval}
 use Rattle.re_syntax.specs.Tokens.{Token, opening, closing, bar, lead, atom, times}
+use Rattle.re_syntax.specs.{declared.tokens.ItemPlace.ItemPlace, declared.fault.FaultKind.FaultKind}
+use Rattle.re_syntax.specs.{BracketFaults.BracketFault, Brackets.IsBracket}
+use Rattle.re_syntax.specs.{EscapeFaults.EscapeFault, Escapes.is_in, Escapes.is_undefined}
+use Rattle.re_syntax.specs.{IntervalFaults.IsDisallowed, Profile.basic_escaped}
+use Rattle.re_syntax.specs.Profile.{basic_refused}
+use Rattle.re_trees.specs.Expression.{Expression, one_of, end, byte}
+use Rattle.re_trees.specs.Bytes.{Text, any_but_nul}
 
-pub data BasicToken : Bool → ItemPlace → Text → Text → Token → Type 0 where
-  opens : {g : Bool} {p : ItemPlace} {u : Text} → BasicToken g p (codes "\\(" ++ u) u opening
-  closes : {p : ItemPlace} {u : Text} → BasicToken true p (codes "\\)" ++ u) u closing
-  parts : {g : Bool} {p : ItemPlace} {u : Text} → BasicToken g p (codes "\\|" ++ u) u bar
-  -- a `^` that is first; a `$` that is last
-  leads : {g : Bool} {u : Text} → BasicToken g First (codes "^" ++ u) u lead
-  trails : {g : Bool} {p : ItemPlace} {u : Text} → IsAtEnd u →
-      BasicToken g p (codes "$" ++ u) u (atom end)
-  repeats : {g : Bool} {d u : Text} {least : ℕ} {most : Option ℕ} → Duplication d least most →
-      BasicToken g Later (d ++ u) u (times least most)
-  bracket : {g : Bool} {p : ItemPlace} {t u : Text} {e : Expression} → IsBracket t u e →
-      BasicToken g p t u (atom e)
-  period : {g : Bool} {p : ItemPlace} {u : Text} →
-      BasicToken g p (codes "." ++ u) u (atom (one_of any_but_nul))
-  escaped : {g : Bool} {p : ItemPlace} {u : Text} (b : ℕ) →
-      ¬ IsTrue (is_undefined basic_escaped b) →
+-- `*`, or an interval in `\{` and `\}` (XBD 9.3.6); `\+` and `\?` as GNU grep has them
+pub data Duplication : Text → ℕ → Option ℕ → Type 0 where
+  star : Duplication (codes "*") 0 None
+  plus : Duplication (codes "\\+") 1 None
+  question : Duplication (codes "\\?") 0 (Some 1)
+  interval : {t : Text} {least : ℕ} {most : Option ℕ} → Interval t least most →
+      IsAllowed least most → Duplication (codes "\\{" ++ t ++ codes "\\}") least most
+
+-- the bytes that have a meaning by their place: `^` where it is first, `*` after an item (XBD
+-- 9.3.3, 9.3.8)
+abbrev pub marks : ItemPlace → Text
+marks First = codes "^"
+marks AfterAnchor = []
+marks Later = codes "*"
+
+-- whether a byte stands for itself whatever follows it: not `[`, `.`, `\` or `$`, nor a mark of its
+-- place
+abbrev pub is_ordinary : ItemPlace → ℕ → Bool
+is_ordinary p b = not (is_in (codes "[.\\$") b) && not (is_in (marks p) b)
+
+-- a branch ends here: the text ends, the group ends, or another branch follows
+pub data IsAtEnd : Text → Type 0 where
+  of_text : IsAtEnd []
+  of_group : {t : Text} → IsAtEnd (codes "\\)" ++ t)
+  of_branch : {t : Text} → IsAtEnd (codes "\\|" ++ t)
+
+pub data BasicToken (g : Bool) (p : ItemPlace) : Text → Text → Token → Type 0 where
+  opens : {u : Text} → BasicToken g p (codes "\\(" ++ u) u opening
+  closes : {u : Text} → IsTrue g → BasicToken g p (codes "\\)" ++ u) u closing
+  parts : {u : Text} → BasicToken g p (codes "\\|" ++ u) u bar
+  -- a `^` that is first; a `$` that is last; a `$` that isn't
+  leads : {u : Text} → p ≡ First → BasicToken g p (codes "^" ++ u) u lead
+  trails : {u : Text} → IsAtEnd u → BasicToken g p (codes "$" ++ u) u (atom end)
+  dollar : {u : Text} → ¬ IsAtEnd u → BasicToken g p (codes "$" ++ u) u (atom (byte 36))
+  repeats : {d u : Text} {least : ℕ} {most : Option ℕ} → p ≡ Later → Duplication d least most →
+      BasicToken g p (d ++ u) u (times least most)
+  bracket : {t u : Text} {e : Expression} → IsBracket t u e → BasicToken g p t u (atom e)
+  period : {u : Text} → BasicToken g p (codes "." ++ u) u (atom (one_of any_but_nul))
+  escaped : {u : Text} (b : ℕ) → ¬ IsTrue (is_undefined basic_escaped b) →
       BasicToken g p (codes "\\" ++ b ∷ u) u (atom (byte b))
-  -- a `$` is not last
-  ordinary : {g : Bool} {p : ItemPlace} {u : Text} (b : ℕ) → IsTrue (is_ordinary p b) →
-      (b ≡ 36 → ¬ IsAtEnd u) → BasicToken g p (b ∷ u) u (atom (byte b))
+  ordinary : {u : Text} (b : ℕ) → IsTrue (is_ordinary p b) →
+      BasicToken g p (b ∷ u) u (atom (byte b))
 
 -- a `\{` of any form or none, a `\+` or a `\?`: it never stands for its own bytes, so it needs an
 -- item before it
@@ -45,20 +66,19 @@ pub data NeedsItem : Text → Type 0 where
   needs_plus : {u : Text} → NeedsItem (codes "\\+" ++ u)
   needs_question : {u : Text} → NeedsItem (codes "\\?" ++ u)
 
-pub data BasicTokenFault : Bool → ItemPlace → Text → FaultKind → Text → Type 0 where
-  in_bracket : {g : Bool} {p : ItemPlace} {t from : Text} {kind : FaultKind} →
-      BracketFault t kind from → BasicTokenFault g p t kind from
-  in_escape : {g : Bool} {p : ItemPlace} {t from : Text} {kind : FaultKind} →
-      EscapeFault basic_refused t kind from → BasicTokenFault g p t kind from
+pub data BasicTokenFault (g : Bool) (p : ItemPlace) : Text → FaultKind → Text → Type 0 where
+  in_bracket : {t from : Text} {kind : FaultKind} → BracketFault t kind from →
+      BasicTokenFault g p t kind from
+  in_escape : {t from : Text} {kind : FaultKind} → EscapeFault basic_refused t kind from →
+      BasicTokenFault g p t kind from
   -- a `\)` is in no group
-  unopened : {p : ItemPlace} {u : Text} →
-      BasicTokenFault false p (codes "\\)" ++ u) UnopenedGroup (codes "\\)" ++ u)
+  unopened : {u : Text} → ¬ IsTrue g →
+      BasicTokenFault g p (codes "\\)" ++ u) UnopenedGroup (codes "\\)" ++ u)
   -- a `\{` of any form or none, a `\+` or a `\?` follows no item
-  needs_item : {g : Bool} {p : ItemPlace} {t : Text} → p ≢ Later → NeedsItem t →
-      BasicTokenFault g p t NothingToRepeat t
+  needs_item : {t : Text} → p ≢ Later → NeedsItem t → BasicTokenFault g p t NothingToRepeat t
   -- a `\{` begins nothing of an interval's form, or an interval that is refused for its numbers
-  no_form : {g : Bool} {t : Text} → HasNoInterval (codes "\\}") t →
-      BasicTokenFault g Later (codes "\\{" ++ t) BadInterval (codes "\\{" ++ t)
-  disallowed : {g : Bool} {t u : Text} {least : ℕ} {most : Option ℕ} {kind : FaultKind} →
+  no_form : {t : Text} → p ≡ Later → HasNoInterval (codes "\\}") t →
+      BasicTokenFault g p (codes "\\{" ++ t) BadInterval (codes "\\{" ++ t)
+  disallowed : {t u : Text} {least : ℕ} {most : Option ℕ} {kind : FaultKind} → p ≡ Later →
       ClosedInterval (codes "\\}") t u least most → IsDisallowed kind least most →
-      BasicTokenFault g Later (codes "\\{" ++ t) kind (codes "\\{" ++ t)
+      BasicTokenFault g p (codes "\\{" ++ t) kind (codes "\\{" ++ t)

@@ -1,14 +1,13 @@
 -- The one fault of a text that a bracket expression opens and that begins none (XBD 9.3.5): its
 -- kind, and the text from its place on. An unclosed bracket's place is its opening.
 use Rattle.std.specs.Prelude.{◌≡◌, ◌≢◌, ℕ, ◌<◌, ◌⊎◌, [], ◌∷◌, ◌++◌, codes}
-use Rattle.re_syntax.specs.declared.bracket.ListPlace.{ListPlace}
-use Rattle.re_syntax.specs.declared.bracket.ListPlace.TheVariants.{First}
-use Rattle.re_trees.specs.declared.class.Class.{Class}
-use Rattle.re_syntax.specs.declared.fault.FaultKind.{FaultKind}
 use Rattle.re_syntax.specs.declared.fault.FaultKind.TheVariants.{UnclosedBracket, BadClass}
 use Rattle.re_syntax.specs.declared.fault.FaultKind.TheVariants.{BadCollatingSymbol, BadRange}
-use Rattle.re_trees.specs.Bytes.{Text, Begins, Bytes, class_name}
-use Rattle.re_syntax.specs.Brackets.{Point, Element}
+use Rattle.re_syntax.specs.declared.bracket.ListPlace.{ListPlace}
+use Rattle.re_syntax.specs.declared.bracket.ListPlace.TheVariants.{First}
+use Rattle.re_syntax.specs.{declared.fault.FaultKind.FaultKind, Brackets.Point, Brackets.Element}
+use Rattle.re_trees.specs.{declared.class.Class.Class, Bytes.Text, Bytes.Begins, Bytes.Bytes}
+use Rattle.re_trees.specs.Bytes.{class_name}
 
 module _ (opening : Text) where
   -- no point is here: a `[.` without one byte and `.]`, or the text's end
@@ -27,22 +26,21 @@ module _ (opening : Text) where
         RangeFault first t BadRange (codes "-" ++ t)
 
   -- no element is here, at a place of the list
-  pub data ElementFault : ListPlace → Text → FaultKind → Text → Type 0 where
-    no_class : {p : ListPlace} {t : Text} →
-        ((c : Class) → ¬ Begins (class_name c ++ codes ":]") t) →
+  pub data ElementFault (p : ListPlace) : Text → FaultKind → Text → Type 0 where
+    no_class : {t : Text} → ((c : Class) → ¬ Begins (class_name c ++ codes ":]") t) →
         ElementFault p (codes "[:" ++ t) BadClass (codes "[:" ++ t)
-    no_equivalence : {p : ListPlace} {t : Text} → ((b : ℕ) → ¬ Begins (b ∷ codes "=]") t) →
+    no_equivalence : {t : Text} → ((b : ℕ) → ¬ Begins (b ∷ codes "=]") t) →
         ElementFault p (codes "[=" ++ t) BadCollatingSymbol (codes "[=" ++ t)
-    no_point : {p : ListPlace} {t from : Text} {kind : FaultKind} → PointFault t kind from →
+    no_point : {t from : Text} {kind : FaultKind} → PointFault t kind from →
         ElementFault p t kind from
     -- a range has no end
-    no_range : {p : ListPlace} {t u from : Text} {first : ℕ} {kind : FaultKind} →
+    no_range : {t u from : Text} {first : ℕ} {kind : FaultKind} →
         Point t (codes "-" ++ u) first → ¬ Begins (codes "]") u →
         (Begins (codes "]") t ⊎ Begins (codes "-") t → p ≡ First) →
         RangeFault first u kind from → ElementFault p t kind from
     -- a hyphen that may begin no range, and another that is not the last: the text ends, or goes on
-    cut_off : {p : ListPlace} → p ≢ First → ElementFault p (codes "--") UnclosedBracket opening
-    stray : {p : ListPlace} {u : Text} → p ≢ First → u ≢ [] → ¬ Begins (codes "]") u →
+    cut_off : p ≢ First → ElementFault p (codes "--") UnclosedBracket opening
+    stray : {u : Text} → p ≢ First → u ≢ [] → ¬ Begins (codes "]") u →
         ElementFault p (codes "--" ++ u) BadRange (codes "-" ++ u)
 
   -- the first place of a list where no element is

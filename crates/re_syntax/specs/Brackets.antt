@@ -25,15 +25,15 @@ pub record MayBeAlone (p : ListPlace) (t after : Text) : Type 0 where
   pub before_hyphen : Begins (codes "-") after → Begins (codes "-]") after
 
 -- an element at a place of its list, the bytes that it adds, and the place after it
-pub data Element : ListPlace → Text → Text → Bytes → ListPlace → Type 0 where
-  class : {p : ListPlace} {t : Text} (c : Class) →
+pub data Element (p : ListPlace) : Text → Text → Bytes → ListPlace → Type 0 where
+  class : {t : Text} (c : Class) →
       Element p (codes "[:" ++ class_name c ++ codes ":]" ++ t) t (in_class c) AfterRange
-  equivalence : {p : ListPlace} {t : Text} (b : ℕ) →
+  equivalence : {t : Text} (b : ℕ) →
       Element p (codes "[=" ++ b ∷ codes "=]" ++ t) t (only b) AfterRange
-  alone : {p : ListPlace} {t v : Text} {b : ℕ} → Point t v b → MayBeAlone p t v →
+  alone : {t v : Text} {b : ℕ} → Point t v b → MayBeAlone p t v →
       Element p t v (only b) AfterPoint
   -- a `]` and a `-` begin a range only as the first; a `]` ends none; and no range descends
-  span : {p : ListPlace} {t v w : Text} {a b : ℕ} → Point t (codes "-" ++ v) a →
+  span : {t v w : Text} {a b : ℕ} → Point t (codes "-" ++ v) a →
       (Begins (codes "]") t ⊎ Begins (codes "-") t → p ≡ First) →
       Point v w b → ¬ Begins (codes "]") v → a ≤ b → Element p t w (range a b) AfterRange
 

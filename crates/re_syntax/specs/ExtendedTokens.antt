@@ -1,42 +1,52 @@
--- The tokens of extended expressions (XBD 9.4, 9.5.1), and why none is at a place: the fault's kind,
--- and the text from its place on. The truth value says whether a group is open there.
-use Rattle.std.specs.Prelude.{◌≡◌, ◌≢◌, ℕ, Bool, true, ◌∷◌, ◌++◌, Option, IsTrue, codes}
+-- The tokens of extended expressions (XBD 9.4, 9.5.1), and why none is at a place: the fault's
+-- kind, and the text from its place on. The truth value says whether a group is open there.
+use Rattle.std.specs.Prelude.{◌≡◌, ◌≢◌, ℕ, Bool, not, ◌&&◌, ◌∷◌, ◌++◌, Option, Some, None, IsTrue}
+use Rattle.std.specs.Prelude.{codes}
+use Rattle.re_syntax.specs.Intervals.{Interval, IsAllowed, ClosedInterval, HasNoInterval}
+use Rattle.re_syntax.specs.Tokens.{Token, opening, closing, bar, lead, atom, times}
 use Rattle.re_syntax.specs.declared.tokens.ItemPlace.{ItemPlace}
 use Rattle.re_syntax.specs.declared.tokens.ItemPlace.TheVariants.{Later}
 use Rattle.re_syntax.specs.declared.fault.FaultKind.{FaultKind}
 use Rattle.re_syntax.specs.declared.fault.FaultKind.TheVariants.{NothingToRepeat}
-use Rattle.re_trees.specs.Bytes.{Text, any_but_nul}
+use Rattle.re_syntax.specs.{BracketFaults.BracketFault, Brackets.IsBracket}
+use Rattle.re_syntax.specs.{EscapeFaults.EscapeFault, Escapes.is_in, Escapes.is_undefined}
+use Rattle.re_syntax.specs.{IntervalFaults.IsDisallowed, Profile.extended_refused}
 use Rattle.re_trees.specs.Expression.{Expression, one_of, end, byte}
-use Rattle.re_syntax.specs.BracketFaults.{BracketFault}
-use Rattle.re_syntax.specs.Brackets.{IsBracket}
-use Rattle.re_syntax.specs.EscapeFaults.{EscapeFault}
-use Rattle.re_syntax.specs.Escapes.{is_undefined}
-use Rattle.re_syntax.specs.Extended.{Duplication, is_ordinary}
-use Rattle.re_syntax.specs.IntervalFaults.{IsDisallowed}
-use Rattle.re_syntax.specs.Intervals.{ClosedInterval, HasNoInterval}
-use Rattle.re_syntax.specs.Profile.{extended_refused}
-use Rattle.re_syntax.specs.Tokens.{Token, opening, closing, bar, lead, atom, times}
+use Rattle.re_trees.specs.Bytes.{Text, any_but_nul}
 
-pub data ExtendedToken : Bool → ItemPlace → Text → Text → Token → Type 0 where
-  opens : {g : Bool} {p : ItemPlace} {u : Text} → ExtendedToken g p (codes "(" ++ u) u opening
+-- `*`, `+`, `?`, or an interval in braces (XBD 9.4.6)
+pub data Duplication : Text → ℕ → Option ℕ → Type 0 where
+  star : Duplication (codes "*") 0 None
+  plus : Duplication (codes "+") 1 None
+  question : Duplication (codes "?") 0 (Some 1)
+  interval : {t : Text} {least : ℕ} {most : Option ℕ} → Interval t least most →
+      IsAllowed least most → Duplication (codes "{" ++ t ++ codes "}") least most
+
+-- whether a byte stands for itself whatever follows it: none of `[.\(*+?|^${`, and `)` only where
+-- no group is open (XBD 9.4.3)
+abbrev pub is_ordinary : Bool → ℕ → Bool
+is_ordinary in_group b =
+    not (is_in (codes "[.\\(*+?|^${") b) && not (in_group && is_in (codes ")") b)
+
+pub data ExtendedToken (g : Bool) (p : ItemPlace) : Text → Text → Token → Type 0 where
+  opens : {u : Text} → ExtendedToken g p (codes "(" ++ u) u opening
   -- a `)` closes a group only where one is open
-  closes : {p : ItemPlace} {u : Text} → ExtendedToken true p (codes ")" ++ u) u closing
-  parts : {g : Bool} {p : ItemPlace} {u : Text} → ExtendedToken g p (codes "|" ++ u) u bar
-  leads : {g : Bool} {p : ItemPlace} {u : Text} → ExtendedToken g p (codes "^" ++ u) u lead
+  closes : {u : Text} → IsTrue g → ExtendedToken g p (codes ")" ++ u) u closing
+  parts : {u : Text} → ExtendedToken g p (codes "|" ++ u) u bar
+  leads : {u : Text} → ExtendedToken g p (codes "^" ++ u) u lead
   -- a duplication follows an item
-  repeats : {g : Bool} {d u : Text} {least : ℕ} {most : Option ℕ} → Duplication d least most →
-      ExtendedToken g Later (d ++ u) u (times least most)
-  bracket : {g : Bool} {p : ItemPlace} {t u : Text} {e : Expression} → IsBracket t u e →
-      ExtendedToken g p t u (atom e)
-  period : {g : Bool} {p : ItemPlace} {u : Text} →
-      ExtendedToken g p (codes "." ++ u) u (atom (one_of any_but_nul))
-  dollar : {g : Bool} {p : ItemPlace} {u : Text} → ExtendedToken g p (codes "$" ++ u) u (atom end)
-  escaped : {g : Bool} {p : ItemPlace} {u : Text} (b : ℕ) →
-      ¬ IsTrue (is_undefined extended_refused b) →
+  repeats : {d u : Text} {least : ℕ} {most : Option ℕ} → p ≡ Later → Duplication d least most →
+      ExtendedToken g p (d ++ u) u (times least most)
+  bracket : {t u : Text} {e : Expression} → IsBracket t u e → ExtendedToken g p t u (atom e)
+  period : {u : Text} → ExtendedToken g p (codes "." ++ u) u (atom (one_of any_but_nul))
+  dollar : {u : Text} → ExtendedToken g p (codes "$" ++ u) u (atom end)
+  escaped : {u : Text} (b : ℕ) → ¬ IsTrue (is_undefined extended_refused b) →
       ExtendedToken g p (codes "\\" ++ b ∷ u) u (atom (byte b))
-  -- a `{` begins no text of an interval's form
-  ordinary : {g : Bool} {p : ItemPlace} {u : Text} (b : ℕ) → IsTrue (is_ordinary g b) →
-      (b ≡ 123 → HasNoInterval (codes "}") u) → ExtendedToken g p (b ∷ u) u (atom (byte b))
+  ordinary : {u : Text} (b : ℕ) → IsTrue (is_ordinary g b) →
+      ExtendedToken g p (b ∷ u) u (atom (byte b))
+  -- a `{` that begins no text of an interval's form
+  brace : {u : Text} → HasNoInterval (codes "}") u →
+      ExtendedToken g p (codes "{" ++ u) u (atom (byte 123))
 
 -- the text begins with a duplication, or with an interval whose numbers are refused
 pub data OpensDuplication : Text → Type 0 where
@@ -46,15 +56,15 @@ pub data OpensDuplication : Text → Type 0 where
   opens_interval : {t u : Text} {least : ℕ} {most : Option ℕ} →
       ClosedInterval (codes "}") t u least most → OpensDuplication (codes "{" ++ t)
 
-pub data ExtendedTokenFault : ItemPlace → Text → FaultKind → Text → Type 0 where
-  in_bracket : {p : ItemPlace} {t from : Text} {kind : FaultKind} → BracketFault t kind from →
+pub data ExtendedTokenFault (p : ItemPlace) : Text → FaultKind → Text → Type 0 where
+  in_bracket : {t from : Text} {kind : FaultKind} → BracketFault t kind from →
       ExtendedTokenFault p t kind from
-  in_escape : {p : ItemPlace} {t from : Text} {kind : FaultKind} →
-      EscapeFault extended_refused t kind from → ExtendedTokenFault p t kind from
+  in_escape : {t from : Text} {kind : FaultKind} → EscapeFault extended_refused t kind from →
+      ExtendedTokenFault p t kind from
   -- a duplication, of any numbers, follows no item
-  needs_item : {p : ItemPlace} {t : Text} → p ≢ Later → OpensDuplication t →
+  needs_item : {t : Text} → p ≢ Later → OpensDuplication t →
       ExtendedTokenFault p t NothingToRepeat t
   -- an interval is refused for its numbers
-  disallowed : {t u : Text} {least : ℕ} {most : Option ℕ} {kind : FaultKind} →
+  disallowed : {t u : Text} {least : ℕ} {most : Option ℕ} {kind : FaultKind} → p ≡ Later →
       ClosedInterval (codes "}") t u least most → IsDisallowed kind least most →
-      ExtendedTokenFault Later (codes "{" ++ t) kind (codes "{" ++ t)
+      ExtendedTokenFault p (codes "{" ++ t) kind (codes "{" ++ t)

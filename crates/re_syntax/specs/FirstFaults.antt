@@ -1,22 +1,16 @@
 -- The one cut of a text into tokens, or its one fault: the first from the left that has no token or
 -- goes too deep, or a group that is open at the text's end.
-use Rattle.std.specs.Prelude.{◌≡◌, ℕ, suc, max, ◌+◌, ◌≤◌, Bool, true, false, List, [], ◌∷◌}
-use Rattle.std.specs.Prelude.{Option, length}
-use Rattle.re_syntax.specs.declared.tokens.ItemPlace.{ItemPlace}
-use Rattle.re_syntax.specs.declared.tokens.ItemPlace.TheVariants.{First}
-use Rattle.re_syntax.specs.declared.fault.FaultKind.{FaultKind}
+use Rattle.std.specs.Prelude.{◌≡◌, ℕ, suc, max, ◌+◌, ◌≤◌, Bool, true, false, List, [], ◌∷◌, length}
+use Rattle.re_syntax.specs.declared.tokens.ItemPlace.TheVariants.{First, AfterAnchor, Later}
 use Rattle.re_syntax.specs.declared.fault.FaultKind.TheVariants.{UnclosedGroup, TooDeep}
-use Rattle.re_syntax.specs.declared.fault.PatternFault.{PatternFault}
-use Rattle.re_syntax.specs.declared.syntax.Syntax.{Syntax}
 use Rattle.re_syntax.specs.declared.syntax.Syntax.TheVariants.{Basic, Extended, Fixed}
+use Rattle.re_syntax.specs.Tokens.{Token, opening, closing, bar, lead, atom, times, FixedToken}
+use Rattle.re_syntax.specs.{declared.tokens.ItemPlace.ItemPlace, declared.fault.FaultKind.FaultKind}
+use Rattle.re_syntax.specs.{declared.fault.PatternFault.PatternFault, declared.syntax.Syntax.Syntax}
+use Rattle.re_syntax.specs.{Profile.most_levels, ExtendedTokens.ExtendedToken}
+use Rattle.re_syntax.specs.{ExtendedTokens.ExtendedTokenFault, BasicTokens.BasicToken}
+use Rattle.re_syntax.specs.{BasicTokens.BasicTokenFault, Faults.IsAt}
 use Rattle.re_trees.specs.Bytes.{Text}
-use Rattle.re_syntax.specs.Profile.{most_levels}
-use Rattle.re_syntax.specs.Tokens.{Token, opening, closing, bar, lead, atom, times, place_after}
-use Rattle.re_syntax.specs.Tokens.{FixedToken}
-use Rattle.re_syntax.specs.ExtendedTokens.{ExtendedToken}
-use Rattle.re_syntax.specs.BasicTokens.{BasicToken, BasicTokenFault}
-use Rattle.re_syntax.specs.ExtendedTokens.{ExtendedTokenFault}
-use Rattle.re_syntax.specs.Faults.{IsAt}
 
 -- a group that is open: the text from its opening on, and the greatest height of the items before
 -- it in the expression around it
@@ -44,35 +38,29 @@ is_group (a ∷ outer) = true
 abbrev pub closed_group : ℕ → List Around → Context → Context
 closed_group h [] c = c
 closed_group h (a ∷ outer) c =
-    record { place = place_after closing; last = h; height = max a.height h; around = outer }
+    record { place = Later; last = h; height = max a.height h; around = outer }
 
 -- what is known after a token that begins the text
 abbrev pub after : Text → Token → Context → Context
 after t opening c =
     record {
-      place = place_after opening;
+      place = First;
       last = 0;
       height = 0;
       around = record { from = t; height = c.height } ∷ c.around;
     }
 after t closing c = closed_group (suc c.height) c.around c
-after t bar c = record { place = place_after bar; last = 0; height = c.height; around = c.around }
-after t lead c = record { place = place_after lead; last = 0; height = c.height; around = c.around }
-after t (atom e) c =
-    record { place = place_after (atom e); last = 0; height = c.height; around = c.around }
+after t bar c = record c { place = First; last = 0 }
+after t lead c = record c { place = AfterAnchor; last = 0 }
+after t (atom e) c = record c { place = Later; last = 0 }
 after t (times least most) c =
-    record {
-      place = place_after (times least most);
-      last = suc c.last;
-      height = max c.height (suc c.last);
-      around = c.around;
-    }
+    record c { place = Later; last = suc c.last; height = max c.height (suc c.last) }
 
 -- one level more would pass the limit: a group's, or a duplication's
-pub data IsTooDeep (c : Context) : Token → Type 0 where
-  group : most_levels ≤ length c.around → IsTooDeep c opening
-  item : {least : ℕ} {most : Option ℕ} → most_levels ≤ c.last + length c.around →
-      IsTooDeep c (times least most)
+abbrev pub IsTooDeep : Context → Token → Type 0
+IsTooDeep c opening = most_levels ≤ length c.around
+IsTooDeep c (times least most) = most_levels ≤ c.last + length c.around
+IsTooDeep c k = ⊥
 
 -- a token of the syntax: a fixed string's are its bytes
 abbrev pub IsToken : Syntax → Bool → ItemPlace → Text → Text → Token → Type 0
@@ -98,11 +86,11 @@ module _ (syntax : Syntax) where
   pub data FirstFault : Context → Text → FaultKind → Text → Type 0 where
     no_token : {c : Context} {t from : Text} {kind : FaultKind} →
         IsTokenFault syntax (is_group c.around) c.place t kind from → FirstFault c t kind from
-    too_deep : {c : Context} {t : Text} {k : Token} (u : Text) →
+    too_deep : {c : Context} {t : Text} (k : Token) (u : Text) →
         IsToken syntax (is_group c.around) c.place t u k → IsTooDeep c k → FirstFault c t TooDeep t
     unclosed : {c : Context} {a : Around} {outer : List Around} → c.around ≡ a ∷ outer →
         FirstFault c [] UnclosedGroup a.from
-    later : {c : Context} {t u from : Text} {k : Token} {kind : FaultKind} →
+    later : {c : Context} {t u from : Text} {kind : FaultKind} (k : Token) →
         IsToken syntax (is_group c.around) c.place t u k → ¬ IsTooDeep c k →
         FirstFault (after t k c) u kind from → FirstFault c t kind from
 

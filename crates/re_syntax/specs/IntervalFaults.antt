@@ -1,8 +1,7 @@
 -- Why an interval is refused for its numbers (XBD 9.3.6 item 5, 9.4.6 item 5).
 use Rattle.std.specs.Prelude.{ℕ, ◌<◌, ◌≤◌, Option, Some}
-use Rattle.re_syntax.specs.declared.fault.FaultKind.{FaultKind}
 use Rattle.re_syntax.specs.declared.fault.FaultKind.TheVariants.{BadInterval, IntervalTooLarge}
-use Rattle.re_syntax.specs.Profile.{most_repeats}
+use Rattle.re_syntax.specs.{declared.fault.FaultKind.FaultKind, Profile.most_repeats}
 
 -- why an interval of these numbers is refused; too large takes precedence over descending
 pub data IsDisallowed : FaultKind → ℕ → Option ℕ → Type 0 where

@@ -1,36 +1,28 @@
 -- What the definitions promise.
-use Rattle.std.specs.Prelude.{◌≡◌, ◌≢◌, ℕ, ◌↔◌, Bool, List, ◌++◌, codes}
-use Rattle.re_syntax.specs.declared.syntax.Syntax.{Syntax}
+use Rattle.std.specs.Prelude.{◌≡◌, ◌≢◌, ℕ, Bool, List, ◌++◌, codes}
 use Rattle.re_syntax.specs.declared.syntax.Syntax.TheVariants.{Basic, Extended}
-use Rattle.re_trees.specs.Bytes.{Text}
-use Rattle.re_trees.specs.Expression.{Expression}
-use Rattle.re_syntax.specs.declared.fault.PatternFault.{PatternFault}
-use Rattle.re_syntax.specs.Brackets.{IsBracket}
-use Rattle.re_syntax.specs.FirstFaults.{IsCut, IsFirstFault}
-use Rattle.re_syntax.specs.Working.TokenGrammar.{Spells}
-use Rattle.re_syntax.specs.Tokens.{Token}
+use Rattle.re_syntax.specs.{declared.syntax.Syntax.Syntax, declared.fault.PatternFault.PatternFault}
+use Rattle.re_syntax.specs.{Brackets.IsBracket, FirstFaults.IsCut, FirstFaults.IsFirstFault}
+use Rattle.re_syntax.specs.{Tokens.Token, Spelled.IsSpelled, Working.StandardBasic.IsStandardBasic}
+use Rattle.re_syntax.specs.Working.StandardExtended.{IsStandardExtended}
 use Rattle.re_trees.specs.Lines.{lines_of, ended_lines_of, list_of, AreLines, AreEndedLines}
 use Rattle.re_trees.specs.Lines.{AreListed}
-use Rattle.re_trees.specs.Parts.{AreParts}
-use Rattle.re_syntax.specs.Spelled.{IsSpelled}
-use Rattle.re_syntax.specs.Working.StandardBasic.{IsStandardBasic}
-use Rattle.re_syntax.specs.Working.StandardExtended.{IsStandardExtended}
+use Rattle.re_trees.specs.{Bytes.Text, Expression.Expression, Parts.AreParts}
 
 -- a text spells at most one expression
 abbrev pub SpellsOne : Text → Type 0
 SpellsOne text =
     (syntax : Syntax) (d e : Expression) → IsSpelled syntax text d → IsSpelled syntax text e → d ≡ e
 
--- a text is cut into tokens in one way, or has one first fault, and never both; what the syntax's
--- rules spell its tokens spell, and nothing else; and each text that is cut spells an expression
+-- a text is cut into tokens in one way, or has one first fault, and never both; and each text that
+-- is cut spells an expression
 pub record HasOneCut (syntax : Syntax) (text : Text) : Type 0 where
   pub cuts : (ks ls : List Token) → IsCut syntax text ks → IsCut syntax text ls → ks ≡ ls
   pub faults : (f g : PatternFault) → IsFirstFault syntax text f → IsFirstFault syntax text g →
       f ≡ g
   pub never_both : (f : PatternFault) (ks : List Token) → IsFirstFault syntax text f →
       ¬ IsCut syntax text ks
-  pub spelled : (e : Expression) → IsSpelled syntax text e ↔ Spells syntax text e
-  pub each : (ks : List Token) → IsCut syntax text ks → (e : Expression) × Spells syntax text e
+  pub each : (ks : List Token) → IsCut syntax text ks → (e : Expression) × IsSpelled syntax text e
 
 -- nowhere in the text does a comma follow a `{`
 abbrev pub HasNoOpenComma : Text → Type 0

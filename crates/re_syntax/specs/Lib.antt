@@ -8,10 +8,6 @@ pub mod Profile
 pub mod Brackets
 pub mod Intervals
 pub mod Escapes
-pub mod Basic
-pub mod Extended
-pub mod Spelled
--- why a text spells nothing: its tokens, and the first place where none is
 pub mod Tokens
 pub mod BasicTokens
 pub mod ExtendedTokens
@@ -20,6 +16,7 @@ pub mod IntervalFaults
 pub mod EscapeFaults
 pub mod Faults
 pub mod FirstFaults
+pub mod Spelled
 -- what the public laws say of the definitions
 pub mod Laws
 -- the definitions of the other contracts: of this crate as a library, and of its private functions

@@ -1,25 +1,40 @@
 -- The expression that the text of a pattern spells, and the one that it means (XCU grep, OPTIONS
--- -E, -F, -i).
-use Rattle.std.specs.Prelude.{◌≡◌, ℕ, ◌≤◌, Bool, true, false, List, [], map, if◌then◌else◌}
-use Rattle.re_syntax.specs.declared.syntax.Syntax.{Syntax}
+-- -E, -F, -i). The text is cut into tokens, and these are read by one grammar for all syntaxes (XBD
+-- 9.5.2, 9.5.3).
+use Rattle.std.specs.Prelude.{◌≡◌, ℕ, Bool, true, List, [], ◌∷◌, ◌++◌, Option, if◌then◌else◌}
 use Rattle.re_syntax.specs.declared.syntax.Syntax.TheVariants.{Basic, Extended, Fixed}
-use Rattle.re_trees.specs.Bytes.{Text}
-use Rattle.re_trees.specs.Expression.{Expression, byte, sequence, choice}
-use Rattle.re_trees.specs.Holds.{folded}
-use Rattle.re_syntax.specs.Profile.{most_levels}
-use Rattle.re_syntax.specs.Basic.{Branches as BasicBranches}
-use Rattle.re_syntax.specs.Extended.{Branches as ExtendedBranches}
+use Rattle.re_syntax.specs.Tokens.{Token, opening, closing, bar, lead, atom, times}
+use Rattle.re_syntax.specs.{declared.syntax.Syntax.Syntax, FirstFaults.IsCut}
+use Rattle.re_trees.specs.Expression.{Expression, begin, repeat, sequence, choice}
+use Rattle.re_trees.specs.{Bytes.Text, Holds.folded}
 
--- the rules by which a text is read
-pub data IsSpelled : Syntax → Text → Expression → Type 0 where
-  -- a basic expression goes up to the text's end, and is not too deep
-  as_basic : {h : ℕ} {t : Text} {es : List Expression} → BasicBranches h t [] es →
-      h ≤ most_levels → IsSpelled Basic t (choice es)
-  -- so does an extended expression, which is in no group
-  as_extended : {h : ℕ} {t : Text} {es : List Expression} → ExtendedBranches false h t [] es →
-      h ≤ most_levels → IsSpelled Extended t (choice es)
-  -- a fixed string is the sequence of its bytes
-  as_fixed : {t : Text} → IsSpelled Fixed t (sequence (map byte t))
+mutual
+  -- branches separated by bars, each a sequence
+  pub data Branches : List Token → List Expression → Type 0 where
+    last : {ks : List Token} {es : List Expression} → Items ks es → Branches ks (sequence es ∷ [])
+    more : {ks ls : List Token} {es fs : List Expression} → Items ks es → Branches ls fs →
+        Branches (ks ++ bar ∷ ls) (sequence es ∷ fs)
+
+  -- the items of a branch, one after another; a `^` that is an anchor takes no duplication
+  pub data Items : List Token → List Expression → Type 0 where
+    none : Items [] []
+    anchor : {ks : List Token} {es : List Expression} → Items ks es →
+        Items (lead ∷ ks) (begin ∷ es)
+    item : {ks ls : List Token} {es : List Expression} {e : Expression} → Item ks e → Items ls es →
+        Items (ks ++ ls) (e ∷ es)
+
+  -- an atom, a group, or an item and a duplication
+  pub data Item : List Token → Expression → Type 0 where
+    single : (e : Expression) → Item (atom e ∷ []) e
+    group : {ks : List Token} {es : List Expression} → Branches ks es →
+        Item (opening ∷ ks ++ closing ∷ []) (choice es)
+    repeated : {ks : List Token} {e : Expression} (least : ℕ) (most : Option ℕ) → Item ks e →
+        Item (ks ++ times least most ∷ []) (repeat e least most)
+
+-- the text is cut into tokens of the syntax, and these are read as the branches of the expression
+pub data IsSpelled (syntax : Syntax) (text : Text) : Expression → Type 0 where
+  by_tokens : {ks : List Token} {es : List Expression} → IsCut syntax text ks → Branches ks es →
+      IsSpelled syntax text (choice es)
 
 -- the text spells no other expression than this
 abbrev pub SpellsNoOther : Syntax → Text → Expression → Type 0

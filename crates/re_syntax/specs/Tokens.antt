@@ -1,11 +1,9 @@
 -- The tokens that the text of an expression is cut into, as the standard's grammars have them (XBD
--- 9.5.1). In each syntax they are a relation between a text that begins with a token, the text after
--- it, and the token.
+-- 9.5.1). In each syntax they are a relation between a text that begins with a token, the text
+-- after it, and the token.
 use Rattle.std.specs.Prelude.{ℕ, Bool, ◌∷◌, Option}
 use Rattle.re_syntax.specs.declared.tokens.ItemPlace.{ItemPlace}
-use Rattle.re_syntax.specs.declared.tokens.ItemPlace.TheVariants.{First, AfterAnchor, Later}
-use Rattle.re_trees.specs.Bytes.{Text}
-use Rattle.re_trees.specs.Expression.{Expression, byte}
+use Rattle.re_trees.specs.{Bytes.Text, Expression.Expression, Expression.byte}
 
 pub data Token : Type 0 where
   -- what opens and closes a group; what separates two branches
@@ -17,16 +15,6 @@ pub data Token : Type 0 where
   -- a duplication
   times : ℕ → Option ℕ → Token
 
--- the place of the token after this one
-abbrev pub place_after : Token → ItemPlace
-place_after opening = First
-place_after closing = Later
-place_after bar = First
-place_after lead = AfterAnchor
-place_after (atom e) = Later
-place_after (times least most) = Later
-
 -- a token of a fixed string: each byte is one
-pub data FixedToken : Bool → ItemPlace → Text → Text → Token → Type 0 where
-  one_byte : {g : Bool} {p : ItemPlace} {u : Text} (b : ℕ) →
-      FixedToken g p (b ∷ u) u (atom (byte b))
+pub data FixedToken (g : Bool) (p : ItemPlace) : Text → Text → Token → Type 0 where
+  one_byte : {u : Text} (b : ℕ) → FixedToken g p (b ∷ u) u (atom (byte b))

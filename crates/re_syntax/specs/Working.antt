@@ -11,8 +11,7 @@ pub mod TokenSteps
 pub mod Mirrors
 pub mod ShapeSteps
 pub mod Builds
--- what tokens mean, and the grammars of the standard alone, for the laws
-pub mod TokenGrammar
+-- the grammars of the standard alone, for a law
 pub mod StandardIntervals
 pub mod StandardBasic
 pub mod StandardExtended

@@ -2,8 +2,7 @@
 ghost use Rattle.std.specs.Prelude.{◌≡◌, ◌≤◌, ◌<◌, Bool, IfOk, IfErr, MatchOption};
 ghost use Rattle.std.specs.Prelude.{MatchBool, length, drop, codes};
 ghost use Rattle.re_trees.specs.Bytes.{Begins};
-ghost use Rattle.re_syntax.specs.Basic.{IsAtEnd, Duplication};
-ghost use Rattle.re_syntax.specs.BasicTokens.{NeedsItem, BasicTokenFault};
+ghost use Rattle.re_syntax.specs.BasicTokens.{IsAtEnd, Duplication, NeedsItem, BasicTokenFault};
 ghost use Rattle.re_syntax.specs.Faults.{IsAt};
 ghost use Rattle.re_syntax.specs.Working.Ahead.{IsAfter};
 ghost use Rattle.re_syntax.specs.Working.BasicSteps.{HasNoTail, ComesAfterTail, HasNoTimes};

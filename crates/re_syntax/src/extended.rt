@@ -3,9 +3,9 @@ ghost use Rattle.std.specs.Prelude.{◌≡◌, ◌≤◌, ◌<◌, ◌∷◌, Bo
 ghost use Rattle.std.specs.Prelude.{MatchOption, MatchBool, codes, length, drop, IsTrue};
 ghost use Rattle.re_syntax.specs.Escapes.{is_in};
 ghost use Rattle.re_trees.specs.Bytes.{Begins};
-ghost use Rattle.re_syntax.specs.Extended.{Duplication};
 ghost use Rattle.re_syntax.specs.Faults.{IsAt};
-ghost use Rattle.re_syntax.specs.ExtendedTokens.{ExtendedTokenFault, OpensDuplication};
+ghost use Rattle.re_syntax.specs.ExtendedTokens.{Duplication, ExtendedTokenFault};
+ghost use Rattle.re_syntax.specs.ExtendedTokens.{OpensDuplication};
 ghost use Rattle.re_syntax.specs.Working.DuplicationSteps.{HasOne};
 ghost use Rattle.re_syntax.specs.Working.TokenSteps.{token_of, Stands, byte_token};
 ghost use Rattle.re_syntax.specs.declared.syntax.Syntax.TheVariants.{Extended};

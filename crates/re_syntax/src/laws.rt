@@ -35,8 +35,8 @@ pub fn parts_are_unique(_line: &[u8])
     ensures { HasOnePartList _line.now }
 {}
 
-/// A text has one cut into tokens or one first fault, and its tokens spell what it spells.
-#[tactic(auto, using(crate::proofs::lemmas::TokenLaws::has_one_cut))]
+/// A text has one cut into tokens, which spells an expression, or one first fault.
+#[tactic(auto, using(crate::proofs::lemmas::SpelledUnique::has_one_cut))]
 pub fn cuts_are_unique(_text: &[u8])
     ensures { (syntax : Syntax) → HasOneCut syntax _text.now }
 {}

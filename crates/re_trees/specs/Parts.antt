@@ -2,9 +2,7 @@
 -- begin there (XBD 9.1; GNU grep, option -o).
 use Rattle.std.specs.Prelude.{◌≡◌, ℕ, ◌<◌, ◌≤◌, Bool, List, [], ◌∷◌, length, Any}
 use Rattle.std.specs.Bool.{OnTrue}
-use Rattle.re_trees.specs.Bytes.{Text}
-use Rattle.re_trees.specs.Expression.{Expression}
-use Rattle.re_trees.specs.Holds.{Holds}
+use Rattle.re_trees.specs.{Bytes.Text, Expression.Expression, Holds.Holds}
 
 module _ (expressions : List Expression) (line : Text) (whole : Bool) where
   -- some expression holds on the stretch from i to j, which is not empty and begins at `from` or

@@ -4,12 +4,12 @@ use Rattle.std.specs.Prelude.{length, codes, bytes_eq, Option, Some, None, optio
 use Rattle.std.specs.Prelude.{option_map}
 use Rattle.re_syntax.specs.declared.syntax.Syntax.TheVariants.{Basic, Extended, Fixed}
 use Rattle.re_syntax.specs.{declared.syntax.Syntax.Syntax, Bytes.Text, Lines.put_before}
-use Rattle.re_syntax.specs.{Lines.joined}
+use Rattle.re_syntax.specs.Lines.{joined}
 use Rattle.grep_core.specs.declared.options.Flag.{Flag}
 use Rattle.grep_session.specs.Edits.{Edit, AddFile, AddMissing, DropFile, Splice, AddPatterns}
 use Rattle.grep_session.specs.Edits.{DropPattern, ChangePattern, SetFlag, SetSyntax, SetContext}
 use Rattle.grep_utility.specs.{declared.words.tokens.Meaning.Meaning, Words.meaning_of}
-use Rattle.grep_utility.specs.{Words.number_of}
+use Rattle.grep_utility.specs.Words.{number_of}
 use Rattle.grep_utility.specs.declared.words.tokens.Meaning.TheVariants as meaning
 
 -- ---- words

@@ -1,5 +1,5 @@
 -- The steps of a script bring no more bytes than its lines have.
-use Rattle.grep_cmd.proofs.Prelude.{◌≡◌, ℕ, ◌+◌, ◌≤◌, Bool, true, false, List, [], ◌∷◌, ◌++◌, length, codes, bytes_eq, nat_eq, Option, Some, None, refl, sym, ap, subst, inl, inr, arith, if◌then◌else◌, option_map, option_and_then, sum_by, Text, joined, Ending, Edit, AddFile, AddMissing, DropFile, Splice, DropPattern, ChangePattern, SetFlag, SetSyntax, SetContext, number_of, name_of, flag_of, switch_of, syntax_of, Command, alone, from_number, edits, counts, shows, lists_changes, lists_page, asks_version, switches_text, file_command, missing_command, close_command, splice_command, patterns_command, drop_command, pattern_command, flag_command, syntax_command, context_command, page_command, text_command, asking_command, unnamed_command, command_of, Step, does, reports, reports_changes, reports_page, tells_version, sets_text, is_bad, IsStep, IsUnfinished, Steps, words_of, bytes_of, sum_by-append, sum_by-cons}
+use Rattle.grep_cmd.proofs.Prelude.{◌≡◌, ℕ, ◌+◌, ◌≤◌, Bool, true, false, List, [], ◌∷◌, ◌++◌, length, codes, bytes_eq, nat_eq, Option, Some, None, refl, ap, inl, inr, arith, if◌then◌else◌, option_map, option_and_then, sum_by, Text, joined, Ending, Edit, AddFile, AddMissing, DropFile, Splice, DropPattern, ChangePattern, SetFlag, SetSyntax, SetContext, number_of, name_of, flag_of, switch_of, syntax_of, Command, alone, from_number, edits, counts, shows, lists_changes, lists_page, asks_version, switches_text, file_command, missing_command, close_command, splice_command, patterns_command, drop_command, pattern_command, flag_command, syntax_command, context_command, page_command, text_command, asking_command, unnamed_command, command_of, Step, does, reports, reports_changes, reports_page, tells_version, sets_text, is_bad, IsStep, IsUnfinished, Steps, words_of, bytes_of, sum_by-append, sum_by-cons}
 use Rattle.grep_session.specs.Edits.{AddPatterns}
 
 -- one for a step, and the bytes of the lines that it puts into a file
@@ -13,7 +13,7 @@ abbrev Few : Option Command → Type 0
 Few command = (taken : List Text) (step : Step) → IsStep command taken step → brought step ≤ 1 + bytes_of taken
 
 few_as : (taken : List Text) (step other : Step) → step ≡ other → brought other ≤ 1 + bytes_of taken → brought step ≤ 1 + bytes_of taken
-few_as taken step other e few = subst (λ (s : Step). brought s ≤ 1 + bytes_of taken) (sym e) few
+few_as taken step other e few = rw e few
 
 -- ---- commands
 
@@ -21,7 +21,7 @@ few_none : Few None
 few_none taken step is = few_as taken step is_bad is.1 (omega arith)
 
 few_edit : (edit : Edit) → brought (does edit) ≡ 1 → Few (Some (edits edit))
-few_edit edit one taken step is = few_as taken step (does edit) is.1 (omega (arith, one))
+few_edit edit one taken step is = few_as taken step (does edit) is.1 (omega arith)
 
 few_counted : (count : ℕ) (edit : List Text → Edit) → ((taken : List Text) → brought (does (edit taken)) ≤ 1 + bytes_of taken) → Few (Some (counts count edit))
 few_counted count edit few taken step is = few_as taken step (does (edit taken)) is.1 (few taken)

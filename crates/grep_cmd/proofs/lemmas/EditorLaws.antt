@@ -31,27 +31,27 @@ shown_ends inputs shown s =
 
 -- the reply to a step is taken whole
 is_one_reply : (step : Step) (before after : ScriptState) (reply : List Text) → RepliesTo step before reply after → IsOneReply step reply
-is_one_reply (does edit) before after reply r = ap length r.3
-is_one_reply reports before after reply r = shown_ends before.session.inputs reply r.0
+is_one_reply (does edit) before after reply r = rw r.3
+is_one_reply reports before after reply r = shown_ends before.session.inputs _ r.0
 is_one_reply reports_changes before after reply (r, same) = ends_with (changes_rows before.texts 0 r.all.changes) r.all.status reply r.is (none_changes has_status before.texts (λ hit. refl) (λ k change. refl) 0 r.all.changes)
 is_one_reply (reports_page first count) before after reply (r, same) =
     let all = all_hits 0 r.all.view in
     ends_with (total_row (min (length all) (2 ^ 64 - 1)) ∷ page_rows before.texts first count all) r.all.status reply r.is (none_mapped has_status (page_row before.texts) (take count (drop first all)) (λ row. refl))
-is_one_reply tells_version before after reply r = ap length r.0
-is_one_reply (sets_text on) before after reply r = ap length r.0
-is_one_reply is_bad before after reply r = ap length r.0
-is_one_reply is_truncated before after reply r = ap length r.0
+is_one_reply tells_version before after reply r = rw r.0
+is_one_reply (sets_text on) before after reply r = rw r.0
+is_one_reply is_bad before after reply r = rw r.0
+is_one_reply is_truncated before after reply r = rw r.0
 
 -- and the next step finds the rows with their texts or without, as this one leaves them
 texts_go : (step : Step) (before after : ScriptState) (reply : List Text) → RepliesTo step before reply after → after.texts ≡ text_after step before.texts
 texts_go (does edit) before after reply r = r.2
-texts_go reports before after reply r = ap (λ (s : ScriptState). s.texts) r.1
+texts_go reports before after reply r = rw r.1
 texts_go reports_changes before after reply r = r.1
-texts_go (reports_page first count) before after reply r = ap (λ (s : ScriptState). s.texts) r.1
-texts_go tells_version before after reply r = ap (λ (s : ScriptState). s.texts) r.1
-texts_go (sets_text on) before after reply r = ap (λ (s : ScriptState). s.texts) r.1
-texts_go is_bad before after reply r = ap (λ (s : ScriptState). s.texts) r.1
-texts_go is_truncated before after reply r = ap (λ (s : ScriptState). s.texts) r.1
+texts_go (reports_page first count) before after reply r = rw r.1
+texts_go tells_version before after reply r = rw r.1
+texts_go (sets_text on) before after reply r = rw r.1
+texts_go is_bad before after reply r = rw r.1
+texts_go is_truncated before after reply r = rw r.1
 
 -- ---- one reply after another
 
@@ -61,20 +61,20 @@ rows_cut [] [] x y s t nx ny hx hy e = let first = first_same x y s t e in ((λ 
 rows_cut [] (z ∷ ys) x y s t nx ny hx hy e =
     let no = (or_parts (has_status z) (list_any has_status ys) ny).0 in
     let first = first_same x z s (ys ++ (y ∷ t)) e in
-    absurd (true≢false (sym hx ∙ ap has_status first ∙ no))
+    absurd (true≢false (cc))
 rows_cut (w ∷ xs) [] x y s t nx ny hx hy e =
     let no = (or_parts (has_status w) (list_any has_status xs) nx).0 in
     let first = first_same w y (xs ++ (x ∷ s)) t e in
-    absurd (true≢false (sym hy ∙ ap has_status (sym first) ∙ no))
+    absurd (true≢false (cc))
 rows_cut (w ∷ xs) (z ∷ ys) x y s t nx ny hx hy e =
     let first = first_same w z (xs ++ (x ∷ s)) (ys ++ (y ∷ t)) e in
-    let more = rows_cut xs ys x y s t (or_parts (has_status w) (list_any has_status xs) nx).1 (or_parts (has_status z) (list_any has_status ys) ny).1 hx hy (rest_same w z (xs ++ (x ∷ s)) (ys ++ (y ∷ t)) e) in
+    let more = rows_cut xs ys x y s t (or_parts (has_status w) (list_any has_status xs) nx).1 (or_parts (has_status z) (list_any has_status ys) ny).1 hx hy (rest_same w z _ _ e) in
     ((λ i. first i ∷ more.0 i), more.1)
 
 status_cut : (a b s t : List Text) → EndsWithStatus a → EndsWithStatus b → a ++ s ≡ b ++ t → (a ≡ b) × (s ≡ t)
 status_cut a b s t (xs, x, is_a, nx, hx) (ys, y, is_b, ny, hy) e =
-    let left : a ++ s ≡ xs ++ (x ∷ s) = ap (λ (l : List Text). l ++ s) is_a ∙ append_assoc xs (x ∷ []) s in
-    let right : b ++ t ≡ ys ++ (y ∷ t) = ap (λ (l : List Text). l ++ t) is_b ∙ append_assoc ys (y ∷ []) t in
+    let left : a ++ s ≡ xs ++ (x ∷ s) = cc (append_assoc xs (x ∷ []) s) in
+    let right : b ++ t ≡ ys ++ (y ∷ t) = cc (append_assoc ys (y ∷ []) t) in
     let both = rows_cut xs ys x y s t nx ny hx hy (sym left ∙ e ∙ right) in
     (is_a ∙ both.0 ∙ sym is_b, both.1)
 

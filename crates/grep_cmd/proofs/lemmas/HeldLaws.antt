@@ -1,5 +1,5 @@
 -- Where the steps of a script bring few bytes, the numbers of all changes can be held.
-use Rattle.grep_cmd.proofs.Prelude.{◌≡◌, ℕ, zero, suc, ◌+◌, ◌-◌, ◌<◌, ◌≤◌, Bool, true, false, List, [], ◌∷◌, ◌++◌, length, map, take, drop, get_or, All, MatchBool, Result, Ok, Err, refl, sym, ap, subst, inl, inr, arith, length-append, length-set, length-drop, length-take, slice_set, slice_range, remove, splice, sum_by, Text, Expression, ArePartsFrom, AreParts, Options, File, Inputs, file_at, EditFault, Edit, AddFile, AddMissing, DropFile, Splice, DropPattern, ChangePattern, SetFlag, SetSyntax, SetContext, Applies, EditGives, with_files, spliced, whole_file, missing_file, ListedParts, Marked, Stretch, Fits, AllThree, Hit, HitOf, HitsFrom, Watched, whole_mark, new_mark, mark_at, lost, changes_hits, if◌then◌else◌, IsFit, AreFit, MarksAfter, MarksGiven, Change, AreChanges, ChangesFile, all_known, does, IsHeld, IsHeldPart, IsHeldHit, IsHeldChange, bytes_of, cases_lt, take-take, All-nil, All-cons, All-head, All-tail, All-append, All-set, All-weaker, All-take, All-drop, All-map, All-get_or, sum_by-append, sum_by-cons, sum_by-take-drop, sum_by-take-le, get_or-le-sum_by}
+use Rattle.grep_cmd.proofs.Prelude.{◌≡◌, ℕ, zero, suc, ◌+◌, ◌-◌, ◌<◌, ◌≤◌, Bool, true, false, List, [], ◌∷◌, ◌++◌, length, map, take, drop, get_or, All, MatchBool, Result, Ok, Err, refl, sym, ap, subst, inl, inr, arith, length-append, length-set, length-drop, length-take, slice_set, slice_range, remove, splice, Text, Expression, ArePartsFrom, AreParts, Options, File, Inputs, file_at, EditFault, Edit, AddFile, AddMissing, DropFile, Splice, DropPattern, ChangePattern, SetFlag, SetSyntax, SetContext, Applies, EditGives, with_files, spliced, whole_file, missing_file, ListedParts, Marked, Stretch, Fits, AllThree, Hit, HitOf, HitsFrom, Watched, whole_mark, new_mark, mark_at, lost, changes_hits, if◌then◌else◌, IsFit, AreFit, MarksAfter, MarksGiven, Change, AreChanges, ChangesFile, all_known, does, IsHeld, IsHeldPart, IsHeldHit, IsHeldChange, bytes_of, cases_lt, take-take, All-nil, All-cons, All-head, All-tail, All-append, All-set, All-weaker, All-take, All-drop, All-map, All-get_or, sum_by-append, sum_by-cons, sum_by-take-drop, sum_by-take-le, get_or-le-sum_by}
 use Rattle.grep_session.specs.Edits.{AddPatterns}
 use Rattle.grep_live.proofs.lemmas.CarryLemmas.{added_file, added_missing, added_patterns, changed_pattern, context_set, dropped_pattern, file_dropped, option_set, refused_same, splice_accepted, syntax_set}
 use Rattle.grep_cmd.proofs.lemmas.BroughtLaws.{brought}
@@ -7,8 +7,8 @@ use Rattle.grep_cmd.proofs.lemmas.ReadingLaws.{AreHeldChanges}
 
 get_or_past : {A : Type 0} (xs : List A) (k : ℕ) (d : A) → length xs ≤ k → get_or xs k d ≡ d
 get_or_past [] k d past = refl
-get_or_past (x ∷ xs) zero d past = absurd (omega (arith, past))
-get_or_past (x ∷ xs) (suc k) d past = get_or_past xs k d (omega (arith, past))
+get_or_past (x ∷ xs) zero d past = absurd (omega arith)
+get_or_past (x ∷ xs) (suc k) d past = get_or_past xs k d (omega arith)
 
 -- ---- what is within a number
 
@@ -25,13 +25,13 @@ pub record IsWithin (n : ℕ) (state : Watched) : Type 0 where
 
 module _ (n m : ℕ) (more : n ≤ m) where
   files_wider : (files : List File) → All (FileWithin n) files → All (FileWithin m) files
-  files_wider files within = All-weaker (FileWithin n) (FileWithin m) (λ file few. omega (arith, more, few)) files within
+  files_wider files within = All-weaker (FileWithin n) (FileWithin m) (λ file few. omega (arith, few)) files within
 
   marks_wider : (marks : List Marked) → All (MarkWithin n) marks → All (MarkWithin m) marks
-  marks_wider marks within = All-weaker (MarkWithin n) (MarkWithin m) (λ mark few. omega (arith, more, few)) marks within
+  marks_wider marks within = All-weaker (MarkWithin n) (MarkWithin m) (λ mark few. omega (arith, few)) marks within
 
   pub within_wider : (state : Watched) → IsWithin n state → IsWithin m state
-  within_wider state w = record { few = omega (arith, more, w.few); files = files_wider state.inputs.files w.files; marks = marks_wider state.marks w.marks }
+  within_wider state w = record { few = omega (arith, w.few); files = files_wider _ w.files; marks = marks_wider _ w.marks }
 
 -- ---- the files after an edit
 
@@ -42,25 +42,25 @@ FilesWithin n files = (length files ≤ n) × All (FileWithin n) files
 splice_within : (lines come : List Text) (start end : ℕ) → start ≤ end → bytes_of (splice lines start end come) ≤ bytes_of lines + bytes_of come
 splice_within lines come start end order =
     let count = λ (line : Text). length line + 1 in
-    let front : sum_by count (take start lines) ≤ sum_by count (take end lines) =
-    subst (λ (l : List Text). sum_by count l ≤ sum_by count (take end lines)) (take-take start end lines order) (sum_by-take-le count (take end lines) start) in
-    omega (arith, front, sum_by-take-drop count lines end, sum_by-append count (take start lines) (come ++ drop end lines), sum_by-append count come (drop end lines))
+    let front =
+    rw (take-take start end lines order) at (sum_by-take-le count (take end lines) start) in
+    omega (arith, sum_by-take-drop count lines end, sum_by-append count (take start lines) (come ++ drop end lines), sum_by-append count come (drop end lines))
 
 module _ (n : ℕ) (old new : Inputs) (within : FilesWithin n old.files) where
   files_added : (file : File) (b : ℕ) → bytes_of file.lines ≤ b → new ≡ with_files (old.files ++ file ∷ []) old → FilesWithin (n + (1 + b)) new.files
   files_added file b few is =
       let wide = files_wider n (n + (1 + b)) (omega arith) old.files within.1 in
       let one = All-cons (FileWithin (n + (1 + b))) file [] (omega (arith, few)) (All-nil (FileWithin (n + (1 + b)))) in
-      subst (λ (i : Inputs). FilesWithin (n + (1 + b)) i.files) (sym is)
+      rw is
       (omega (arith, within.0, length-append old.files (file ∷ [])), All-append (FileWithin (n + (1 + b))) old.files (file ∷ []) wide one)
 
   files_same : new.files ≡ old.files → FilesWithin (n + 1) new.files
-  files_same is = subst (FilesWithin (n + 1)) (sym is) (omega (arith, within.0), files_wider n (n + 1) (omega arith) old.files within.1)
+  files_same is = rw is (omega (arith, within.0), files_wider n (n + 1) (omega arith) old.files within.1)
 
   files_dropped : (k : ℕ) → new ≡ with_files (remove old.files k) old → FilesWithin (n + 1) new.files
   files_dropped k is =
       let wide = files_wider n (n + 1) (omega arith) old.files within.1 in
-      subst (λ (i : Inputs). FilesWithin (n + 1) i.files) (sym is) (
+      rw is (
         omega (arith, within.0, length-append (take k old.files) (drop (suc k) old.files), length-take k old.files, length-drop (suc k) old.files),
         All-append (FileWithin (n + 1)) (take k old.files) (drop (suc k) old.files) (All-take (FileWithin (n + 1)) k old.files wide) (All-drop (FileWithin (n + 1)) (suc k) old.files wide),
       )
@@ -68,7 +68,7 @@ module _ (n : ℕ) (old new : Inputs) (within : FilesWithin n old.files) where
   file_within : (k : ℕ) → bytes_of (file_at old.files k).lines ≤ n
   file_within k = elim (cases_lt k (length old.files)) [
     | inl inside ↦ All-get_or (FileWithin n) old.files k (file_at [] k) inside within.1
-    | inr outside ↦ subst (λ (file : File). bytes_of file.lines ≤ n) (sym (get_or_past old.files k (file_at [] k) outside)) (omega arith)
+    | inr outside ↦ rw (get_or_past _ k _ outside) (omega arith)
   ]
 
   files_spliced : (k start count : ℕ) (come : List Text) → new ≡ with_files (spliced old.files k start count come) old → FilesWithin (n + (1 + bytes_of come)) new.files
@@ -77,7 +77,7 @@ module _ (n : ℕ) (old new : Inputs) (within : FilesWithin n old.files) where
       let wide = files_wider n m (omega arith) old.files within.1 in
       let file = record (file_at old.files k) { lines = splice (file_at old.files k).lines start (start + count) come } in
       let few : bytes_of file.lines ≤ m = omega (arith, splice_within (file_at old.files k).lines come start (start + count) (omega arith), file_within k) in
-      subst (λ (i : Inputs). FilesWithin m i.files) (sym is) (omega (arith, within.0, length-set old.files k file), All-set (FileWithin m) old.files k file few wide)
+      rw is (omega (arith, within.0, length-set old.files k file), All-set (FileWithin m) old.files k file few wide)
 
   files_after : (edit : Edit) → Applies edit old (Ok new) → FilesWithin (n + brought (does edit)) new.files
   files_after (AddFile name lines) a = files_added (whole_file name lines) (bytes_of lines) (omega arith) (added_file name lines old new a)

@@ -1,5 +1,5 @@
 -- The replies to `changes` and `page`, with the status after them.
-use Rattle.grep_cmd.proofs.Prelude.{Bool, ◌≡◌, ℕ, [], ◌∷◌, ◌++◌, Option, Result, Ok, Err, inl, inr, refl, sym, subst, append-nil, IsErr, Text, Status, Inputs, written, output_line, Writes, Watched, changes_rows, page_lines, WritesChanges, WritesPage, all_known, status_line, LeavesReport, WritesReport, WritesHits}
+use Rattle.grep_cmd.proofs.Prelude.{Bool, ◌≡◌, ℕ, [], ◌∷◌, ◌++◌, Option, Result, Ok, Err, inl, inr, refl, append-nil, IsErr, Text, Status, Inputs, written, output_line, Writes, Watched, changes_rows, page_lines, WritesChanges, WritesPage, all_known, status_line, LeavesReport, WritesReport, WritesHits}
 use Rattle.grep_session.proofs.lemmas.Writing.{writes_err, writes_after, stops_before}
 
 -- a write failed before what changed counted as reported, or all of it does
@@ -13,11 +13,11 @@ left_after before after then (Err e) same = inl same
 
 module _ (texts : Bool) {W : Type 0} (contents : W → Option Text) (failures : W → ℕ) where
   one_line : {T E : Type 0} (a b : W) (text : Text) (r : Result T E) → Writes contents failures a b (output_line [] text) r → Writes contents failures a b (written [] (text ∷ [])) r
-  one_line a b text r w = subst (λ bytes. Writes contents failures a b bytes r) (sym (append-nil (output_line [] text))) w
+  one_line a b text r w = rw (append-nil (output_line [] text)) w
 
   -- the status by the last call is that of the rows
   same_line : {T E : Type 0} (a b : W) (s t : Status) (r : Result T E) → s ≡ t → Writes contents failures a b (output_line [] (status_line s)) r → Writes contents failures a b (written [] (status_line t ∷ [])) r
-  same_line a b s t r same w = one_line a b (status_line t) r (subst (λ s. Writes contents failures a b (output_line [] (status_line s)) r) same w)
+  same_line a b s t r same w = one_line a b (status_line t) r (rw same at w)
 
   -- a write failed within the changes
   pub report_front : (T E F : Type 0) (before after : Watched) (a b : W) (fault : F) (r : Result T E) → IsErr r → WritesChanges contents failures [] texts a b before after (Err fault) → WritesReport contents failures a b texts before after r
@@ -37,7 +37,7 @@ module _ (texts : Bool) {W : Type 0} (contents : W → Option Text) (failures : 
         rows ++ status_line t.all.status ∷ [],
         all_known before,
         record { all = t.all; is = refl; leaves = refl },
-        writes_after contents failures [] a b c rows (status_line t.all.status ∷ []) r t.wrote (same_line b c status t.all.status r t.answered w),
+        writes_after contents failures [] a b c rows (status_line t.all.status ∷ []) r t.wrote (same_line b c _ _ r t.answered w),
         left_after before after (all_known before) r t.leaves,
       )
 
@@ -56,5 +56,5 @@ module _ (texts : Bool) {W : Type 0} (contents : W → Option Text) (failures : 
       let rows = page_lines texts first count t.all.view in (
         rows ++ status_line t.all.status ∷ [],
         record { all = t.all; is = refl },
-        writes_after contents failures [] a b c rows (status_line t.all.status ∷ []) r t.wrote (same_line b c status t.all.status r t.answered w),
+        writes_after contents failures [] a b c rows (status_line t.all.status ∷ []) r t.wrote (same_line b c _ _ r t.answered w),
       )

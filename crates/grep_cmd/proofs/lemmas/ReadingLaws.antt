@@ -17,17 +17,17 @@ module _ {A : Type 0} where
   -- two lists, cut at one length
   pub cut_same : (xs ys s t : List A) → length xs ≡ length ys → xs ++ s ≡ ys ++ t → (xs ≡ ys) × (s ≡ t)
   cut_same [] [] s t l e = (refl, e)
-  cut_same [] (y ∷ ys) s t l e = absurd (omega (arith, l))
-  cut_same (x ∷ xs) [] s t l e = absurd (omega (arith, l))
+  cut_same [] (y ∷ ys) s t l e = absurd (omega arith)
+  cut_same (x ∷ xs) [] s t l e = absurd (omega arith)
   cut_same (x ∷ xs) (y ∷ ys) s t l e =
       let here = first_same x y (xs ++ s) (ys ++ t) e in
-      let more = cut_same xs ys s t (omega (arith, l)) (rest_same x y (xs ++ s) (ys ++ t) e) in
+      let more = cut_same xs ys s t (omega arith) (rest_same x y _ _ e) in
       ((λ i. here i ∷ more.0 i), more.1)
 
   pub last_cut : (xs ys : List A) (x y : A) → xs ++ x ∷ [] ≡ ys ++ y ∷ [] → xs ≡ ys
   last_cut xs ys x y e =
       let long : length xs ≡ length ys = omega (arith, ap length e, length-append xs (x ∷ []), length-append ys (y ∷ [])) in
-      (cut_same xs ys (x ∷ []) (y ∷ []) long e).0
+      (cut_same xs ys _ _ long e).0
 
 -- ---- digits
 
@@ -45,8 +45,8 @@ Stops (c ∷ cs) = IsDigit c → ⊥
 
 glyph_is_digit : (d : ℕ) → d < 10 → IsDigit (digit_glyph false d)
 glyph_is_digit d small =
-    let same : digit_glyph false d ≡ 48 + d = ap (λ (b : Bool). cond b (48 + d) (87 + d)) (lt-ltb d 10 small) in
-    (omega (arith, same), omega (arith, same))
+    let same : digit_glyph false d ≡ 48 + d = rw (lt-ltb d 10 small) in
+    (omega arith, omega arith)
 
 either_digits : (b : Bool) (xs ys : Text) → AreDigits xs → AreDigits ys → AreDigits (cond b xs ys)
 either_digits true xs ys p q = p

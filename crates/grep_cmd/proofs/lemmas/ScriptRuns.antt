@@ -6,7 +6,6 @@ use Rattle.re_meter.proofs.lemmas.Adding.{adds_none, adds_both}
 use Rattle.grep_core.proofs.lemmas.HandedLemmas.{begins_with}
 use Rattle.grep_core.proofs.lemmas.NumberedLemmas.{has_handed_none}
 use Rattle.std.proofs.KnownBytes.{Appends-trans}
-use Rattle.grep_core.specs.Counted.{one_more}
 use Rattle.grep_core.proofs.lemmas.RowLemmas.{goes_nowhere, goes_on}
 use Rattle.grep_core.proofs.lemmas.WriterLaws.{written-append}
 use Rattle.grep_cmd.specs.declared.script.ScriptEnd.TheVariants.{Refused}
@@ -25,18 +24,18 @@ module _ {W : Type 0} {contents : W → Option Text} {failures : W → ℕ} wher
   stops_as {a} {b} {c} {xs = xs} is first second = record {
     front = xs ++ second.front;
     rest = second.rest;
-    cut = is ∙ ap (λ t. xs ++ t) second.cut ∙ sym (append_assoc xs second.front second.rest);
+    cut = cc (second.cut, append_assoc xs second.front second.rest);
     written = Appends-trans (contents a) (contents b) (contents c) xs second.front first.written second.written;
-    counted = second.counted ∙ ap one_more first.none_failed;
+    counted = cc (second.counted, first.none_failed);
   }
 
   -- nothing more was written
   goes_same : {a b c : W} {bytes : Text} → GoesOut contents failures a b bytes → GoesOut contents failures b c [] → GoesOut contents failures a c bytes
-  goes_same {a} {b} {c} {bytes} first second = subst (GoesOut contents failures a c) (append-nil bytes) (goes_on contents failures a b c bytes [] first second)
+  goes_same {a} {b} {c} {bytes} first second = rw (append-nil bytes) at (goes_on contents failures a b c bytes [] first second)
 
   goes_both : {a b c d : W} (xs ys : List Text) → GoesOut contents failures a b (written [] xs) → GoesOut contents failures b c [] → GoesOut contents failures c d (written [] ys) → GoesOut contents failures a d (written [] (xs ++ ys))
   goes_both {a} {c = c} {d = d} xs ys first flushed second =
-      subst (GoesOut contents failures a d) (sym (written-append [] xs ys)) (goes_on contents failures a c d (written [] xs) (written [] ys) (goes_same first flushed) second)
+      rw (written-append [] xs ys) (goes_on contents failures a c d (written [] xs) (written [] ys) (goes_same first flushed) second)
 
 module _ {R : Type 0} (remaining : R → Option Text) (failures : R → ℕ) (reader : R) where
   -- the lines of a reader, with their ending, are a script
@@ -88,10 +87,10 @@ module _ {R W : Type 0} {remaining : R → Option Text} {failures : R → ℕ} {
     answers_so_far : {last : StepCounts} (file : File) (rest : List Text) → file.lines ≡ s.handed ++ rest → last ≡ spent → AnswersScript start file begun last s.replies rest inputs
     answers_so_far file rest is idle = record {
       steps = s.steps;
-      are_steps = rw is (done_alone file.ending s.handed rest s.steps s.are_done);
+      are_steps = rw is (done_alone file.ending _ _ _ s.are_done);
       most = s.most;
       are_replies = s.are_replies;
-      few = subst (AddsAtMost s.most begun) (sym idle) s.few;
+      few = rw idle s.few;
     }
 
     -- ---- no further line was handed out
@@ -169,8 +168,8 @@ module _ {R W : Type 0} {remaining : R → Option Text} {failures : R → ℕ} {
     pub next_fails : (next : Numbered R) (new : W) (f : ScriptFault) → IsOneLineAndFew next.lines.ahead → ReadsNext remaining failures reader s.handed next (Err f) → FlushesFor contents write_failures mid new f
         → Gives next inputs spent new (Err f)
     next_fails next new Read few stands sent = cut_here next new stands sent
-    next_fails next new Memory few handed sent = runs_out next new [] tt few (subst (HasHanded remaining failures reader next) (sym (append-nil s.handed)) handed) sent
-    next_fails next new Write few handed stops = stops_sending next new [] (subst (HasHanded remaining failures reader next) (sym (append-nil s.handed)) handed) stops
+    next_fails next new Memory few handed sent = runs_out next new [] tt few (rw (append-nil s.handed) handed) sent
+    next_fails next new Write few handed stops = stops_sending next new [] (rw (append-nil s.handed) handed) stops
 
     -- ---- a command line was handed out
 

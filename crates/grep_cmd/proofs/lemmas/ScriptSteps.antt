@@ -12,13 +12,13 @@ done_push lines (s ∷ steps) line taken step (l, t, more, cut, this, rest) is =
 
 -- the steps that are done, and those of the lines after them
 pub done_steps : (ending : Ending) (lines rest left : List Text) (steps tail : List Step) → AreDone lines steps → Steps ending rest tail left → Steps ending (lines ++ rest) (steps ++ tail) left
-done_steps ending lines rest left [] tail none next = subst (λ ls. Steps ending (ls ++ rest) tail left) (sym none) next
+done_steps ending lines rest left [] tail none next = rw none next
 done_steps ending lines rest left (s ∷ steps) tail (l, t, more, cut, this, others) next =
     inl (l, t, more ++ rest, ap (λ ls. ls ++ rest) cut ∙ ap (λ ls. l ∷ ls) (append_assoc t more rest), this, done_steps ending more rest left steps tail others next)
 
 -- nothing more is done
 pub done_alone : (ending : Ending) (lines rest : List Text) (steps : List Step) → AreDone lines steps → Steps ending (lines ++ rest) steps rest
-done_alone ending lines rest steps done = subst (λ ss. Steps ending (lines ++ rest) ss rest) (append-nil steps) (done_steps ending lines rest rest steps [] done refl)
+done_alone ending lines rest steps done = rw (append-nil steps) at (done_steps ending lines rest rest steps [] done refl)
 
 -- one more reply
 pub replies_push : (steps : List Step) (step : Step) (before between after : ScriptState) (replies reply : List Text) (most own : ℕ) → Replies steps before replies between most → RepliesTo step between reply after

@@ -1,5 +1,5 @@
 -- What is shown is the output, the messages and the status, one after another.
-use Rattle.grep_cmd.proofs.Prelude.{◌≡◌, ℕ, List, [], ◌∷◌, ◌++◌, codes, Option, Result, refl, sym, ap, subst, ◌∙◌, append-nil, IsErr, Text, Status, Inputs, written, output_line, GoesOut, StopsWithin, Writes, GrepGives, ReportsAllInputs, status_line, with_margin, Shows}
+use Rattle.grep_cmd.proofs.Prelude.{◌≡◌, ℕ, List, [], ◌∷◌, ◌++◌, codes, Option, Result, refl, ◌∙◌, append-nil, IsErr, Text, Status, Inputs, written, output_line, GoesOut, StopsWithin, Writes, GrepGives, ReportsAllInputs, status_line, with_margin, Shows}
 use Rattle.grep_core.proofs.lemmas.RowLemmas.{stops_early, stops_later, writes_last}
 use Rattle.grep_core.proofs.lemmas.WriterLaws.{written-append}
 use Rattle.grep_session.proofs.lemmas.HeadlineLaws.{one_report}
@@ -8,7 +8,7 @@ use Rattle.grep_session.proofs.lemmas.Writing.{writes_err}
 -- a margin is as good as a beginning of each line
 with_margin-written : (margin : Text) (text : List Text) → written [] (with_margin margin text) ≡ written margin text
 with_margin-written margin [] = refl
-with_margin-written margin (line ∷ text) = ap (λ l. output_line margin line ++ l) (with_margin-written margin text)
+with_margin-written margin (line ∷ text) = rw (with_margin-written margin text)
 
 abbrev shown_of : List Text → List Text → Status → List Text
 shown_of out reported status = with_margin (codes "o ") out ++ (with_margin (codes "e ") reported ++ status_line status ∷ [])
@@ -16,7 +16,7 @@ shown_of out reported status = with_margin (codes "o ") out ++ (with_margin (cod
 -- the bytes of what is shown
 shown_bytes : (out reported : List Text) (status : Status) → written [] (shown_of out reported status) ≡ written (codes "o ") out ++ (written (codes "e ") reported ++ output_line [] (status_line status))
 shown_bytes out reported status =
-    let line : written [] (status_line status ∷ []) ≡ output_line [] (status_line status) = append-nil (output_line [] (status_line status)) in
+    let line = append-nil (output_line [] (status_line status)) in
     let rest : written [] (with_margin (codes "e ") reported ++ status_line status ∷ []) ≡ written (codes "e ") reported ++ output_line [] (status_line status) =
     written-append [] (with_margin (codes "e ") reported) (status_line status ∷ []) ∙ (λ i. with_margin-written (codes "e ") reported i ++ line i) in
     written-append [] (with_margin (codes "o ") out) (with_margin (codes "e ") reported ++ status_line status ∷ []) ∙ (λ i. with_margin-written (codes "o ") out i ++ rest i)
@@ -27,12 +27,12 @@ module _ {W : Type 0} (contents : W → Option Text) (failures : W → ℕ) (inp
   shows_with a d r w = (
     shown_of grep.out grep.reported grep.status,
     record { grep = grep; is = refl },
-    subst (λ bytes. Writes contents failures a d bytes r) (sym (shown_bytes grep.out grep.reported grep.status)) w,
+    rw (shown_bytes _ _ _) w,
   )
 
   -- the messages that were written are those that are shown
   pub says_same : {T E : Type 0} (b c : W) (r : Result T E) → ReportsAllInputs contents failures inputs (codes "e ") b c r → Writes contents failures b c (written (codes "e ") grep.reported) r
-  says_same b c r m = subst (λ text. Writes contents failures b c (written (codes "e ") text) r) (one_report inputs grep m.grep).1 m.wrote
+  says_same b c r m = rw (one_report inputs grep m.grep).1 at m.wrote
 
   -- a write failed within the output
   pub shows_front : {T E : Type 0} (a b : W) (r : Result T E) → IsErr r → StopsWithin contents failures a b (written (codes "o ") grep.out) → Shows contents failures inputs a b r

@@ -12,7 +12,7 @@ use Rattle.grep_cmd.specs.declared.script.ScriptFault.TheVariants.{Read, Write, 
 use Rattle.grep_cmd.specs.declared.script.reply.Answer.TheVariants.{Accepted, Refused, Truncated}
 use Rattle.grep_cmd.specs.Replies.{RepliesTo, Replies, SearchesAtMost, truncated, is_refusal}
 use Rattle.grep_cmd.specs.Replies.{end_for, ScriptState, IsUpToReport}
-use Rattle.grep_cmd.specs.{declared.script.ScriptFault.ScriptFault}
+use Rattle.grep_cmd.specs.declared.script.ScriptFault.{ScriptFault}
 use Rattle.grep_cmd.specs.{declared.script.ScriptEnd.ScriptEnd, declared.script.reply.Answer.Answer}
 use Rattle.grep_cmd.specs.{Script.Step, Script.IsStep, Script.WantsMore}
 use Rattle.script_commands.specs.Commands.{AsksForMemory, line_command}

@@ -4,8 +4,8 @@ use Rattle.std.specs.Prelude.{if◌then◌else◌}
 use Rattle.re_syntax.specs.{Bytes.Text, Lines.HasNoNewline, Lines.terminated, Expression.Expression}
 use Rattle.re_search.specs.Meters.{Steps}
 use Rattle.grep_core.specs.declared.status.SearchFault.TheVariants.{Write, Memory}
-use Rattle.grep_core.specs.{declared.options.Options.Options}
-use Rattle.grep_core.specs.{declared.search.searched_block.SearchedLines.SearchedLines}
+use Rattle.grep_core.specs.declared.options.Options.{Options}
+use Rattle.grep_core.specs.declared.search.searched_block.SearchedLines.{SearchedLines}
 use Rattle.grep_core.specs.{declared.status.SearchFault.SearchFault, Cost.SearchesLines}
 use Rattle.grep_core.specs.{Files.Selected, Run.Writer, Run.TakesAll, Run.TakesFront}
 use Rattle.grep_core.specs.{Working.OneLine.RowsOfLine, Working.SearchedBlocks.IsNextOf}

@@ -4,7 +4,7 @@ use Rattle.re_syntax.specs.{Bytes.Text, Expression.Expression}
 use Rattle.grep_core.specs.declared.status.SearchFault.TheVariants.{Write, Memory}
 use Rattle.grep_core.specs.Output.{Form, parts, lines, around, form, head_of, shown_number, RowsOf}
 use Rattle.grep_core.specs.Output.{PartsOfLine, PartRowsOf, GroupsOf}
-use Rattle.grep_core.specs.{declared.options.Options.Options}
+use Rattle.grep_core.specs.declared.options.Options.{Options}
 use Rattle.grep_core.specs.{declared.status.SearchFault.SearchFault, Choose.IfHolds, Files.File}
 use Rattle.grep_core.specs.{Files.Selected, Row.colon, Row.head, Run.Writer, Run.TakesAll}
 use Rattle.grep_core.specs.{Run.TakesFront, Working.Requests.name_shown}

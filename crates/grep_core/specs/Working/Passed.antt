@@ -1,10 +1,10 @@
 -- Lines of a reader that are passed without being handed out.
 use Rattle.std.specs.Prelude.{◌≡◌, ◌⊎◌, List, [], All, length}
 use Rattle.re_syntax.specs.{Bytes.Text, Expression.Expression}
-use Rattle.grep_core.specs.{declared.options.Options.Options}
+use Rattle.grep_core.specs.declared.options.Options.{Options}
 use Rattle.grep_core.specs.{declared.output.around.Progress.Progress, Files.Selected}
 use Rattle.grep_core.specs.{Working.LastLines.LastLines, Working.LastLines.with_lines}
-use Rattle.grep_core.specs.{Working.Progress.with_waiting}
+use Rattle.grep_core.specs.Working.Progress.{with_waiting}
 
 -- no line is selected
 abbrev pub AreUnselected : List Expression → Options → List Text → Type 0

@@ -3,8 +3,8 @@ use Rattle.std.specs.Prelude.{ℕ, ◌+◌, ◌-◌, nat_lt, min, Bool, true, fa
 use Rattle.std.specs.Prelude.{◌∷◌, ◌++◌, length, map, drop, if◌then◌else◌}
 use Rattle.std.specs.List.{enumerate_from}
 use Rattle.re_syntax.specs.Bytes.{Text}
-use Rattle.grep_core.specs.{declared.options.Options.Options}
-use Rattle.grep_core.specs.{declared.output.around.Progress.Progress}
+use Rattle.grep_core.specs.declared.options.Options.{Options}
+use Rattle.grep_core.specs.declared.output.around.Progress.{Progress}
 use Rattle.grep_core.specs.{declared.output.around.Shown.Shown, declared.options.Context.Context}
 use Rattle.grep_core.specs.{Around.group_separator, Row.colon, Row.hyphen, Row.head}
 use Rattle.grep_core.specs.{Output.shown_number, Working.Requests.name_shown}

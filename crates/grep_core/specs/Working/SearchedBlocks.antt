@@ -5,8 +5,8 @@ use Rattle.re_syntax.specs.{Bytes.Text, Lines.HasNoNewline, Lines.lines_of, Line
 use Rattle.re_search.specs.Working.Sought.{Sought, IsSought}
 use Rattle.grep_io.specs.{declared.input.lines.Stage.TheVariants.Ended, Reading.most_lines}
 use Rattle.grep_io.specs.{Written.Writes, Working.Numbered.Numbered}
-use Rattle.grep_core.specs.{declared.search.searched_block.SearchedBlock.SearchedBlock}
-use Rattle.grep_core.specs.{Choose.Chosen}
+use Rattle.grep_core.specs.declared.search.searched_block.SearchedBlock.{SearchedBlock}
+use Rattle.grep_core.specs.Choose.{Chosen}
 
 -- the stretch is all these lines: those before the first that is matched, and that line, if there
 -- is one

@@ -3,8 +3,8 @@ use Rattle.std.specs.Prelude.{◌≡◌, ℕ, Bool, if◌then◌else◌, [], ◌
 use Rattle.re_syntax.specs.Bytes.{Text}
 use Rattle.grep_core.specs.declared.status.SearchFault.TheVariants.{Write, Memory}
 use Rattle.grep_core.specs.Working.Progress.{next_shown, after_line, last_of, rows_at}
-use Rattle.grep_core.specs.{declared.options.Options.Options}
-use Rattle.grep_core.specs.{declared.output.around.Progress.Progress}
+use Rattle.grep_core.specs.declared.options.Options.{Options}
+use Rattle.grep_core.specs.declared.output.around.Progress.{Progress}
 use Rattle.grep_core.specs.{declared.status.SearchFault.SearchFault, Run.Writer, Run.TakesAll}
 use Rattle.grep_core.specs.{Run.TakesFront, Working.LastLines.LastLines}
 use Rattle.grep_io.specs.Counted.{one_more}

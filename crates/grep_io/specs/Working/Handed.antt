@@ -2,15 +2,12 @@
 -- was written for them.
 use Rattle.std.specs.Prelude.{◌≡◌, ℕ, ◌⊎◌, List, [], ◌∷◌, ◌++◌, All, Option}
 use Rattle.std.specs.Io.KnownBytes.{Consumes, IsAtEnd}
-use Rattle.re_trees.specs.Bytes.{Text}
-use Rattle.re_trees.specs.Lines.{lines_of, terminated, HasNoNewline}
-use Rattle.grep_io.specs.declared.input.lines.Stage.{Stage}
+use Rattle.re_trees.specs.{Bytes.Text, Lines.lines_of, Lines.terminated, Lines.HasNoNewline}
 use Rattle.grep_io.specs.declared.input.lines.Stage.TheVariants.{Open, Ended, Failed}
-use Rattle.grep_io.specs.Working.LineReader.{LineReader, to_come}
-use Rattle.grep_io.specs.File.{File, Ending, whole, broken}
-use Rattle.grep_io.specs.Reading.{Reading, IsReadingOf, open_source, file_of, failures_of}
-use Rattle.grep_io.specs.Reading.{AreLeft}
-use Rattle.grep_io.specs.Counted.{count_more}
+use Rattle.grep_io.specs.Reading.{Reading, IsReadingOf, open_source, file_of, failures_of, AreLeft}
+use Rattle.grep_io.specs.{declared.input.lines.Stage.Stage, Working.LineReader.LineReader}
+use Rattle.grep_io.specs.{Working.LineReader.to_come, File.File, File.Ending, File.whole}
+use Rattle.grep_io.specs.{File.broken, Counted.count_more}
 
 -- each line handed out ended in a newline; only the last line of an input may lack it
 abbrev pub AreHanded : Stage → Text → List Text → Type 0

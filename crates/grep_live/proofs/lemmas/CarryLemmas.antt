@@ -1,10 +1,8 @@
 -- What each edit leaves: marks that fit, and views that follow.
-use Rattle.grep_live.proofs.Prelude.{◌≡◌, ℕ, zero, suc, ◌+◌, ◌<◌, ◌≤◌, Bool, List, [], ◌∷◌, ◌++◌, length, map, get_or, Result, Ok, Err, refl, sym, ap, subst, ◌∙◌, inl, inr, arith, cases_lt, Option, slice_set, remove, splice, Syntax, Text, list_of, Expression, Flag, Count, IgnoreCase, FilesWithMatches, LineNumber, OnlyMatching, Quiet, NoMessages, InvertMatch, LineRegexp, Context, IfHolds, File, Inputs, AreMeant, Selected, file_at, EditFault, NoSuchFile, FileIsMissing, OutOfRange, LineHasNewline, NoSuchPattern, Pattern, TooManyPatterns, Memory, Edit, AddFile, AddMissing, DropFile, Splice, AddPatterns, DropPattern, ChangePattern, SetFlag, SetSyntax, SetContext, Applies, EditGives, Reads, with_option, with_files, with_patterns, with_context, whole_file, missing_file, spliced, ListedParts, Marked, Splices, AllThree, AreWithin, Hit, HitOf, View, moved, hits_at, Watched, new_mark, whole_mark, mark_at, lost, changes_hits, if◌then◌else◌, MarksAfter, FollowsFile, Follows, view_after, EditsCarry, IsFit, AreFit}
-use Rattle.grep_session.proofs.lemmas.AllPatternsRead.{with_same}
-use Rattle.grep_session.proofs.lemmas.FitLemmas.{fit_added, fit_dropped, fit_lose, fit_spliced}
+use Rattle.grep_live.proofs.Prelude.{◌≡◌, ℕ, zero, suc, ◌+◌, ◌<◌, ◌≤◌, Bool, List, [], ◌∷◌, ◌++◌, length, map, get_or, Result, Ok, Err, refl, sym, ap, subst, ◌∙◌, inl, inr, arith, cases_lt, Option, slice_set, remove, splice, Syntax, Text, list_of, Expression, Flag, Count, IgnoreCase, FilesWithMatches, LineNumber, OnlyMatching, Quiet, NoMessages, InvertMatch, LineRegexp, Context, IfHolds, File, Inputs, AreMeant, Selected, file_at, EditFault, NoSuchFile, FileIsMissing, OutOfRange, LineHasNewline, NoSuchPattern, Pattern, TooManyPatterns, Memory, Edit, AddFile, AddMissing, DropFile, Splice, AddPatterns, DropPattern, ChangePattern, SetFlag, SetSyntax, SetContext, Applies, EditGives, Reads, with_option, with_files, with_patterns, with_context, whole_file, missing_file, spliced, ListedParts, Marked, Splices, AllThree, Hit, HitOf, View, moved, hits_at, Watched, new_mark, whole_mark, mark_at, lost, changes_hits, if◌then◌else◌, MarksAfter, FollowsFile, Follows, view_after, EditsCarry, IsFit, AreFit}
+use Rattle.grep_session.proofs.lemmas.{AllPatternsRead.with_same, FitLemmas.fit_added, FitLemmas.fit_dropped, FitLemmas.fit_lose, FitLemmas.fit_spliced}
+use Rattle.grep_live.proofs.lemmas.{HitLemmas.HitBy, HitLemmas.moved_again, HitLemmas.one_moved, MarkLemmas.kept_line, MarkLemmas.none_kept}
 use Rattle.grep_live.proofs.lemmas.ListLemmas.{three-append, three-remove, three-set, three-map, three-weaker}
-use Rattle.grep_live.proofs.lemmas.HitLemmas.{HitBy, moved_again, one_moved}
-use Rattle.grep_live.proofs.lemmas.MarkLemmas.{kept_line, none_kept}
 
 -- ---- outcomes
 
@@ -32,47 +30,47 @@ accepted_where a f (inr (p, e)) = absurd (not_refused a f e)
 
 accepted_read : (syntax : Syntax) (fold : Bool) (texts : List Text) (a b : Inputs) → Reads syntax fold texts b (Ok a) → a ≡ b
 accepted_read syntax fold texts a b (inl (readable, e)) = same_inputs a b e
-accepted_read syntax fold texts a b (inr (unreadable, (place, fault, first, e))) = absurd (not_refused a (Pattern place fault) e)
+accepted_read syntax fold texts a b (inr (unreadable, (place, fault, first, e))) = absurd (not_refused a _ e)
 
 -- ---- the new inputs of an accepted edit
 
 -- the files after one was removed
 pub file_dropped : (k : ℕ) (old new : Inputs) → Applies (DropFile k) old (Ok new) → new ≡ with_files (remove old.files k) old
-file_dropped k old new a = (accepted_if new (with_files (remove old.files k) old) NoSuchFile a).1
+file_dropped k old new a = (accepted_if _ _ _ a).1
 
 -- the files after one was added
 pub added_file : (name : Text) (lines : List Text) (old new : Inputs) → Applies (AddFile name lines) old (Ok new) → new ≡ with_files (old.files ++ whole_file name lines ∷ []) old
-added_file name lines old new a = (accepted_if new (with_files (old.files ++ whole_file name lines ∷ []) old) LineHasNewline a).1
+added_file name lines old new a = (accepted_if _ _ _ a).1
 
 pub added_missing : (name : Text) (old new : Inputs) → Applies (AddMissing name) old (Ok new) → new ≡ with_files (old.files ++ missing_file name ∷ []) old
-added_missing name old new a = same_inputs new (with_files (old.files ++ missing_file name ∷ []) old) a
+added_missing name old new a = same_inputs _ _ a
 
 pub added_patterns : (list : Text) (old new : Inputs) → Applies (AddPatterns list) old (Ok new) → new ≡ with_patterns (old.patterns ++ list_of list) old
 added_patterns list old new a =
-    accepted_read old.syntax old.options.ignore_case (list_of list) new (with_patterns (old.patterns ++ list_of list) old) (accepted_unless new TooManyPatterns a).1
+    accepted_read _ _ _ _ _ (accepted_unless _ _ a).1
 
 pub dropped_pattern : (p : ℕ) (old new : Inputs) → Applies (DropPattern p) old (Ok new) → new ≡ with_patterns (remove old.patterns p) old
-dropped_pattern p old new a = (accepted_if new (with_patterns (remove old.patterns p) old) NoSuchPattern a).1
+dropped_pattern p old new a = (accepted_if _ _ _ a).1
 
 pub changed_pattern : (p : ℕ) (text : Text) (old new : Inputs) → Applies (ChangePattern p text) old (Ok new) → new ≡ with_patterns (slice_set old.patterns p text) old
 changed_pattern p text old new a =
-    accepted_read old.syntax old.options.ignore_case (text ∷ []) new (with_patterns (slice_set old.patterns p text) old) (accepted_where new NoSuchPattern a).1
+    accepted_read _ _ _ _ _ (accepted_where _ _ a).1
 
 -- a pattern that is changed to itself
 changed_to_itself : (patterns : List Text) (p : ℕ) (text : Text) → p < length patterns → text ≡ get_or patterns p [] → slice_set patterns p text ≡ patterns
-changed_to_itself [] p text below same = absurd (omega (arith, below))
-changed_to_itself (t ∷ ts) zero text below same = ap (λ (l : Text). l ∷ ts) same
-changed_to_itself (t ∷ ts) (suc p) text below same = ap (λ (ls : List Text). t ∷ ls) (changed_to_itself ts p text (omega (arith, below)) same)
+changed_to_itself [] p text below same = absurd (omega arith)
+changed_to_itself (t ∷ ts) zero text below same = rw same
+changed_to_itself (t ∷ ts) (suc p) text below same = rw (changed_to_itself ts p text (omega arith) same)
 
 pub option_set : (flag : Flag) (on : Bool) (old new : Inputs) → Applies (SetFlag flag on) old (Ok new) → new ≡ record old { options = with_option flag on old.options }
 option_set flag on old new a =
-    accepted_read old.syntax (with_option flag on old.options).ignore_case old.patterns new (record old { options = with_option flag on old.options }) a
+    accepted_read _ _ _ _ _ a
 
 pub syntax_set : (syntax : Syntax) (old new : Inputs) → Applies (SetSyntax syntax) old (Ok new) → new ≡ record old { syntax = syntax }
-syntax_set syntax old new a = accepted_read syntax old.options.ignore_case old.patterns new (record old { syntax = syntax }) a
+syntax_set syntax old new a = accepted_read _ _ _ _ _ a
 
 pub context_set : (context : Option Context) (old new : Inputs) → Applies (SetContext context) old (Ok new) → new ≡ with_context context old
-context_set context old new a = same_inputs new (with_context context old) a
+context_set context old new a = same_inputs _ _ a
 
 -- the new inputs of a splice, and that there is a place for it
 pub record Spliced (k start count : ℕ) (lines : List Text) (old new : Inputs) : Type 0 where
@@ -88,7 +86,7 @@ splice_accepted k start count lines old new a =
     record {
       inside = elim (cases_lt k (length old.files)) [ inl h ↦ h | inr h ↦ absurd (file.0 h) ];
       within = elim (cases_lt (length (file_at old.files k).lines) (start + count)) [ inl h ↦ absurd (place.0 h) | inr h ↦ h ];
-      is = (accepted_if new (with_files (spliced old.files k start count lines) old) LineHasNewline place.1).1;
+      is = (accepted_if _ _ _ place.1).1;
     }
 
 -- ---- one file
@@ -97,21 +95,21 @@ splice_accepted k start count lines old new a =
 lost_file : (i j : Inputs) (file : File) (mark : Marked) (hits : List Hit) → IsFit file mark → FollowsFile i file mark hits → FollowsFile j file (lost mark) hits
 lost_file i j file mark hits fit f = record {
   in_order = f.in_order;
-  untouched = (λ es meant old new keeps inside. absurd (none_kept mark.known mark.lines old new keeps (omega (arith, inside, fit.0))));
+  untouched = (λ es meant old new keeps inside. absurd (none_kept _ _ _ _ keeps (omega (arith, inside, fit.0))));
 }
 
 -- the list of a file that was not reported
 new_file : (i : Inputs) (file : File) → FollowsFile i file (new_mark (length file.lines)) []
 new_file i file = record {
   in_order = tt;
-  untouched = (λ es meant old new keeps inside. absurd (none_kept 0 (length file.lines) old new keeps inside));
+  untouched = (λ es meant old new keeps inside. absurd (none_kept 0 _ _ _ keeps inside));
 }
 
 -- the list of a file in which lines were replaced
 spliced_file : (i : Inputs) (file : File) (mark new : Marked) (hits : List Hit) (come : List Text) (start count : ℕ) → start + count ≤ length file.lines → Splices start count (length come) mark new → FollowsFile i file mark hits →
     FollowsFile i (record file { lines = splice file.lines start (start + count) come }) new hits
 spliced_file i file mark new hits come start count within s f = record {
-  in_order = subst (λ (n : ℕ). AreWithin 0 n hits) (sym s.known) f.in_order;
+  in_order = rw s.known f.in_order;
   untouched = (λ es meant old now keeps inside.
       let was = s.only old now keeps in
       let line = kept_line file.lines come start count was.0 now within was.2 inside in
@@ -119,8 +117,8 @@ spliced_file i file mark new hits come start count within s f = record {
       let P = ListedParts es i.options in
       let text = get_or (splice file.lines start (start + count) come) now [] in
       let there : HitBy S P (was.0, text) (map (moved old was.0) (hits_at old hits)) =
-      subst (λ (t : Text). HitBy S P (was.0, t) (map (moved old was.0) (hits_at old hits))) (sym line.1) (f.untouched es meant old was.0 was.1 line.0) in
-      subst (HitBy S P (now, text)) (moved_again old was.0 now (hits_at old hits)) (one_moved S P was.0 was.0 now now text (map (moved old was.0) (hits_at old hits)) (omega arith) there));
+      rw line.1 (f.untouched es meant old was.0 was.1 line.0) in
+      rw (moved_again old was.0 now (hits_at old hits)) at (one_moved S P was.0 was.0 now now text (map (moved old was.0) (hits_at old hits)) (omega arith) there));
 }
 
 -- the same under inputs for which the patterns mean the same and lines have the same hits
@@ -143,20 +141,20 @@ module _ (old : Watched) (fit : AreFit old.inputs.files old.marks) where
   same_views : (inputs : Inputs) → ((es : List Expression) → AreMeant inputs.syntax inputs.options inputs.patterns es → AreMeant old.inputs.syntax old.inputs.options old.inputs.patterns es) →
       ((es : List Expression) (line : ℕ × Text) (hits : List Hit) → HitOf es old.inputs.options line hits → HitOf es inputs.options line hits) →
       (view : View) → Follows old view → AllThree (FollowsFile inputs) old.inputs.files old.marks view
-  same_views inputs back same view h = three-weaker (FollowsFile old.inputs) (FollowsFile inputs) (same_file old.inputs inputs back same) old.inputs.files old.marks view h
+  same_views inputs back same view h = three-weaker (FollowsFile old.inputs) (FollowsFile inputs) (same_file old.inputs inputs back same) _ _ _ h
 
   left_added : (file : File) → IsLeft old (record { inputs = with_files (old.inputs.files ++ file ∷ []) old.inputs; marks = old.marks ++ new_mark (length file.lines) ∷ []; states = old.states }) (λ view. view ++ [] ∷ [])
   left_added file =
       let inputs = with_files (old.inputs.files ++ file ∷ []) old.inputs in (
         fit_added old.inputs.files old.marks fit file,
-        (λ view h. three-append (FollowsFile inputs) old.inputs.files old.marks view file (new_mark (length file.lines)) [] (same_views inputs (λ es m. m) (λ es line hits x. x) view h) (new_file inputs file)),
+        (λ view h. three-append (FollowsFile inputs) old.inputs.files old.marks view file (new_mark (length file.lines)) [] (same_views _ (λ es m. m) (λ es line hits x. x) _ h) (new_file inputs file)),
       )
 
   left_dropped : (k : ℕ) → IsLeft old (record { inputs = with_files (remove old.inputs.files k) old.inputs; marks = remove old.marks k; states = old.states }) (λ view. remove view k)
   left_dropped k =
       let inputs = with_files (remove old.inputs.files k) old.inputs in (
         fit_dropped old.inputs.files old.marks fit k,
-        (λ view h. three-remove (FollowsFile inputs) old.inputs.files old.marks view k (same_views inputs (λ es m. m) (λ es line hits x. x) view h)),
+        (λ view h. three-remove (FollowsFile inputs) old.inputs.files old.marks view k (same_views _ (λ es m. m) (λ es line hits x. x) _ h)),
       )
 
   left_spliced : (k start count : ℕ) (come : List Text) (mark : Marked) → k < length old.inputs.files → start + count ≤ length (file_at old.inputs.files k).lines → Splices start count (length come) (mark_at old.marks k) mark →
@@ -167,7 +165,7 @@ module _ (old : Watched) (fit : AreFit old.inputs.files old.marks) where
       let none = file_at [] k in
       let new_file = record file { lines = splice file.lines start (start + count) come } in (
         fit_spliced old.inputs.files old.marks fit k start count come inside within mark s,
-        (λ view h. three-set (FollowsFile inputs) old.inputs.files old.marks view k new_file none mark (whole_mark 0) (λ hits f. spliced_file inputs file (mark_at old.marks k) mark hits come start count within s f) (same_views inputs (λ es m. m) (λ es line hits x. x) view h)),
+        (λ view h. three-set (FollowsFile inputs) old.inputs.files old.marks view k new_file none mark (whole_mark 0) (λ hits f. spliced_file inputs file (mark_at old.marks k) mark hits come start count within s f) (same_views _ (λ es m. m) (λ es line hits x. x) _ h)),
       )
 
   left_lost : (inputs : Inputs) → inputs.files ≡ old.inputs.files → IsLeft old (record { inputs = inputs; marks = map lost old.marks; states = old.states }) (λ view. view)
@@ -183,10 +181,10 @@ module _ (old : Watched) (fit : AreFit old.inputs.files old.marks) where
   left_option LineNumber on = (fit, same_views (record old.inputs { options = with_option LineNumber on old.inputs.options }) (λ es m. m) (λ es line hits x. x))
   left_option Quiet on = (fit, same_views (record old.inputs { options = with_option Quiet on old.inputs.options }) (λ es m. m) (λ es line hits x. x))
   left_option NoMessages on = (fit, same_views (record old.inputs { options = with_option NoMessages on old.inputs.options }) (λ es m. m) (λ es line hits x. x))
-  left_option IgnoreCase on = left_lost (record old.inputs { options = with_option IgnoreCase on old.inputs.options }) refl
-  left_option OnlyMatching on = left_lost (record old.inputs { options = with_option OnlyMatching on old.inputs.options }) refl
-  left_option InvertMatch on = left_lost (record old.inputs { options = with_option InvertMatch on old.inputs.options }) refl
-  left_option LineRegexp on = left_lost (record old.inputs { options = with_option LineRegexp on old.inputs.options }) refl
+  left_option IgnoreCase on = left_lost _ refl
+  left_option OnlyMatching on = left_lost _ refl
+  left_option InvertMatch on = left_lost _ refl
+  left_option LineRegexp on = left_lost _ refl
 
   -- nothing is another
   left_same : IsLeft old old (λ view. view)

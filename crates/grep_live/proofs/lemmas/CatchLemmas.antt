@@ -24,7 +24,7 @@ module _ (es : List Expression) (options : Options) where
   pub come_within : (front kept past : ℕ) (lines : List Text) (come : List Hit) → HitsFrom es options front (slice_range lines kept past) come → AreWithin front (front + (past - kept)) come
   come_within front kept past lines come h =
       let put = slice_range lines kept past in
-      within_wider front front (front + length put) (front + (past - kept)) come (omega arith) (omega (arith, length-take (past - kept) (drop kept lines))) (by_within (Selected es options) (ListedParts es options) front put come h)
+      within_wider _ _ _ _ _ (omega arith) (omega (arith, length-take (past - kept) (drop kept lines))) (by_within (Selected es options) (ListedParts es options) _ _ _ h)
 
   -- there are changes of a file
   some_changes : (first : ℕ) (lines : List Text) (stretches : List Stretch) → (changes : List Change) × AreChanges es options first lines stretches changes
@@ -45,7 +45,7 @@ module _ (es : List Expression) (options : Options) where
           by_place : (p < n) ⊎ (n ≤ p) → HitOf es options (p, get_or lines p []) (hits_at p hits)
           by_place (inl h) = s.done p h
           by_place (inr h) =
-              subst (HitOf es options (p, get_or lines p [])) (at_same p hits) (s.kept (p - n) (p - n) p p (omega arith) (omega arith) (inl (omega arith, refl)) (omega (arith, l, s.fits.3, s.fits.4.3)))
+              rw (at_same p hits) at (s.kept (p - n) (p - n) p p (omega arith) (omega arith) (inl (omega arith, refl)) (omega (arith, s.fits.3, s.fits.4.3)))
 
       module _ (change : Change) (is_front : change.front ≡ n + stretch.kept) (is_removed : change.removed ≡ stretch.removed) (is_added : change.added ≡ stretch.added)
           (are_hits : HitsFrom es options (n + stretch.kept) (slice_range (drop n lines) stretch.kept (stretch.kept + stretch.added)) change.come) where
@@ -53,24 +53,24 @@ module _ (es : List Expression) (options : Options) where
         Next hits = CaughtUp es options lines (n + (stretch.kept + stretch.added)) (many - change.removed + change.added) more hits
 
         next_fits : (old : ℕ) × (new : ℕ) × (many - change.removed + change.added ≡ n + (stretch.kept + stretch.added) + old) × (length lines ≡ n + (stretch.kept + stretch.added) + new) × Fits old new more
-        next_fits = (s.fits.4.0, s.fits.4.1, omega (arith, is_removed, is_added, s.fits.2, s.fits.4.2), omega (arith, s.fits.3, s.fits.4.3), s.fits.4.4)
+        next_fits = (s.fits.4.0, s.fits.4.1, omega (arith, s.fits.2, s.fits.4.2), omega (arith, s.fits.3, s.fits.4.3), s.fits.4.4)
 
         next_idle : change.removed ≡ 0 → change.added ≡ 0 → Next hits
         next_idle r a =
-            let same : many ≡ many - change.removed + change.added = omega (arith, r, a) in
+            let same : many ≡ many - change.removed + change.added = omega arith in
             record {
-              in_order = subst (λ (m : ℕ). AreWithin 0 m hits) same s.in_order;
+              in_order = rw same at s.in_order;
               fits = next_fits;
-              done = (λ p l. up_to p (omega (arith, l, a, is_added)));
+              done = (λ p l. up_to p (omega arith));
               kept = (λ old new p q e f keeps inside.
-                  s.kept (stretch.kept + stretch.removed + old) (stretch.kept + stretch.added + new) p q (omega (arith, e, r, a, is_removed, is_added)) (omega (arith, f)) (inr (old, new, refl, refl, keeps)) inside);
+                  s.kept (stretch.kept + stretch.removed + old) (stretch.kept + stretch.added + new) p q (omega arith) (omega arith) (inr (old, new, refl, refl, keeps)) inside);
             }
 
         between : AreWithin change.front (change.front + change.added) change.come
         between =
-            let far : (n + stretch.kept) + ((stretch.kept + stretch.added) - stretch.kept) ≤ change.front + change.added = omega (arith, is_front, is_added) in
-            within_wider change.front (n + stretch.kept) ((n + stretch.kept) + ((stretch.kept + stretch.added) - stretch.kept)) (change.front + change.added) change.come (omega (arith, is_front)) far
-            (come_within (n + stretch.kept) stretch.kept (stretch.kept + stretch.added) (drop n lines) change.come are_hits)
+            let far : (n + stretch.kept) + ((stretch.kept + stretch.added) - stretch.kept) ≤ change.front + change.added = omega arith in
+            within_wider _ _ _ _ _ (omega arith) far
+            (come_within _ _ _ _ _ are_hits)
 
         -- the lines of the stretch
         among : (p : ℕ) → n + stretch.kept ≤ p → p < n + stretch.kept + stretch.added → HitOf es options (p, get_or lines p []) (hits_at p change.come)
@@ -80,10 +80,10 @@ module _ (es : List Expression) (options : Options) where
             let rest = drop stretch.kept (drop n lines) in
             let there : n + (stretch.kept + i) ≡ p = omega arith in
             let long : many ≤ length rest = omega (arith, s.fits.3, s.fits.4.3, length-drop stretch.kept (drop n lines), length-drop n lines) in
-            let inside : i < length (take many rest) = omega (arith, l, h, length-take-le many rest long) in
-            let text : get_or (take many rest) i [] ≡ get_or lines p [] =
-            get_or-take many rest i [] (omega (arith, l, h)) ∙ get_or-drop stretch.kept (drop n lines) i [] ∙ get_or-drop n lines (stretch.kept + i) [] ∙ ap (λ m. get_or lines m []) there in
-            subst (λ (t : Text). HitOf es options (p, t) (hits_at p change.come)) text (line_hits (Selected es options) (ListedParts es options) (n + stretch.kept) (take many rest) change.come are_hits i p (omega arith) inside)
+            let inside : i < length (take many rest) = omega (arith, length-take-le many rest long) in
+            let text =
+            get_or-take many rest i [] (omega arith) ∙ get_or-drop stretch.kept (drop n lines) i [] ∙ get_or-drop n lines (stretch.kept + i) [] ∙ ap (λ m. get_or lines m []) there in
+            rw text at (line_hits (Selected es options) (ListedParts es options) _ _ _ are_hits i p (omega arith) inside)
 
         abbrev spliced : List Hit
         spliced = spliced_hits change.front change.removed change.added change.come hits
@@ -93,19 +93,19 @@ module _ (es : List Expression) (options : Options) where
           where
             by_place : (p < change.front) ⊎ (change.front ≤ p) → HitOf es options (p, get_or lines p []) (hits_at p spliced)
             by_place (inl h) =
-                subst (HitOf es options (p, get_or lines p [])) (sym (spliced_before change.front change.removed change.added many change.come hits s.in_order between p h)) (up_to p (omega (arith, h, is_front)))
+                rw (spliced_before _ _ _ many _ _ s.in_order between p h) (up_to p (omega arith))
             by_place (inr h) =
-                subst (HitOf es options (p, get_or lines p [])) (sym (spliced_among change.front change.removed change.added many change.come hits s.in_order between p h (omega (arith, l, is_front, is_added)))) (among p (omega (arith, h, is_front)) (omega (arith, l)))
+                rw (spliced_among _ _ _ many _ _ s.in_order between p h (omega arith)) (among p (omega arith) (omega arith))
 
         next_busy : Next spliced
         next_busy = record {
-          in_order = spliced_within change.front change.removed change.added many change.come hits s.in_order between (omega (arith, is_front, is_removed, s.fits.2, s.fits.4.2));
+          in_order = spliced_within change.front change.removed change.added many change.come hits s.in_order between (omega (arith, s.fits.2, s.fits.4.2));
           fits = next_fits;
           done = done_busy;
           kept = (λ old new p q e f keeps inside.
               let was = n + (stretch.kept + stretch.removed + old) in
-              subst (HitOf es options (q, get_or lines q [])) (sym (spliced_after change.front change.removed change.added many change.come hits s.in_order between p was q (omega (arith, e, is_front, is_added)) (omega (arith, e, is_front, is_removed, is_added))))
-              (s.kept (stretch.kept + stretch.removed + old) (stretch.kept + stretch.added + new) was q refl (omega (arith, f)) (inr (old, new, refl, refl, keeps)) inside));
+              rw (spliced_after change.front change.removed change.added many change.come hits s.in_order between p was q (omega arith) (omega arith))
+              (s.kept (stretch.kept + stretch.removed + old) (stretch.kept + stretch.added + new) was q refl (omega arith) (inr (old, new, refl, refl, keeps)) inside));
         }
 
         next : Next (after change hits)
@@ -119,21 +119,21 @@ module _ (es : List Expression) (options : Options) where
     at_end : (n many : ℕ) (hits : List Hit) → CaughtUp es options lines n many [] hits → Hits es options lines hits
     at_end n many hits s =
         let whole : many ≡ 0 + length lines = omega (arith, s.fits.2, s.fits.3, s.fits.4) in
-        hits_by_line (Selected es options) (ListedParts es options) 0 lines hits (subst (λ (m : ℕ). AreWithin 0 m hits) whole s.in_order)
+        hits_by_line (Selected es options) (ListedParts es options) 0 lines hits (rw whole at s.in_order)
         (λ i p e l.
-        let same : p ≡ i = omega (arith, e) in
+        let same : p ≡ i = omega arith in
         subst (λ (m : ℕ). HitOf es options (p, get_or lines m []) (hits_at p hits)) same (by_place p (omega (arith, same, l)) (cases_lt p n)))
       where
         by_place : (p : ℕ) → p < length lines → (p < n) ⊎ (n ≤ p) → HitOf es options (p, get_or lines p []) (hits_at p hits)
         by_place p l (inl h) = s.done p h
-        by_place p l (inr h) = subst (HitOf es options (p, get_or lines p [])) (at_same p hits) (s.kept (p - n) (p - n) p p (omega arith) (omega arith) refl l)
+        by_place p l (inr h) = rw (at_same p hits) at (s.kept (p - n) (p - n) p p (omega arith) (omega arith) refl l)
 
     catch_up : (stretches : List Stretch) (changes : List Change) (n many : ℕ) (hits : List Hit) → CaughtUp es options lines n many stretches hits → AreChanges es options n (drop n lines) stretches changes → Hits es options lines (after_each changes hits)
-    catch_up [] changes n many hits s c = subst (λ (l : List Change). Hits es options lines (after_each l hits)) (sym c) (at_end n many hits s)
+    catch_up [] changes n many hits s c = rw c (at_end n many hits s)
     catch_up (stretch ∷ more) [] n many hits s c = absurd c
     catch_up (stretch ∷ more) (change ∷ changes) n many hits s (is_front, is_removed, is_added, are_hits, rest) =
         let past = stretch.kept + stretch.added in
-        let later : AreChanges es options (n + past) (drop (n + past) lines) more changes = subst (λ (l : List Text). AreChanges es options (n + past) l more changes) (drop-drop past n lines) rest in
+        let later : AreChanges es options (n + past) (drop (n + past) lines) more changes = rw (drop-drop past n lines) at rest in
         catch_up more changes (n + past) (many - change.removed + change.added) (after change hits) (next n many stretch more hits s change is_front is_removed is_added are_hits) later
 
 module _ (es : List Expression) (inputs : Inputs) where

@@ -1,5 +1,5 @@
 -- What is counted and written of the lines of a file, by the hits that are left.
-use Rattle.grep_live.proofs.Prelude.{Bool, ◌≡◌, ℕ, ◌+◌, ◌-◌, ◌<◌, ◌≤◌, true, false, if◌then◌else◌, List, [], ◌∷◌, ◌++◌, length, map, drop, get_or, Option, ap, subst, ◌∙◌, arith, nat_eq, ◌&&◌, flat_map, take, Text, Expression, Inputs, file_at, written, output_line, GoesOut, StopsWithin, Marked, Stretch, Fits, IsFit, AllThree, Hit, HitsFrom, Change, AreChanges, ChangesFile, hit_row, change_row, change_rows, changes_rows, Mean, HitsBetween, IsFirst, drop_all, drop-drop}
+use Rattle.grep_live.proofs.Prelude.{Bool, ◌≡◌, ℕ, ◌+◌, ◌-◌, ◌<◌, ◌≤◌, true, false, List, [], ◌∷◌, ◌++◌, length, map, drop, get_or, Option, ap, subst, ◌∙◌, arith, nat_eq, ◌&&◌, flat_map, take, Text, Expression, Inputs, file_at, written, output_line, GoesOut, StopsWithin, Marked, Stretch, Fits, IsFit, AllThree, Hit, HitsFrom, Change, AreChanges, ChangesFile, hit_row, change_row, change_rows, changes_rows, Mean, HitsBetween, IsFirst, drop_all, drop-drop}
 use Rattle.grep_session.proofs.lemmas.Writing.{drop-next, WrittenUpTo, none_written, written_on, all_written, broken_off, one_went, one_stopped}
 
 module _ (texts : Bool) (inputs : Inputs) (k from to : ℕ) {W : Type 0} (contents : W → Option Text) (failures : W → ℕ) (margin : Text) where
@@ -21,27 +21,27 @@ module _ (texts : Bool) (inputs : Inputs) (k from to : ℕ) {W : Type 0} (conten
       listed_one went = record {
         left = f.rest;
         are_left = f.are_rest;
-        wrote = written_on contents failures margin old now new (map (hit_row texts) all) (map (hit_row texts) s.left) (hit_row texts (record { place = at; text = text; parts = parts }) ∷ []) (map (hit_row texts) f.rest) (ap (map (hit_row texts)) f.joined) s.wrote
+        wrote = written_on contents failures margin old now new (map (hit_row texts) all) (map (hit_row texts) s.left) (hit_row texts (record { place = at; text = text; parts = parts }) ∷ []) (map (hit_row texts) f.rest) (rw f.joined) s.wrote
             (one_went contents failures margin now new (hit_row texts (record { place = at; text = text; parts = parts })) went);
       }
 
       pub listed_stops : StopsWithin contents failures now new (output_line margin (hit_row texts (record { place = at; text = text; parts = parts }))) → StopsWithin contents failures old new (written margin (map (hit_row texts) all))
       listed_stops stops =
-          broken_off contents failures margin old now new (map (hit_row texts) all) (map (hit_row texts) s.left) (hit_row texts (record { place = at; text = text; parts = parts }) ∷ []) (map (hit_row texts) f.rest) (ap (map (hit_row texts)) f.joined) s.wrote
+          broken_off contents failures margin old now new (map (hit_row texts) all) (map (hit_row texts) s.left) (hit_row texts (record { place = at; text = text; parts = parts }) ∷ []) (map (hit_row texts) f.rest) (rw f.joined) s.wrote
           (one_stopped contents failures margin now new (hit_row texts (record { place = at; text = text; parts = parts })) stops)
 
     pub listed_all : s.left ≡ [] → GoesOut contents failures old now (written margin (map (hit_row texts) all))
-    listed_all none = all_written contents failures margin old now (map (hit_row texts) all) (map (hit_row texts) s.left) (ap (map (hit_row texts)) none) s.wrote
+    listed_all none = all_written contents failures margin old now (map (hit_row texts) all) (map (hit_row texts) s.left) (rw none) s.wrote
 
 -- ---- one stretch
 
 -- a change of nothing has no rows
 pub rows_idle : (texts : Bool) (k front removed added : ℕ) (come : List Hit) → (nat_eq removed 0 && nat_eq added 0) ≡ true → change_rows texts k (record { front = front; removed = removed; added = added; come = come }) ≡ []
-rows_idle texts k front removed added come idle = ap (λ b. if b then [] else change_row k (record { front = front; removed = removed; added = added; come = come }) ∷ map (hit_row texts) come) idle
+rows_idle texts k front removed added come idle = rw idle
 
 pub rows_busy : (texts : Bool) (k front removed added : ℕ) (come : List Hit) → (nat_eq removed 0 && nat_eq added 0) ≡ false →
     change_rows texts k (record { front = front; removed = removed; added = added; come = come }) ≡ change_row k (record { front = front; removed = removed; added = added; come = come }) ∷ map (hit_row texts) come
-rows_busy texts k front removed added come busy = ap (λ b. if b then [] else change_row k (record { front = front; removed = removed; added = added; come = come }) ∷ map (hit_row texts) come) busy
+rows_busy texts k front removed added come busy = rw busy
 
 -- ---- one file
 
@@ -62,18 +62,18 @@ pub record NextStretch (lines place to : ℕ) (stretch : Stretch) (more : List S
 pub stretches_begin : (inputs : Inputs) (k to : ℕ) (mark : Marked) → to ≡ length (file_at inputs.files k).lines → IsFit (file_at inputs.files k) mark → StretchesLeft (length (file_at inputs.files k).lines) 0 to mark.stretches
 stretches_begin inputs k to mark e fit =
     let same : mark.lines ≡ length (file_at inputs.files k).lines - 0 = omega (arith, fit.0) in
-    record { end = e; place_within = omega arith; old = mark.known; fit = subst (λ (n : ℕ). Fits mark.known n mark.stretches) same fit.1 }
+    record { end = e; place_within = omega arith; old = mark.known; fit = rw same at fit.1 }
 
 pub next_stretch : (lines place to : ℕ) (stretches : List Stretch) (stretch : Stretch) (more : List Stretch) → stretches ≡ stretch ∷ more → StretchesLeft lines place to stretches → NextStretch lines place to stretch more
 next_stretch lines place to stretches stretch more is s =
-    let fit : Fits s.old (lines - place) (stretch ∷ more) = subst (Fits s.old (lines - place)) is s.fit in
+    let fit = rw is at s.fit in
     let within : place + stretch.kept + stretch.added ≤ lines = omega (arith, fit.3, s.place_within) in
     let same : fit.1 ≡ lines - (place + stretch.kept + stretch.added) = omega (arith, fit.3, s.place_within) in
     record {
       within = within;
       fits_from = omega (arith, within, s.end);
       fits_to = omega (arith, within, s.end);
-      left = record { end = s.end; place_within = within; old = fit.0; fit = subst (λ (n : ℕ). Fits fit.0 n more) same fit.4 };
+      left = record { end = s.end; place_within = within; old = fit.0; fit = rw same at fit.4 };
     }
 
 -- the stretch of a turn, and those after it
@@ -101,8 +101,8 @@ module _ (texts : Bool) (inputs : Inputs) (k : ℕ) {W : Type 0} (contents : W �
 
   pub changed_all : (es : List Expression) (a b : W) (place : ℕ) (stretches : List Stretch) (all : List Change) → stretches ≡ [] → ChangedUpTo a b es place stretches all → GoesOut contents failures a b (written margin (rows_of all))
   changed_all es a b place stretches all none s =
-      let is : s.left ≡ [] = subst (λ (l : List Stretch). AreChanges es inputs.options place (lines_from place) l s.left) none s.are_left in
-      all_written contents failures margin a b (rows_of all) (rows_of s.left) (ap rows_of is) s.wrote
+      let is = rw none at s.are_left in
+      all_written contents failures margin a b (rows_of all) (rows_of s.left) (rw is) s.wrote
 
   -- the change of the next stretch, and those after it
   record NextChange (es : List Expression) (place : ℕ) (stretch : Stretch) (more : List Stretch) (changes : List Change) : Type 0 where
@@ -139,13 +139,13 @@ module _ (texts : Bool) (inputs : Inputs) (k : ℕ) {W : Type 0} (contents : W �
 
     pub changed_on : (stretches : List Stretch) → stretches ≡ stretch ∷ more → ChangedUpTo a b es place stretches all → Wrote (λ rows. GoesOut contents failures b c (written margin rows)) → ChangedUpTo a c es (place + stretch.kept + stretch.added) more all
     changed_on stretches is s wrote =
-        let next = next_change es place stretch more s.left (subst (λ (l : List Stretch). AreChanges es inputs.options place (lines_from place) l s.left) is s.are_left) in
+        let next = next_change es place stretch more s.left (rw is at s.are_left) in
         let here = change_rows texts k (record { front = place + stretch.kept; removed = stretch.removed; added = (place + stretch.kept + stretch.added) - (place + stretch.kept); come = next.come }) in
         record { left = next.rest; are_left = next.are_rest; wrote = written_on contents failures margin a b c (rows_of all) (rows_of s.left) here (rows_of next.rest) (ap rows_of next.joined) s.wrote (wrote next.come next.are_hits) }
 
     pub changed_stops : (stretches : List Stretch) → stretches ≡ stretch ∷ more → ChangedUpTo a b es place stretches all → Wrote (λ rows. StopsWithin contents failures b c (written margin rows)) → StopsWithin contents failures a c (written margin (rows_of all))
     changed_stops stretches is s wrote =
-        let next = next_change es place stretch more s.left (subst (λ (l : List Stretch). AreChanges es inputs.options place (lines_from place) l s.left) is s.are_left) in
+        let next = next_change es place stretch more s.left (rw is at s.are_left) in
         let here = change_rows texts k (record { front = place + stretch.kept; removed = stretch.removed; added = (place + stretch.kept + stretch.added) - (place + stretch.kept); come = next.come }) in
         broken_off contents failures margin a b c (rows_of all) (rows_of s.left) here (rows_of next.rest) (ap rows_of next.joined) s.wrote (wrote next.come next.are_hits)
 
@@ -153,7 +153,7 @@ module _ (texts : Bool) (inputs : Inputs) (k : ℕ) {W : Type 0} (contents : W �
 
 -- the rows of the changes from one on are those of that one and of those after it
 pub next_rows : (texts : Bool) (k : ℕ) (changes : List (List Change)) → k < length changes → changes_rows texts k (drop k changes) ≡ flat_map (change_rows texts k) (get_or changes k []) ++ changes_rows texts (k + 1) (drop (k + 1) changes)
-next_rows texts k changes h = ap (changes_rows texts k) (drop-next changes k [] h)
+next_rows texts k changes h = rw (drop-next changes k [] h)
 
 module _ (texts : Bool) (inputs : Inputs) (marks : List Marked) {W : Type 0} (contents : W → Option Text) (failures : W → ℕ) (margin : Text) where
   -- the changes of the first files were written
@@ -163,12 +163,12 @@ module _ (texts : Bool) (inputs : Inputs) (marks : List Marked) {W : Type 0} (co
   pub reported_on : (es : List Expression) (changes : List (List Change)) (a b c : W) (k : ℕ) → k < length changes → WrittenUpTo contents failures margin a b (changes_rows texts 0 changes) (changes_rows texts k (drop k changes)) →
       GoesOut contents failures b c (written margin (flat_map (change_rows texts k) (get_or changes k []))) → WrittenUpTo contents failures margin a c (changes_rows texts 0 changes) (changes_rows texts (k + 1) (drop (k + 1) changes))
   reported_on es changes a b c k h s went =
-      written_on contents failures margin a b c (changes_rows texts 0 changes) (changes_rows texts k (drop k changes)) (flat_map (change_rows texts k) (get_or changes k [])) (changes_rows texts (k + 1) (drop (k + 1) changes)) (next_rows texts k changes h) s went
+      written_on contents failures margin a b c (changes_rows texts 0 changes) (changes_rows texts k (drop k changes)) (flat_map (change_rows texts k) (get_or changes k [])) (changes_rows texts (k + 1) (drop (k + 1) changes)) (next_rows _ k _ h) s went
 
   pub reported_stops : (es : List Expression) (changes : List (List Change)) (a b c : W) (k : ℕ) → k < length changes → WrittenUpTo contents failures margin a b (changes_rows texts 0 changes) (changes_rows texts k (drop k changes)) →
       StopsWithin contents failures b c (written margin (flat_map (change_rows texts k) (get_or changes k []))) → StopsWithin contents failures a c (written margin (changes_rows texts 0 changes))
   reported_stops es changes a b c k h s stopped =
-      broken_off contents failures margin a b c (changes_rows texts 0 changes) (changes_rows texts k (drop k changes)) (flat_map (change_rows texts k) (get_or changes k [])) (changes_rows texts (k + 1) (drop (k + 1) changes)) (next_rows texts k changes h) s stopped
+      broken_off contents failures margin a b c (changes_rows texts 0 changes) (changes_rows texts k (drop k changes)) (flat_map (change_rows texts k) (get_or changes k [])) (changes_rows texts (k + 1) (drop (k + 1) changes)) (next_rows _ k _ h) s stopped
 
   pub reported_all : (es : List Expression) (changes : List (List Change)) (a b : W) (k : ℕ) → length changes ≤ k → WrittenUpTo contents failures margin a b (changes_rows texts 0 changes) (changes_rows texts k (drop k changes)) → GoesOut contents failures a b (written margin (changes_rows texts 0 changes))
-  reported_all es changes a b k h s = all_written contents failures margin a b (changes_rows texts 0 changes) (changes_rows texts k (drop k changes)) (ap (changes_rows texts k) (drop_all k changes h)) s
+  reported_all es changes a b k h s = all_written contents failures margin a b (changes_rows texts 0 changes) (changes_rows texts k (drop k changes)) (rw (drop_all k changes h)) s

@@ -4,23 +4,23 @@ use Rattle.grep_live.proofs.Prelude.{◌≡◌, ℕ, zero, suc, ◌+◌, ◌-◌
 -- ---- hits by their places
 
 before_yes : (b : ℕ) (hit : Hit) (more : List Hit) → hit.place < b → hits_before b (hit ∷ more) ≡ hit ∷ hits_before b more
-before_yes b hit more h = ap (λ t. cond t (hit ∷ hits_before b more) (hits_before b more)) (lt-ltb hit.place b h)
+before_yes b hit more h = rw (lt-ltb hit.place b h)
 
 before_no : (b : ℕ) (hit : Hit) (more : List Hit) → b ≤ hit.place → hits_before b (hit ∷ more) ≡ hits_before b more
-before_no b hit more h = ap (λ t. cond t (hit ∷ hits_before b more) (hits_before b more)) (le-ltb hit.place b h)
+before_no b hit more h = rw (le-ltb hit.place b h)
 
 -- the hits from a place on, not moved
 abbrev from_place : ℕ → List Hit → List Hit
 from_place from hits = filter (λ hit. nat_le from hit.place) hits
 
 from_yes : (b : ℕ) (hit : Hit) (more : List Hit) → b ≤ hit.place → from_place b (hit ∷ more) ≡ hit ∷ from_place b more
-from_yes b hit more h = ap (λ t. cond t (hit ∷ from_place b more) (from_place b more)) (le-leb b hit.place h)
+from_yes b hit more h = rw (le-leb b hit.place h)
 
 lt-leb : (a b : ℕ) → b < a → nat_le a b ≡ false
 lt-leb a b h = grind (arith, nat_tests)
 
 from_no : (b : ℕ) (hit : Hit) (more : List Hit) → hit.place < b → from_place b (hit ∷ more) ≡ from_place b more
-from_no b hit more h = ap (λ t. cond t (hit ∷ from_place b more) (from_place b more)) (lt-leb b hit.place h)
+from_no b hit more h = rw (lt-leb b _ h)
 
 -- ---- hits between two places
 
@@ -34,7 +34,7 @@ from_all a b c (hit ∷ more) w h = from_yes b hit more (omega (arith, w.0)) ∙
 
 from_none : (a b c : ℕ) (hits : List Hit) → AreWithin a c hits → c ≤ b → from_place b hits ≡ []
 from_none a b c [] w h = refl
-from_none a b c (hit ∷ more) w h = from_no b hit more (omega (arith, w.1)) ∙ from_none (hit.place + 1) b c more w.2 h
+from_none a b c (hit ∷ more) w h = from_no b _ _ (omega (arith, w.1)) ∙ from_none (hit.place + 1) b c more w.2 h
 
 -- joined, the ones after the others
 within_joined : (a b c : ℕ) (xs ys : List Hit) → AreWithin a b xs → AreWithin b c ys → a ≤ b → b ≤ c → AreWithin a c (xs ++ ys)
@@ -47,8 +47,8 @@ before_within a b c [] w = tt
 before_within a b c (hit ∷ more) w = by_place (before_within (hit.place + 1) b c more w.2) (cases_lt hit.place b)
   where
     by_place : AreWithin (hit.place + 1) b (hits_before b more) → (hit.place < b) ⊎ (b ≤ hit.place) → AreWithin a b (hits_before b (hit ∷ more))
-    by_place rest (inl h) = subst (AreWithin a b) (sym (before_yes b hit more h)) (w.0, h, rest)
-    by_place rest (inr h) = subst (AreWithin a b) (sym (before_no b hit more h)) (within_wider a (hit.place + 1) b b (hits_before b more) (omega (arith, w.0)) (omega arith) rest)
+    by_place rest (inl h) = rw (before_yes b hit more h) (w.0, h, rest)
+    by_place rest (inr h) = rw (before_no b hit more h) (within_wider a (hit.place + 1) b b (hits_before b more) (omega (arith, w.0)) (omega arith) rest)
 
 -- the hits from a place on, in order
 from_within : (a b c : ℕ) (hits : List Hit) → AreWithin a c hits → AreWithin b c (from_place b hits)
@@ -56,23 +56,23 @@ from_within a b c [] w = tt
 from_within a b c (hit ∷ more) w = by_place (from_within (hit.place + 1) b c more w.2) (cases_lt hit.place b)
   where
     by_place : AreWithin b c (from_place b more) → (hit.place < b) ⊎ (b ≤ hit.place) → AreWithin b c (from_place b (hit ∷ more))
-    by_place rest (inl h) = subst (AreWithin b c) (sym (from_no b hit more h)) rest
+    by_place rest (inl h) = rw (from_no b hit more h) rest
     by_place rest (inr h) =
         let all : from_place b more ≡ more = from_all (hit.place + 1) b c more w.2 (omega arith) in
-        subst (AreWithin b c) (sym (from_yes b hit more h ∙ ap (λ l. hit ∷ l) all)) (h, w.1, w.2)
+        rw (from_yes b hit more h ∙ ap (λ l. hit ∷ l) all) (h, w.1, w.2)
 
 -- moved, in order
 moved_within : (g t a c : ℕ) (hits : List Hit) → g ≤ a → AreWithin a c hits → AreWithin (t + (a - g)) (t + (c - g)) (map (moved g t) hits)
 moved_within g t a c [] l w = tt
 moved_within g t a c (hit ∷ more) l w =
     let next : t + ((hit.place + 1) - g) ≡ (t + (hit.place - g)) + 1 = omega (arith, w.0) in
-    (omega (arith, w.0), omega (arith, w.0, w.1), subst (λ (n : ℕ). AreWithin n (t + (c - g)) (map (moved g t) more)) next (moved_within g t (hit.place + 1) c more (omega (arith, w.0)) w.2))
+    (omega (arith, w.0), omega (arith, w.0, w.1), rw next at (moved_within g t (hit.place + 1) c more (omega (arith, w.0)) w.2))
 
 -- the hits from a place on, where the line there moves, in order
 from_moved_within : (g t a c : ℕ) (hits : List Hit) → AreWithin a c hits → AreWithin t (t + (c - g)) (hits_from g t hits)
 from_moved_within g t a c hits w =
     let same : t + (g - g) ≡ t = omega arith in
-    subst (λ (n : ℕ). AreWithin n (t + (c - g)) (hits_from g t hits)) same (moved_within g t g c (from_place g hits) (omega arith) (from_within a g c hits w))
+    rw same at (moved_within g t g c _ (omega arith) (from_within a g c hits w))
 
 -- ---- the hits at a place
 
@@ -93,20 +93,20 @@ other_place a b (inl h) = grind (arith, nat_tests)
 other_place a b (inr h) = grind (arith, nat_tests)
 
 at_yes : (p : ℕ) (hit : Hit) (more : List Hit) → hit.place ≡ p → hits_at p (hit ∷ more) ≡ hit ∷ hits_at p more
-at_yes p hit more h = ap (λ t. cond t (hit ∷ hits_at p more) (hits_at p more)) (same_place hit.place p h)
+at_yes p hit more h = rw (same_place _ p h)
 
 at_no : (p : ℕ) (hit : Hit) (more : List Hit) → (hit.place < p) ⊎ (p < hit.place) → hits_at p (hit ∷ more) ≡ hits_at p more
-at_no p hit more h = ap (λ t. cond t (hit ∷ hits_at p more) (hits_at p more)) (other_place hit.place p h)
+at_no p hit more h = rw (other_place _ p h)
 
 -- there are none before the first
 pub at_low : (p a c : ℕ) (hits : List Hit) → AreWithin a c hits → p < a → hits_at p hits ≡ []
 at_low p a c [] w h = refl
-at_low p a c (hit ∷ more) w h = at_no p hit more (inr (omega (arith, w.0))) ∙ at_low p (hit.place + 1) c more w.2 (omega (arith, w.0))
+at_low p a c (hit ∷ more) w h = at_no p _ _ (inr (omega (arith, w.0))) ∙ at_low p (hit.place + 1) c more w.2 (omega (arith, w.0))
 
 -- there are none after the last
 pub at_high : (p a c : ℕ) (hits : List Hit) → AreWithin a c hits → c ≤ p → hits_at p hits ≡ []
 at_high p a c [] w h = refl
-at_high p a c (hit ∷ more) w h = at_no p hit more (inl (omega (arith, w.1))) ∙ at_high p (hit.place + 1) c more w.2 h
+at_high p a c (hit ∷ more) w h = at_no p _ _ (inl (omega (arith, w.1))) ∙ at_high p (hit.place + 1) c more w.2 h
 
 at_before : (p f : ℕ) (hits : List Hit) → p < f → hits_at p (hits_before f hits) ≡ hits_at p hits
 at_before p f [] h = refl
@@ -130,9 +130,9 @@ at_moved_from g t x (hit ∷ more) = by_place (at_moved_from g t x more) (cases_
   where
     by_way : hits_at (t + x) (hits_from g t more) ≡ map (moved g t) (hits_at (g + x) more) → g ≤ hit.place → (hit.place ≡ g + x) ⊎ ((hit.place < g + x) ⊎ (g + x < hit.place)) →
         hits_at (t + x) (moved g t hit ∷ hits_from g t more) ≡ map (moved g t) (hits_at (g + x) (hit ∷ more))
-    by_way rest q (inl e) = at_yes (t + x) (moved g t hit) (hits_from g t more) (omega (arith, e)) ∙ ap (λ l. moved g t hit ∷ l) rest ∙ ap (map (moved g t)) (sym (at_yes (g + x) hit more e))
-    by_way rest q (inr (inl e)) = at_no (t + x) (moved g t hit) (hits_from g t more) (inl (omega (arith, e))) ∙ rest ∙ ap (map (moved g t)) (sym (at_no (g + x) hit more (inl e)))
-    by_way rest q (inr (inr e)) = at_no (t + x) (moved g t hit) (hits_from g t more) (inr (omega (arith, e))) ∙ rest ∙ ap (map (moved g t)) (sym (at_no (g + x) hit more (inr e)))
+    by_way rest q (inl e) = at_yes (t + x) (moved g t hit) (hits_from g t more) (omega arith) ∙ ap (λ l. moved g t hit ∷ l) rest ∙ ap (map (moved g t)) (sym (at_yes (g + x) hit more e))
+    by_way rest q (inr (inl e)) = at_no (t + x) (moved g t hit) (hits_from g t more) (inl (omega arith)) ∙ rest ∙ ap (map (moved g t)) (sym (at_no (g + x) hit more (inl e)))
+    by_way rest q (inr (inr e)) = at_no (t + x) (moved g t hit) (hits_from g t more) (inr (omega arith)) ∙ rest ∙ ap (map (moved g t)) (sym (at_no (g + x) hit more (inr e)))
 
     by_place : hits_at (t + x) (hits_from g t more) ≡ map (moved g t) (hits_at (g + x) more) → (hit.place < g) ⊎ (g ≤ hit.place) → hits_at (t + x) (hits_from g t (hit ∷ more)) ≡ map (moved g t) (hits_at (g + x) (hit ∷ more))
     by_place rest (inl q) = ap (λ l. hits_at (t + x) (map (moved g t) l)) (from_no g hit more q) ∙ rest ∙ ap (map (moved g t)) (sym (at_no (g + x) hit more (inl (omega arith))))
@@ -181,7 +181,7 @@ at_moved p f t b q (hit ∷ more) e = by_place (at_moved p f t b q more e) (thre
     by_place : map (moved b q) (map (moved f t) (hits_at p more)) ≡ map (moved p q) (hits_at p more) → (hit.place ≡ p) ⊎ ((hit.place < p) ⊎ (p < hit.place)) →
         map (moved b q) (map (moved f t) (hits_at p (hit ∷ more))) ≡ map (moved p q) (hits_at p (hit ∷ more))
     by_place rest (inl h) =
-        let same : q + ((t + (hit.place - f)) - b) ≡ q + (hit.place - p) = omega (arith, h, e) in
+        let same : q + ((t + (hit.place - f)) - b) ≡ q + (hit.place - p) = omega arith in
         ap (λ l. map (moved b q) (map (moved f t) l)) (at_yes p hit more h) ∙ (λ i. record hit { place = same i } ∷ rest i) ∙ ap (map (moved p q)) (sym (at_yes p hit more h))
     by_place rest (inr h) = ap (λ l. map (moved b q) (map (moved f t) l)) (at_no p hit more h) ∙ rest ∙ ap (map (moved p q)) (sym (at_no p hit more h))
 
@@ -192,7 +192,7 @@ at_same p (hit ∷ more) = by_place (at_same p more) (three_ways hit.place p)
   where
     by_place : map (moved p p) (hits_at p more) ≡ hits_at p more → (hit.place ≡ p) ⊎ ((hit.place < p) ⊎ (p < hit.place)) → map (moved p p) (hits_at p (hit ∷ more)) ≡ hits_at p (hit ∷ more)
     by_place rest (inl h) =
-        let same : p + (hit.place - p) ≡ hit.place = omega (arith, h) in
+        let same : p + (hit.place - p) ≡ hit.place = omega arith in
         ap (map (moved p p)) (at_yes p hit more h) ∙ (λ i. record hit { place = same i } ∷ rest i) ∙ sym (at_yes p hit more h)
     by_place rest (inr h) = ap (map (moved p p)) (at_no p hit more h) ∙ rest ∙ sym (at_no p hit more h)
 
@@ -203,7 +203,7 @@ module _ (f r a many : ℕ) (come hits : List Hit) (within : AreWithin 0 many hi
   pub spliced_within : f + r ≤ many → AreWithin 0 (many - r + a) (spliced_hits f r a come hits)
   spliced_within l =
       let far : (f + a) + (many - (f + r)) ≡ many - r + a = omega arith in
-      let last : AreWithin (f + a) (many - r + a) (hits_from (f + r) (f + a) hits) = subst (λ (n : ℕ). AreWithin (f + a) n (hits_from (f + r) (f + a) hits)) far (from_moved_within (f + r) (f + a) 0 many hits within) in
+      let last : AreWithin (f + a) (many - r + a) (hits_from (f + r) (f + a) hits) = rw far at (from_moved_within (f + r) (f + a) 0 many hits within) in
       within_joined 0 f (many - r + a) (hits_before f hits) (come ++ hits_from (f + r) (f + a) hits) (before_within 0 f many hits within)
       (within_joined f (f + a) (many - r + a) come (hits_from (f + r) (f + a) hits) between last (omega arith) (omega arith)) (omega arith) (omega arith)
 
@@ -213,10 +213,10 @@ module _ (f r a many : ℕ) (come hits : List Hit) (within : AreWithin 0 many hi
       filter-append test (hits_before f hits) (come ++ hits_from (f + r) (f + a) hits) ∙ ap (λ l. hits_at p (hits_before f hits) ++ l) (filter-append test come (hits_from (f + r) (f + a) hits))
 
   none_first : (p : ℕ) → f ≤ p → hits_at p (hits_before f hits) ≡ []
-  none_first p l = at_high p 0 f (hits_before f hits) (before_within 0 f many hits within) l
+  none_first p l = at_high p 0 f _ (before_within 0 f _ _ within) l
 
   none_last : (p : ℕ) → p < f + a → hits_at p (hits_from (f + r) (f + a) hits) ≡ []
-  none_last p l = at_low p (f + a) ((f + a) + (many - (f + r))) (hits_from (f + r) (f + a) hits) (from_moved_within (f + r) (f + a) 0 many hits within) l
+  none_last p l = at_low p _ _ _ (from_moved_within _ _ 0 _ _ within) l
 
   -- at a place before the lines
   pub spliced_before : (p : ℕ) → p < f → hits_at p (spliced_hits f r a come hits) ≡ hits_at p hits
@@ -238,13 +238,13 @@ module _ (f r a many : ℕ) (come hits : List Hit) (within : AreWithin 0 many hi
   spliced_after p old q l e =
       let x = p - (f + a) in
       let there : (f + a) + x ≡ p = omega arith in
-      let was : (f + r) + x ≡ old = omega (arith, e) in
+      let was : (f + r) + x ≡ old = omega arith in
       let first = none_first p (omega arith) in
       let mid = at_high p f (f + a) come between l in
-      let last : hits_at p (hits_from (f + r) (f + a) hits) ≡ map (moved (f + r) (f + a)) (hits_at old hits) =
+      let last =
       ap (λ n. hits_at n (hits_from (f + r) (f + a) hits)) (sym there) ∙ at_moved_from (f + r) (f + a) x hits ∙ ap (λ n. map (moved (f + r) (f + a)) (hits_at n hits)) was in
-      let is : hits_at p (spliced_hits f r a come hits) ≡ map (moved (f + r) (f + a)) (hits_at old hits) = cut_at p ∙ (λ i. first i ++ (mid i ++ last i)) in
-      ap (map (moved p q)) is ∙ at_moved old (f + r) (f + a) p q hits (omega (arith, e))
+      let is = cut_at p ∙ (λ i. first i ++ (mid i ++ last i)) in
+      ap (map (moved p q)) is ∙ at_moved old (f + r) (f + a) p q hits (omega arith)
 
 -- ---- the hits of lines: S says which lines are selected, and P which parts are listed of one
 
@@ -258,7 +258,7 @@ module _ (S : Text → Type 0) (P : Text → List (ℕ × ℕ) → Type 0) where
 
   -- they come in the order of their places
   pub by_within : (n : ℕ) (lines : List Text) (hits : List Hit) → By n lines hits → AreWithin n (n + length lines) hits
-  by_within n [] hits h = subst (AreWithin n (n + 0)) (sym h) tt
+  by_within n [] hits h = rw h tt
   by_within n (line ∷ lines) hits (front, rest, first, more, joined) =
       by_first (by_within (n + 1) lines rest more) first
     where
@@ -267,15 +267,15 @@ module _ (S : Text → Type 0) (P : Text → List (ℕ × ℕ) → Type 0) where
 
       by_first : AreWithin (n + 1) ((n + 1) + length lines) rest → HitBy (n, line) front → AreWithin n (n + suc (length lines)) hits
       by_first w (inl (selected, (parts, known, is))) =
-          subst (AreWithin n (n + suc (length lines))) (sym (joined ∙ ap (λ l. l ++ rest) is)) (omega arith, omega arith, wide w)
+          rw (joined ∙ ap (λ l. l ++ rest) is) (omega arith, omega arith, wide w)
       by_first w (inr (passed, is)) =
-          subst (AreWithin n (n + suc (length lines))) (sym (joined ∙ ap (λ l. l ++ rest) is))
-          (within_wider n (n + 1) (n + suc (length lines)) (n + suc (length lines)) rest (omega arith) (omega arith) (wide w))
+          rw (joined ∙ ap (λ l. l ++ rest) is)
+          (within_wider n _ _ _ _ (omega arith) (omega arith) (wide w))
 
   -- those of one line
   one_within : (n : ℕ) (line : Text) (hits : List Hit) → HitBy (n, line) hits → AreWithin n (n + 1) hits
-  one_within n line hits (inl (selected, (parts, known, is))) = subst (AreWithin n (n + 1)) (sym is) (omega arith, omega arith, tt)
-  one_within n line hits (inr (passed, is)) = subst (AreWithin n (n + 1)) (sym is) tt
+  one_within n line hits (inl (selected, (parts, known, is))) = rw is (omega arith, omega arith, tt)
+  one_within n line hits (inr (passed, is)) = rw is tt
 
   -- line by line: at each place there are the hits of its line
   pub line_hits : (n : ℕ) (lines : List Text) (hits : List Hit) → By n lines hits → (i p : ℕ) → p ≡ n + i → i < length lines → HitBy (p, get_or lines i []) (hits_at p hits)
@@ -297,11 +297,11 @@ module _ (S : Text → Type 0) (P : Text → List (ℕ × ℕ) → Type 0) where
   hits_by_line n (line ∷ lines) hits w f =
       let rest = from_place (n + 1) hits in
       let far : n + suc (length lines) ≡ (n + 1) + length lines = omega arith in
-      let later : AreWithin (n + 1) ((n + 1) + length lines) rest = subst (λ (m : ℕ). AreWithin (n + 1) m rest) far (from_within n (n + 1) (n + suc (length lines)) hits w) in (
+      let later : AreWithin (n + 1) ((n + 1) + length lines) rest = rw far at (from_within n (n + 1) (n + suc (length lines)) hits w) in (
         hits_at n hits,
         rest,
         f 0 n (omega arith) (omega arith),
-        hits_by_line (n + 1) lines rest later (λ i p e l. subst (HitBy (p, get_or lines i [])) (sym (at_from_place p (n + 1) hits (omega (arith, e)))) (f (suc i) p (omega (arith, e)) (omega (arith, l)))),
+        hits_by_line (n + 1) lines rest later (λ i p e l. rw (at_from_place p (n + 1) hits (omega arith)) (f (suc i) p (omega arith) (omega arith))),
         sym (at_and_after n (n + suc (length lines)) hits w),
       )
 

@@ -1,9 +1,7 @@
 -- The hits of lines, one line after the other: there are some, and no others.
 use Rattle.grep_live.proofs.Prelude.{◌≡◌, ℕ, zero, suc, ◌+◌, ◌-◌, ◌<◌, ◌≤◌, Bool, true, false, List, [], ◌∷◌, ◌++◌, length, map, take, drop, get_or, Option, Some, MatchBool, MatchOption, refl, sym, ap, subst, ◌∙◌, ◌⊎◌, inl, inr, arith, append_assoc, slice_range, enumerate_from, Text, Expression, AreParts, Span, Options, Inputs, Selected, file_at, ListedParts, span_places, Hit, HitOf, HitsFrom, HitsBetween, IsFirst, drop-cons, take-add, cases_lt, drop-drop, length-take-le, length-drop}
-use Rattle.re_syntax.proofs.lemmas.PartsExist.{AreParts-exist}
-use Rattle.re_syntax.proofs.lemmas.PartsLaws.{ArePartsFrom-unique}
-use Rattle.grep_core.proofs.lemmas.ChooseLaws.{EachGives-exist}
-use Rattle.grep_core.proofs.lemmas.Decided.{dec_selected}
+use Rattle.re_syntax.proofs.lemmas.{PartsExist.AreParts-exist, PartsLaws.ArePartsFrom-unique}
+use Rattle.grep_core.proofs.lemmas.{ChooseLaws.EachGives-exist, Decided.dec_selected}
 
 -- lines from a place on are the one there and those after it
 slice_next : (lines : List Text) (place to : ℕ) → place < to → to ≤ length lines → slice_range lines place to ≡ get_or lines place [] ∷ slice_range lines (place + 1) to
@@ -47,11 +45,11 @@ module _ (es : List Expression) (options : Options) where
     one_here hit e = by_case is_hit
       where
         some : Selected es options line × (text hit ≡ line) × ListedParts es options line (map span_places (parts hit))
-        some = subst (λ (f : Option H). MatchOption f (Selected es options line → ⊥) (λ hit. Selected es options line × (text hit ≡ line) × ListedParts es options line (map span_places (parts hit)))) e answers
+        some = rw e at answers
 
         by_case : HitOf es options (place, line) hits → hits ≡ record { place = place; text = text hit; parts = map span_places (parts hit) } ∷ []
         by_case (inl (selected, (ps, known, is))) =
-            let same : ps ≡ map span_places (parts hit) = listed-unique line ps (map span_places (parts hit)) known some.2 in
+            let same = listed-unique line ps (map span_places (parts hit)) known some.2 in
             is ∙ (λ i. record { place = place; text = sym some.1 i; parts = same i } ∷ [])
         by_case (inr (passed, is)) = absurd (passed some.0)
 
@@ -68,14 +66,14 @@ pub record Next (es : List Expression) (inputs : Inputs) (k place to : ℕ) (lef
 pub next_hits : (es : List Expression) (inputs : Inputs) (k place to : ℕ) (left : List Hit) → place < to → to ≤ length (file_at inputs.files k).lines → HitsBetween es inputs k place to left → Next es inputs k place to left
 next_hits es inputs k place to left h l hits =
     let lines = (file_at inputs.files k).lines in
-    let next : HitsFrom es inputs.options place (get_or lines place [] ∷ slice_range lines (place + 1) to) left = subst (λ t. HitsFrom es inputs.options place t left) (slice_next lines place to h l) hits in
+    let next = rw (slice_next _ _ to h l) at hits in
     record { here = next.0; rest = next.1; is_here = next.2; is_rest = next.3; joined = next.4 }
 
 -- after the last line there are none
 pub no_more : (es : List Expression) (inputs : Inputs) (k place to : ℕ) (left : List Hit) → to ≤ place → HitsBetween es inputs k place to left → left ≡ []
 no_more es inputs k place to left h hits =
     let none : to - place ≡ 0 = omega arith in
-    subst (λ n. HitsFrom es inputs.options place (take n (drop place (file_at inputs.files k).lines)) left) none hits
+    rw none at hits
 
 -- where none begins before the end there are none
 none_after : (es : List Expression) (inputs : Inputs) (k place to : ℕ) → to ≤ place → HitsBetween es inputs k place to []
@@ -92,12 +90,12 @@ NoneBetween es inputs k from next = (i : ℕ) → from ≤ i → i < next → Se
 -- the hits from there on are those from the next place on
 pub passed_to : (es : List Expression) (inputs : Inputs) (k to next n from : ℕ) → next ≡ from + n → to ≤ length (file_at inputs.files k).lines → NoneBetween es inputs k from next → (hits : List Hit) → HitsBetween es inputs k from to hits → HitsBetween es inputs k next to hits
 passed_to es inputs k to next zero from e within none hits h =
-    let same : from ≡ next = omega (arith, e) in
-    subst (λ (p : ℕ). HitsBetween es inputs k p to hits) same h
-passed_to es inputs k to next (suc n) from e within none hits h = by_place (cases_lt from to) (passed_to es inputs k to next n (from + 1) (omega (arith, e)) within (λ i low high. none i (omega (arith, low)) high))
+    let same : from ≡ next = omega arith in
+    rw same at h
+passed_to es inputs k to next (suc n) from e within none hits h = by_place (cases_lt from to) (passed_to es inputs k to next n (from + 1) (omega arith) within (λ i low high. none i (omega arith) high))
   where
     no_hit : (here : List Hit) → HitOf es inputs.options (from, get_or (file_at inputs.files k).lines from []) here → here ≡ []
-    no_hit here (inl (selected, known)) = absurd (none from (omega arith) (omega (arith, e)) selected)
+    no_hit here (inl (selected, known)) = absurd (none from (omega arith) (omega arith) selected)
     no_hit here (inr (passed, is)) = is
 
     by_place : (from < to) ⊎ (to ≤ from) → ((rest : List Hit) → HitsBetween es inputs k (from + 1) to rest → HitsBetween es inputs k next to rest) → HitsBetween es inputs k next to hits
@@ -109,7 +107,7 @@ passed_to es inputs k to next (suc n) from e within none hits h = by_place (case
 
 module _ (es : List Expression) (inputs : Inputs) (k from to next : ℕ) (low : from ≤ next) (within : to ≤ length (file_at inputs.files k).lines) (none : NoneBetween es inputs k from next) (hits : List Hit) (are : HitsBetween es inputs k from to hits) where
   from_next : HitsBetween es inputs k next to hits
-  from_next = passed_to es inputs k to next (next - from) from (omega (arith, low)) within none hits are
+  from_next = passed_to es inputs k to next (next - from) from (omega arith) within none hits are
 
   -- there is none
   pub none_first : to ≤ next → hits ≡ []
@@ -138,10 +136,10 @@ pub record WithParts (es : List Expression) (inputs : Inputs) (k place mid to : 
 split_from : (es : List Expression) (options : Options) (first next : ℕ) (xs ys : List Text) (hits : List Hit) → next ≡ first + length xs → HitsFrom es options first (xs ++ ys) hits →
     (front : List Hit) × (back : List Hit) × HitsFrom es options first xs front × HitsFrom es options next ys back × (hits ≡ front ++ back)
 split_from es options first next [] ys hits e h =
-    let same : first ≡ next = omega (arith, e) in
-    ([], hits, refl, subst (λ n. HitsFrom es options n ys hits) same h, refl)
+    let same : first ≡ next = omega arith in
+    ([], hits, refl, rw same at h, refl)
 split_from es options first next (x ∷ xs) ys hits e (front, rest, here, more, joined) =
-    let s = split_from es options (first + 1) next xs ys rest (omega (arith, e)) more in
+    let s = split_from es options (first + 1) next xs ys rest (omega arith) more in
     (front ++ s.0, s.1, (front, s.0, here, s.2, refl), s.3, joined ∙ ap (λ l. front ++ l) s.4 ∙ sym (append_assoc front s.0 s.1))
 
 pub with_parts : (es : List Expression) (inputs : Inputs) (k place mid to : ℕ) (hits : List Hit) → place ≤ mid → mid ≤ to → mid ≤ length (file_at inputs.files k).lines → HitsBetween es inputs k place to hits → WithParts es inputs k place mid to hits
@@ -149,8 +147,8 @@ with_parts es inputs k place mid to hits low high within h =
     let lines = (file_at inputs.files k).lines in
     let far : to - place ≡ (mid - place) + (to - mid) = omega arith in
     let there : place + (mid - place) ≡ mid = omega arith in
-    let cut : slice_range lines place to ≡ slice_range lines place mid ++ slice_range lines mid to =
-    ap (λ n. take n (drop place lines)) far ∙ take-add (mid - place) (to - mid) (drop place lines) ∙ ap (λ l. take (mid - place) (drop place lines) ++ take (to - mid) l) (drop-drop (mid - place) place lines ∙ ap (λ n. drop n lines) there) in
-    let long : length (slice_range lines place mid) ≡ mid - place = length-take-le (mid - place) (drop place lines) (omega (arith, length-drop place lines)) in
-    let s = split_from es inputs.options place mid (slice_range lines place mid) (slice_range lines mid to) hits (omega (arith, long)) (subst (λ t. HitsFrom es inputs.options place t hits) cut h) in
+    let cut =
+    ap (λ n. take n (drop place lines)) far ∙ take-add (mid - place) (to - mid) (drop place lines) ∙ ap (λ l. take (mid - place) (drop place lines) ++ take (to - mid) l) (cc (drop-drop (mid - place) place lines)) in
+    let long = length-take-le (mid - place) (drop place lines) (omega (arith, length-drop place lines)) in
+    let s = split_from es inputs.options place mid (slice_range lines place mid) (slice_range lines mid to) hits (omega arith) (rw cut at h) in
     record { front = s.0; back = s.1; is_front = s.2; is_back = s.3; joined = s.4 }

@@ -1,5 +1,5 @@
 -- The number of selected lines, which is the number of hits.
-use Rattle.grep_live.proofs.Prelude.{◌≡◌, ℕ, zero, suc, ◌+◌, ◌-◌, ◌<◌, ◌≤◌, List, [], ◌∷◌, ◌++◌, length, take, drop, refl, sym, ap, subst, ◌∙◌, ◌⊎◌, inl, inr, arith, slice_range, Text, Expression, HoldsOfMany, Options, Inputs, Selected, file_at, Hit, HitOf, HitsFrom, Mean, HitsBetween, SelectedBefore, IsPlaceAfter, take-add, length-append}
+use Rattle.grep_live.proofs.Prelude.{◌≡◌, ℕ, zero, suc, ◌+◌, ◌-◌, ◌<◌, ◌≤◌, List, [], ◌∷◌, ◌++◌, length, take, drop, refl, ap, ◌∙◌, ◌⊎◌, inl, inr, arith, slice_range, Text, Expression, HoldsOfMany, Options, Inputs, Selected, file_at, Hit, HitOf, HitsFrom, Mean, HitsBetween, SelectedBefore, IsPlaceAfter, take-add, length-append}
 use Rattle.grep_core.proofs.lemmas.Decided.{dec_selected}
 use Rattle.grep_live.proofs.lemmas.ListingLemmas.{HitsFrom-exist}
 
@@ -36,10 +36,10 @@ module _ (es : List Expression) (options : Options) where
 
   one_counted : (line : Text) (d : Dec (Selected es options line)) (others count : ℕ) → (Selected es options line × (count ≡ others + 1)) ⊎ ((Selected es options line → ⊥) × (count ≡ others)) → count ≡ one line d + others
   unfolding one
-  one_counted line (yes selected) others count (inl (s, is)) = omega (arith, is)
+  one_counted line (yes selected) others count (inl (s, is)) = omega arith
   one_counted line (yes selected) others count (inr (passed, is)) = absurd (passed selected)
   one_counted line (no passed) others count (inl (s, is)) = absurd (passed s)
-  one_counted line (no passed) others count (inr (p, is)) = omega (arith, is)
+  one_counted line (no passed) others count (inr (p, is)) = omega arith
 
   many_is : (lines : List Text) (count : ℕ) → HoldsOfMany (Selected es options) lines count → count ≡ number lines
   unfolding number
@@ -60,10 +60,10 @@ module _ (es : List Expression) (options : Options) where
 
   one_hit : (place : ℕ) (line : Text) (hits : List Hit) (d : Dec (Selected es options line)) → HitOf es options (place, line) hits → length hits ≡ one line d
   unfolding one
-  one_hit place line hits (yes selected) (inl (s, (parts, known, is))) = ap length is
+  one_hit place line hits (yes selected) (inl (s, (parts, known, is))) = rw is
   one_hit place line hits (yes selected) (inr (passed, is)) = absurd (passed selected)
   one_hit place line hits (no passed) (inl (s, (parts, known, is))) = absurd (passed s)
-  one_hit place line hits (no passed) (inr (p, is)) = ap length is
+  one_hit place line hits (no passed) (inr (p, is)) = rw is
 
   -- there are as many hits as selected lines
   number_is : (first : ℕ) (lines : List Text) (hits : List Hit) → HitsFrom es options first lines hits → length hits ≡ number lines
@@ -86,8 +86,8 @@ module _ (es : List Expression) (options : Options) where
   number_next : (place : ℕ) (lines : List Text) → number (take (place + 1) lines) ≤ number (take place lines) + 1
   number_next place lines =
       let single : (place + 1) - place ≡ 1 = omega arith in
-      let few : number (take ((place + 1) - place) (drop place lines)) ≤ 1 = subst (λ n. number (take n (drop place lines)) ≤ 1) (sym single) (first-few (drop place lines)) in
-      omega (arith, number_cut place (place + 1) lines (omega arith), few)
+      let few : number (take ((place + 1) - place) (drop place lines)) ≤ 1 = rw single (first-few (drop place lines)) in
+      omega (arith, number_cut place (place + 1) lines (omega arith))
 
 -- ---- the hits among some lines of a file
 
@@ -107,11 +107,11 @@ module _ (es : List Expression) (inputs : Inputs) (k : ℕ) where
 
   -- those before a place
   pub counted_before : (place count : ℕ) → SelectedBefore es inputs k place count → (hits : List Hit) → HitsBetween es inputs k 0 place hits → count ≡ length hits
-  counted_before place count c hits are = counted_between 0 place 0 count count (omega arith) refl c (omega arith) hits are
+  counted_before place count c hits are = counted_between 0 _ 0 _ _ (omega arith) refl c (omega arith) _ are
 
   -- those of all lines
   pub counted_all : (end count : ℕ) → end ≡ length (file_at inputs.files k).lines → SelectedBefore es inputs k end count → (hits : List Hit) → HitsBetween es inputs k 0 (length (file_at inputs.files k).lines) hits → count ≡ length hits
-  counted_all end count e c hits are = counted_before (length (file_at inputs.files k).lines) count (subst (λ n. SelectedBefore es inputs k n count) e c) hits are
+  counted_all end count e c hits are = counted_before _ _ (rw e at c) _ are
 
 -- ---- the place after a number of hits
 
@@ -125,7 +125,7 @@ module _ (inputs : Inputs) (k wanted : ℕ) where
   FewerBelow place = (es : List Expression) → Mean inputs es → (other : ℕ) → other < place → number es inputs.options (take other (file_at inputs.files k).lines) < wanted
 
   pub none_below : FewerBelow 0
-  none_below = λ es meant other h. absurd (omega (arith, h))
+  none_below = λ es meant other h. absurd (omega arith)
 
   pub all_suffice : (end : ℕ) → end ≡ length (file_at inputs.files k).lines → ((es : List Expression) → Mean inputs es → (hits : List Hit) → HitsBetween es inputs k 0 (length (file_at inputs.files k).lines) hits → wanted ≤ length hits) → Suffices end
   all_suffice end e enough = λ es meant.
@@ -144,10 +144,10 @@ module _ (inputs : Inputs) (k wanted : ℕ) where
   pub fewer_here : (place count : ℕ) → ((es : List Expression) → Mean inputs es → SelectedBefore es inputs k place count) → count < wanted → FewerBelow (place + 1)
   fewer_here place count c h = λ es meant other l.
       let lines = (file_at inputs.files k).lines in
-      omega (arith, h, many_is es inputs.options (take place lines) count (c es meant), number_grows es inputs.options other place lines (omega (arith, l)))
+      omega (arith, many_is es inputs.options (take place lines) count (c es meant), number_grows es inputs.options other place lines (omega (arith, l)))
 
   pub suffices_here : (place count : ℕ) → ((es : List Expression) → Mean inputs es → SelectedBefore es inputs k place count) → wanted ≤ count → Suffices place
-  suffices_here place count c h = λ es meant. omega (arith, h, many_is es inputs.options (take place (file_at inputs.files k).lines) count (c es meant))
+  suffices_here place count c h = λ es meant. omega (arith, many_is es inputs.options (take place (file_at inputs.files k).lines) count (c es meant))
 
   no_more_than : (es : List Expression) → Mean inputs es → (place : ℕ) → FewerBelow place → number es inputs.options (take place (file_at inputs.files k).lines) ≤ wanted
   no_more_than es meant zero fewer = omega (arith, number_none es inputs.options)
@@ -159,9 +159,9 @@ module _ (inputs : Inputs) (k wanted : ℕ) where
   pub place_found : (low high : ℕ) → high ≤ low → FewerBelow low → Suffices high → (es : List Expression) → Mean inputs es → IsPlaceAfter es inputs k wanted high
   place_found low high past fewer enough es meant =
       let lines = (file_at inputs.files k).lines in
-      let below : FewerBelow high = λ fs m other l. fewer fs m other (omega (arith, l, past)) in
+      let below : FewerBelow high = λ fs m other l. fewer fs m other (omega arith) in
       let exact : number es inputs.options (take high lines) ≡ wanted = omega (arith, no_more_than es meant high below, enough es meant) in
       record {
-        counted = subst (λ n. HoldsOfMany (Selected es inputs.options) (take high lines) n) exact (many_there es inputs.options (take high lines));
-        least = (λ other some l c. let is : some ≡ number es inputs.options (take other lines) = many_is es inputs.options (take other lines) some c in omega (arith, is, below es meant other l));
+        counted = rw exact at (many_there es inputs.options (take high lines));
+        least = (λ other some l c. let is : some ≡ number es inputs.options (take other lines) = many_is es inputs.options (take other lines) some c in omega (arith, below es meant other l));
       }

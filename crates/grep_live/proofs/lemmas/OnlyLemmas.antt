@@ -1,13 +1,10 @@
 -- Only what changed is reported.
-use Rattle.grep_live.proofs.Prelude.{◌≡◌, ℕ, zero, suc, ◌+◌, ◌-◌, ◌<◌, ◌≤◌, Bool, true, false, List, [], ◌∷◌, ◌++◌, length, map, take, drop, get_or, Result, Ok, Err, ◌⊎◌, refl, sym, ap, subst, ◌∙◌, inl, inr, arith, set, cases_eq, cases_lt, append-nil, length-append, length-map, length-set, length-take, get_or-take, get_or-set_same, get_or-set_other, get_or_append_left, slice_set, nat_eq, ◌&&◌, if◌then◌else◌, flat_map, IfOk, remove, splice, Text, Expression, Flag, Options, File, Inputs, file_at, EditFault, Edit, AddFile, AddMissing, DropFile, Splice, AddPatterns, DropPattern, ChangePattern, SetFlag, SetSyntax, SetContext, Applies, EditGives, whole_file, missing_file, spliced, option_of, Attempt, Marked, Stretch, Fits, IsAfter, IsBefore, Keeps, Moves, Splices, AllThree, Hit, Watched, whole_mark, new_mark, mark_at, lost, changes_hits, IsFit, AreFit, MarksAfter, MarksGiven, Change, AreChanges, ChangesFile, AreWithin, hit_row, change_row, change_rows, changes_rows, all_known, changes_at, AreBetween, OneSplice, LeavesAll, LeavesEnds, EachLeavesEnds, OnlyTouched}
+use Rattle.grep_live.proofs.Prelude.{◌≡◌, ℕ, zero, suc, ◌+◌, ◌-◌, ◌<◌, ◌≤◌, Bool, true, false, List, [], ◌∷◌, ◌++◌, length, map, take, drop, get_or, Result, Ok, Err, ◌⊎◌, refl, sym, ap, subst, ◌∙◌, inl, inr, arith, set, cases_eq, cases_lt, append-nil, length-append, length-map, length-set, length-take, get_or-take, get_or-set_same, get_or-set_other, get_or_append_left, slice_set, nat_eq, ◌&&◌, if◌then◌else◌, flat_map, IfOk, remove, splice, Text, Expression, Flag, Options, File, Inputs, file_at, EditFault, Edit, AddFile, AddMissing, DropFile, Splice, AddPatterns, DropPattern, ChangePattern, SetFlag, SetSyntax, SetContext, Applies, EditGives, whole_file, missing_file, spliced, option_of, Attempt, Marked, Stretch, Fits, IsAfter, IsBefore, Keeps, Moves, Splices, AllThree, Hit, Watched, whole_mark, new_mark, mark_at, changes_hits, IsFit, AreFit, MarksAfter, MarksGiven, Change, AreChanges, ChangesFile, AreWithin, hit_row, change_row, change_rows, changes_rows, all_known, changes_at, AreBetween, OneSplice, LeavesAll, LeavesEnds, EachLeavesEnds, OnlyTouched}
 use Rattle.std.specs.Bool.{⊤}
 use Rattle.std.proofs.lemmas.List.{get_or-map}
 use Rattle.grep_session.proofs.lemmas.FitLemmas.{fit_at, known_fit}
-use Rattle.grep_live.proofs.lemmas.ListLemmas.{three-at}
-use Rattle.grep_live.proofs.lemmas.HitLemmas.{within_wider}
+use Rattle.grep_live.proofs.lemmas.{ListLemmas.three-at, HitLemmas.within_wider, CatchLemmas.come_within, TwiceLemmas.one_silent, TwiceLemmas.all_silent}
 use Rattle.grep_live.proofs.lemmas.CarryLemmas.{added_file, added_missing, changed_pattern, context_set, edits_carry, file_dropped, option_set, refused_same, splice_accepted, syntax_set}
-use Rattle.grep_live.proofs.lemmas.CatchLemmas.{come_within}
-use Rattle.grep_live.proofs.lemmas.TwiceLemmas.{one_silent, all_silent}
 
 -- ---- hits in the order of their places
 
@@ -34,43 +31,43 @@ front_left front (stretch ∷ more) h = by_place (cases_lt stretch.kept front)
   where
     by_place : (stretch.kept < front) ⊎ (front ≤ stretch.kept) → front ≤ 0 + stretch.kept
     by_place (inl l) = absurd (omega (arith, h stretch.kept l))
-    by_place (inr l) = omega (arith, l)
+    by_place (inr l) = omega arith
 
 further_on : (front n : ℕ) (stretches : List Stretch) → front ≤ n → FrontLeft front n stretches
 further_on front n [] l = tt
-further_on front n (stretch ∷ more) l = omega (arith, l)
+further_on front n (stretch ∷ more) l = omega arith
 
 back_left : (back lines place : ℕ) (stretches : List Stretch) → lines ≡ place + back → IsAfter stretches place → BackLeft back lines stretches
 back_left back lines place [] e h = tt
-back_left back lines place (stretch ∷ more) e (later, is, after) = (later + back, omega (arith, e, is), omega arith, back_left back (later + back) later more refl after)
+back_left back lines place (stretch ∷ more) e (later, is, after) = (later + back, omega arith, omega arith, back_left back (later + back) later more refl after)
 
 -- these last lines were known
 back_known : (back known lines : ℕ) (stretches : List Stretch) → Fits known lines stretches → BackLeft back lines stretches → back ≤ lines → back ≤ known
-back_known back known lines [] fits b l = omega (arith, fits, l)
+back_known back known lines [] fits b l = omega arith
 back_known back known lines (stretch ∷ more) (old, new, was, is, fits) (later, there, low, rest) l =
-    let same : later ≡ new = omega (arith, there, is) in
-    let left = back_known back old new more fits (subst (λ (n : ℕ). BackLeft back n more) same rest) (omega (arith, low, same)) in
-    omega (arith, was, left)
+    let same : later ≡ new = omega arith in
+    let left = back_known back old new more fits (rw same at rest) (omega arith) in
+    omega arith
 
 -- the changes of a file whose ends are left
 changes_between : (es : List Expression) (options : Options) (front back now : ℕ) (stretches : List Stretch) (changes : List Change) (n many old new : ℕ) (lines : List Text) → many ≡ n + old → now ≡ n + new → Fits old new stretches →
     FrontLeft front n stretches → BackLeft back new stretches → AreChanges es options n lines stretches changes → AreBetween front back many now changes
 changes_between es options front back now [] changes n many old new lines was is fits f b c =
-    let same : now ≡ many = omega (arith, was, is, fits) in
-    subst (AreBetween front back many now) (sym c) same
+    let same : now ≡ many = omega arith in
+    rw c same
 changes_between es options front back now (stretch ∷ more) [] n many old new lines was is fits f b c = absurd c
 changes_between es options front back now (stretch ∷ more) (change ∷ changes) n many old new lines was is (older, newer, left, there, fits) f (later, at, low, rest) (is_front, is_removed, is_added, are_hits, others) =
     let past = stretch.kept + stretch.added in
-    let same : later ≡ newer = omega (arith, at, there) in
-    let back_rest : BackLeft back newer more = subst (λ (m : ℕ). BackLeft back m more) same rest in
-    let known : back ≤ older = back_known back older newer more fits back_rest (omega (arith, low, same)) in
+    let same : later ≡ newer = omega arith in
+    let back_rest : BackLeft back newer more = rw same at rest in
+    let known : back ≤ older = back_known back older newer more fits back_rest (omega arith) in
     let after = many - change.removed + change.added in
-    let after_is : after ≡ (n + past) + older = omega (arith, was, left, is_removed, is_added) in
+    let after_is : after ≡ (n + past) + older = omega arith in
     let hits : AreWithin (n + stretch.kept) ((n + stretch.kept) + (past - stretch.kept)) change.come = come_within es options (n + stretch.kept) stretch.kept past lines change.come are_hits in (
-      omega (arith, f, is_front),
-      omega (arith, is_front, is_removed, was, left, known),
-      within_wider front (n + stretch.kept) ((n + stretch.kept) + (past - stretch.kept)) (after - back) change.come f (omega (arith, after_is, known)) hits,
-      changes_between es options front back now more changes (n + past) after older newer (drop past lines) after_is (omega (arith, is, there)) fits (further_on front (n + past) more (omega (arith, f))) back_rest others,
+      omega arith,
+      omega arith,
+      within_wider front (n + stretch.kept) ((n + stretch.kept) + (past - stretch.kept)) (after - back) change.come f (omega arith) hits,
+      changes_between es options front back now more changes (n + past) after older newer (drop past lines) after_is (omega arith) fits (further_on front (n + past) more (omega arith)) back_rest others,
     )
 
 -- ---- one splice
@@ -115,38 +112,38 @@ module _ (start count added kept removed put : ℕ) where
     kept_before_start l = by_stretch (all kept kept (inl (l, refl)))
       where
         by_start : removed ≡ 0 → put ≡ 0 → Moves start count added start start → IsSpliced
-        by_start r p (inl (h, e)) = absurd (omega (arith, h))
-        by_start r p (inr (past, e, f)) = inl (r, p, omega (arith, e), omega (arith, f))
+        by_start r p (inl (h, e)) = absurd (omega arith)
+        by_start r p (inr (past, e, f)) = inl (r, p, omega arith, omega arith)
 
         by_stretch : Stayed kept kept → IsSpliced
-        by_stretch (inl (h, e)) = absurd (omega (arith, h))
+        by_stretch (inl (h, e)) = absurd (omega arith)
         by_stretch (inr (past, e, f)) =
-            let r : removed ≡ 0 = omega (arith, e) in
-            let p : put ≡ 0 = omega (arith, f) in
-            by_start r p (only start start (inr (start - kept, omega (arith, r, l), omega (arith, p, l))))
+            let r : removed ≡ 0 = omega arith in
+            let p : put ≡ 0 = omega arith in
+            by_start r p (only start start (inr (start - kept, omega arith, omega arith)))
 
     start_before_kept : start < kept → IsSpliced
     start_before_kept l = by_start (only start start (inl (l, refl)))
       where
         by_stretch : count ≡ 0 → added ≡ 0 → Stayed kept kept → IsSpliced
-        by_stretch c a (inl (h, e)) = absurd (omega (arith, h))
-        by_stretch c a (inr (past, e, f)) = inl (omega (arith, e), omega (arith, f), c, a)
+        by_stretch c a (inl (h, e)) = absurd (omega arith)
+        by_stretch c a (inr (past, e, f)) = inl (omega arith, omega arith, c, a)
 
         by_start : Moves start count added start start → IsSpliced
-        by_start (inl (h, e)) = absurd (omega (arith, h))
+        by_start (inl (h, e)) = absurd (omega arith)
         by_start (inr (past, e, f)) =
-            let c : count ≡ 0 = omega (arith, e) in
-            let a : added ≡ 0 = omega (arith, f) in
-            by_stretch c a (all kept kept (inr (kept - start, omega (arith, c, l), omega (arith, a, l))))
+            let c : count ≡ 0 = omega arith in
+            let a : added ≡ 0 = omega arith in
+            by_stretch c a (all kept kept (inr (kept - start, omega arith, omega arith)))
 
     same_start : kept ≡ start → IsSpliced
     same_start k =
         by_both (only (kept + removed) (kept + put) (inr (0, omega arith, omega arith))) (all (start + count) (start + added) (inr (0, omega arith, omega arith)))
       where
         by_both : Moves start count added (kept + removed) (kept + put) → Stayed (start + count) (start + added) → IsSpliced
-        by_both (inl (h, e)) q = absurd (omega (arith, h, k))
-        by_both (inr (past, e, f)) (inl (h, g)) = absurd (omega (arith, h, k))
-        by_both (inr (past, e, f)) (inr (more, g, h)) = inr (k, omega (arith, e, g, k), omega (arith, e, f, g, h, k))
+        by_both (inl (h, e)) q = absurd (omega arith)
+        by_both (inr (past, e, f)) (inl (h, g)) = absurd (omega arith)
+        by_both (inr (past, e, f)) (inr (more, g, h)) = inr (k, omega arith, omega arith)
 
     pub pinned : IsSpliced
     pinned = by_place (cases_lt kept start) (cases_lt start kept)
@@ -161,7 +158,7 @@ module _ (start count added n : ℕ) (mark : Marked) (s : Splices start count ad
   only_moves : (line now : ℕ) → Keeps mark.stretches line now → Moves start count added line now
   only_moves line now keeps =
       let was = s.only line now keeps in
-      subst (λ (m : ℕ). Moves start count added m now) was.1 was.2
+      rw was.1 at was.2
 
   all_moves : (line now : ℕ) → Moves start count added line now → Keeps mark.stretches line now
   all_moves line now moves = s.all (omega arith) line line now refl moves
@@ -170,7 +167,7 @@ module _ (start count added n : ℕ) (mark : Marked) (s : Splices start count ad
 module _ (stretch : Stretch) (line now : ℕ) where
   stayed : Keeps (stretch ∷ []) line now → ((line < stretch.kept) × (now ≡ line)) ⊎ ((past : ℕ) × (line ≡ stretch.kept + stretch.removed + past) × (now ≡ stretch.kept + stretch.added + past))
   stayed (inl h) = inl h
-  stayed (inr (past, later, was, is, same)) = inr (past, was, omega (arith, is, same))
+  stayed (inr (past, later, was, is, same)) = inr (past, was, omega arith)
 
   keeps_one : ((line < stretch.kept) × (now ≡ line)) ⊎ ((past : ℕ) × (line ≡ stretch.kept + stretch.removed + past) × (now ≡ stretch.kept + stretch.added + past)) → Keeps (stretch ∷ []) line now
   keeps_one (inl h) = inl h
@@ -192,16 +189,16 @@ nothing_put k start count added changes c a none = record {
 reports_file : (es : List Expression) (options : Options) (k start count added n : ℕ) (lines : List Text) (mark : Marked) (stretches : List Stretch) (changes : List Change) → mark.stretches ≡ stretches → Splices start count added (whole_mark n) mark →
     AreChanges es options 0 lines stretches changes → ReportsFile k start count added changes
 reports_file es options k start count added n lines mark [] changes is s c =
-    by_start (only_moves start count added n mark s start start (subst (λ (l : List Stretch). Keeps l start start) (sym is) refl))
+    by_start (only_moves start count added n mark s start start (rw is refl))
   where
     by_start : Moves start count added start start → ReportsFile k start count added changes
-    by_start (inl (h, e)) = absurd (omega (arith, h))
-    by_start (inr (past, e, f)) = nothing_put k start count added changes (omega (arith, e)) (omega (arith, f)) (λ texts. ap (flat_map (change_rows texts k)) c)
+    by_start (inl (h, e)) = absurd (omega arith)
+    by_start (inr (past, e, f)) = nothing_put k start count added changes (omega arith) (omega arith) (λ texts. ap (flat_map (change_rows texts k)) c)
 reports_file es options k start count added n lines mark (stretch ∷ []) [] is s c = absurd c
 reports_file es options k start count added n lines mark (stretch ∷ []) (change ∷ changes) is s (is_front, is_removed, is_added, are_hits, none) =
     by_way (pinned start count added stretch.kept stretch.removed stretch.added
-    (λ line now h. only_moves start count added n mark s line now (subst (λ (l : List Stretch). Keeps l line now) (sym is) (keeps_one stretch line now h)))
-    (λ line now h. stayed stretch line now (subst (λ (l : List Stretch). Keeps l line now) is (all_moves start count added n mark s line now h))))
+    (λ line now h. only_moves start count added n mark s line now (rw is (keeps_one stretch line now h)))
+    (λ line now h. stayed stretch line now (rw is at (all_moves start count added n mark s line now h))))
   where
     alone : (texts : Bool) → flat_map (change_rows texts k) (change ∷ changes) ≡ change_rows texts k change
     alone texts = ap (λ l. flat_map (change_rows texts k) (change ∷ l)) none ∙ append-nil (change_rows texts k change)
@@ -260,13 +257,13 @@ EndsUntouched k front back known files marks = (k < length files) × (k < length
 pub kept_before : {A : Type 0} (xs : List A) (k other : ℕ) (d : A) → k < other → k < length xs → (k < length (remove xs other)) × (get_or (remove xs other) k d ≡ get_or xs k d)
 kept_before xs k other d l h =
     let long : k < length (take other xs) = omega (arith, length-take other xs) in (
-      omega (arith, long, length-append (take other xs) (drop (suc other) xs)),
+      omega (arith, length-append (take other xs) (drop (suc other) xs)),
       get_or_append_left (take other xs) (drop (suc other) xs) d k long ∙ get_or-take other xs k d l,
     )
 
 pub flag_leaves : (flag : Flag) (on : Bool) (old : Watched) (marks : List Marked) → (changes_hits flag ≡ false) ⊎ (option_of flag old.inputs.options ≡ on) → MarksAfter (SetFlag flag on) old marks → marks ≡ old.marks
 flag_leaves flag on old marks h (inl (same, e)) = e
-flag_leaves flag on old marks (inl h) (inr (other, e)) = subst (λ b. marks ≡ (if b then map lost old.marks else old.marks)) h e
+flag_leaves flag on old marks (inl h) (inr (other, e)) = rw h at e
 flag_leaves flag on old marks (inr h) (inr (other, e)) = absurd (other h)
 
 -- what leaves all leaves files and marks
@@ -285,60 +282,60 @@ all_left (DropPattern p) old new h a m = absurd h
 module _ (k front back known : ℕ) where
   -- other lists with the same mark at this place
   same_ends : (files new : List File) (marks more : List Marked) → k < length new → k < length more → mark_at more k ≡ mark_at marks k → EndsUntouched k front back known files marks → EndsUntouched k front back known new more
-  same_ends files new marks more a b is_mark u = (a, b, subst (AreUntouched front back known) (sym is_mark) u.2)
+  same_ends files new marks more a b is_mark u = (a, b, rw is_mark u.2)
 
   -- lists that are these
   as_these : (files new : List File) (marks more : List Marked) → new ≡ files → more ≡ marks → EndsUntouched k front back known files marks → EndsUntouched k front back known new more
-  as_these files new marks more f m u = subst (λ (l : List File). EndsUntouched k front back known l more) (sym f) (subst (EndsUntouched k front back known files) (sym m) u)
+  as_these files new marks more f m u = rw f (rw m u)
 
   ends_added : (files : List File) (marks : List Marked) (file : File) (mark : Marked) → EndsUntouched k front back known files marks → EndsUntouched k front back known (files ++ file ∷ []) (marks ++ mark ∷ [])
   ends_added files marks file mark u =
-      same_ends files (files ++ file ∷ []) marks (marks ++ mark ∷ []) (omega (arith, u.0, length-append files (file ∷ []))) (omega (arith, u.1, length-append marks (mark ∷ []))) (get_or_append_left marks (mark ∷ []) (whole_mark 0) k u.1) u
+      same_ends _ _ _ _ (omega (arith, u.0, length-append files (file ∷ []))) (omega (arith, u.1, length-append marks (mark ∷ []))) (get_or_append_left marks (mark ∷ []) (whole_mark 0) k u.1) u
 
   ends_dropped : (files : List File) (marks : List Marked) (other : ℕ) → k < other → EndsUntouched k front back known files marks → EndsUntouched k front back known (remove files other) (remove marks other)
   ends_dropped files marks other l u =
       let file = kept_before files k other (file_at [] k) l u.0 in
       let mark = kept_before marks k other (whole_mark 0) l u.1 in
-      same_ends files (remove files other) marks (remove marks other) file.0 mark.0 mark.1 u
+      same_ends _ _ _ _ file.0 mark.0 mark.1 u
 
   -- lines of another file were replaced
   ends_apart : (files : List File) (marks : List Marked) (other : ℕ) (file : File) (mark : Marked) → (other ≡ k → ⊥) → EndsUntouched k front back known files marks → EndsUntouched k front back known (set files other file) (set marks other mark)
   ends_apart files marks other file mark apart u =
-      same_ends files (set files other file) marks (set marks other mark) (omega (arith, u.0, length-set files other file)) (omega (arith, u.1, length-set marks other mark)) (get_or-set_other marks other k mark (whole_mark 0) (λ e. apart (sym e))) u
+      same_ends _ _ _ _ (omega (arith, u.0, length-set files other file)) (omega (arith, u.1, length-set marks other mark)) (get_or-set_other marks other k mark (whole_mark 0) (λ e. apart (sym e))) u
 
   -- lines of this file between its ends were replaced
   touched_between : (start count added : ℕ) (old new : Marked) → front ≤ start → start + count + back ≤ old.lines → Splices start count added old new → AreUntouched front back known old → AreUntouched front back known new
   touched_between start count added old new a b s (same, some, before, after) = (
     s.known ∙ same,
-    inr (omega (arith, b, s.lines)),
-    (λ place l. s.before place (omega (arith, l, a)) (before place l)),
+    inr (omega (arith, s.lines)),
+    (λ place l. s.before place (omega arith) (before place l)),
     (λ past.
         let x = (old.lines - back - (start + count)) + past in
-        let was : (old.lines - back) + past ≡ start + count + x = omega (arith, b) in
-        let is : start + added + x ≡ (new.lines - back) + past = omega (arith, b, s.lines) in
-        subst (IsAfter new.stretches) is (s.after x (subst (IsAfter old.stretches) was (after past)))),
+        let was : (old.lines - back) + past ≡ start + count + x = omega arith in
+        let is : start + added + x ≡ (new.lines - back) + past = omega (arith, s.lines) in
+        rw is at (s.after x (rw was at (after past)))),
   )
 
   ends_here : (files : List File) (marks : List Marked) (file : File) (start count added : ℕ) (mark : Marked) → front ≤ start → start + count + back ≤ (mark_at marks k).lines → Splices start count added (mark_at marks k) mark → EndsUntouched k front back known files marks →
       EndsUntouched k front back known (set files k file) (set marks k mark)
   ends_here files marks file start count added mark a b s u =
-      let is_mark : mark ≡ mark_at (set marks k mark) k = sym (get_or-set_same marks k mark (whole_mark 0) u.1) in
-      (omega (arith, u.0, length-set files k file), omega (arith, u.1, length-set marks k mark), subst (AreUntouched front back known) is_mark (touched_between start count added (mark_at marks k) mark a b s u.2))
+      let is_mark = sym (get_or-set_same marks k mark (whole_mark 0) u.1) in
+      (omega (arith, u.0, length-set files k file), omega (arith, u.1, length-set marks k mark), rw is_mark at (touched_between _ _ _ _ _ a b s u.2))
 
   ends_spliced : (other start count : ℕ) (come : List Text) (old new : Watched) → AreFit old.inputs.files old.marks → LeavesEnds k front back (Splice other start count come) old.inputs → Applies (Splice other start count come) old.inputs (Ok new.inputs) → MarksAfter (Splice other start count come) old new.marks →
       EndsUntouched k front back known old.inputs.files old.marks → EndsUntouched k front back known new.inputs.files new.marks
   ends_spliced other start count come old new fit h a (mark, s, is) u =
-      as_these (spliced old.inputs.files other start count come) new.inputs.files (slice_set old.marks other mark) new.marks (ap (λ (i : Inputs). i.files) (splice_accepted other start count come old.inputs new.inputs a).is) is (by_file h (cases_eq other k))
+      as_these _ _ _ _ (rw ((splice_accepted other start count come old.inputs new.inputs a).is)) is (by_file h (cases_eq other k))
     where
       apart : (other ≡ k → ⊥) → EndsUntouched k front back known (spliced old.inputs.files other start count come) (slice_set old.marks other mark)
-      apart e = ends_apart old.inputs.files old.marks other (record (file_at old.inputs.files other) { lines = splice (file_at old.inputs.files other).lines start (start + count) come }) mark e u
+      apart e = ends_apart _ _ _ _ _ e u
 
       here : (o : ℕ) → o ≡ k → front ≤ start → start + count + back ≤ length (file_at old.inputs.files k).lines → Splices start count (length come) (mark_at old.marks o) mark → EndsUntouched k front back known (spliced old.inputs.files o start count come) (slice_set old.marks o mark)
       here o e first within s =
-          let own : Splices start count (length come) (mark_at old.marks k) mark = subst (λ (m : ℕ). Splices start count (length come) (mark_at old.marks m) mark) e s in
-          let lines : (mark_at old.marks k).lines ≡ length (file_at old.inputs.files k).lines = (fit_at old.inputs.files old.marks fit k u.0).0 in
-          subst (λ (m : ℕ). EndsUntouched k front back known (spliced old.inputs.files m start count come) (slice_set old.marks m mark)) (sym e)
-          (ends_here old.inputs.files old.marks (record (file_at old.inputs.files k) { lines = splice (file_at old.inputs.files k).lines start (start + count) come }) start count (length come) mark first (omega (arith, within, lines)) own u)
+          let own = rw e at s in
+          let lines = (fit_at old.inputs.files old.marks fit k u.0).0 in
+          rw e
+          (ends_here _ _ _ _ _ _ _ first (omega arith) own u)
 
       by_file : LeavesEnds k front back (Splice other start count come) old.inputs → (other ≡ k) ⊎ (other ≡ k → ⊥) → EndsUntouched k front back known (spliced old.inputs.files other start count come) (slice_set old.marks other mark)
       by_file (inl e) q = apart e
@@ -379,7 +376,7 @@ module _ (k front back known : ℕ) where
 
   ends_left : (tried : List Attempt) (old new : Watched) → AreFit old.inputs.files old.marks → EachLeavesEnds k front back tried old new → EndsUntouched k front back known old.inputs.files old.marks →
       AreFit new.inputs.files new.marks × EndsUntouched k front back known new.inputs.files new.marks
-  ends_left [] old new fit same u = subst (λ (w : Watched). AreFit w.inputs.files w.marks × EndsUntouched k front back known w.inputs.files w.marks) (sym same) (fit, u)
+  ends_left [] old new fit same u = rw same (fit, u)
   ends_left (attempt ∷ more) old new fit (between, gives, marked, leaves, rest) u =
       let next = (edits_carry attempt.edit attempt.answer old between fit gives marked).fit in
       ends_left more between new next rest (ends_given attempt.edit attempt.answer old between fit gives marked leaves u)
@@ -391,20 +388,20 @@ module _ (es : List Expression) (options : Options) (front back known : ℕ) whe
     where
       by_back : BackLeft back mark.lines mark.stretches → AreBetween front back known (length file.lines) changes
       by_back b =
-          changes_between es options front back (length file.lines) mark.stretches changes 0 known mark.known mark.lines file.lines (omega (arith, same)) (omega (arith, fit.0)) fit.1 (front_left front mark.stretches before) b c
+          changes_between es options front back (length file.lines) mark.stretches changes 0 known mark.known mark.lines file.lines (omega arith) (omega (arith, fit.0)) fit.1 (front_left front mark.stretches before) b c
 
       by_stretches : (mark.stretches ≡ []) ⊎ (back ≤ mark.lines) → AreBetween front back known (length file.lines) changes
-      by_stretches (inl none) = by_back (subst (BackLeft back mark.lines) (sym none) tt)
-      by_stretches (inr l) = by_back (back_left back mark.lines ((mark.lines - back) + 0) mark.stretches (omega (arith, l)) (after 0))
+      by_stretches (inl none) = by_back (rw none tt)
+      by_stretches (inr l) = by_back (back_left _ _ _ _ (omega arith) (after 0))
 
 pub only_touched : OnlyTouched
 only_touched tried old new k front back es changes inside leave are =
     let files = old.inputs.files in
     let marks = (all_known old).marks in
     let known = length (file_at files k).lines in
-    let long : k < length marks = omega (arith, inside, length-map files (λ (file : File). whole_mark (length file.lines))) in
+    let long : k < length marks = omega (arith, length-map files (λ (file : File). whole_mark (length file.lines))) in
     let whole : mark_at marks k ≡ whole_mark known = known_at files k inside in
-    let begun : AreUntouched front back known (mark_at marks k) = subst (AreUntouched front back known) (sym whole) (refl, inl refl, (λ place l. tt), (λ past. tt)) in
+    let begun : AreUntouched front back known (mark_at marks k) = rw whole (refl, inl refl, (λ place l. tt), (λ past. tt)) in
     let left = ends_left k front back known tried (all_known old) new (known_fit files) leave (inside, long, begun) in
     let change = three-at (ChangesFile es new.inputs.options) new.inputs.files new.marks changes k (file_at [] k) (whole_mark 0) [] left.1.0 are in
     ends_reported es new.inputs.options front back known (file_at new.inputs.files k) (mark_at new.marks k) (changes_at changes k) (fit_at new.inputs.files new.marks left.0 k left.1.0) left.1.2 change

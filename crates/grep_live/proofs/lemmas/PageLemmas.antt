@@ -1,8 +1,7 @@
 -- A page of hits, by those that are left.
 use Rattle.grep_live.proofs.Prelude.{Bool, ◌≡◌, ℕ, zero, suc, ◌+◌, ◌-◌, ◌^◌, ◌<◌, ◌≤◌, List, [], ◌∷◌, ◌++◌, length, map, take, drop, get_or, min, Option, Result, Ok, Err, IfOk, refl, sym, ap, subst, ◌∙◌, arith, map-append, length-map, length-append, take_all, drop_all, Text, Expression, File, Inputs, Status, written, output_line, file_at, GoesOut, StopsWithin, Writes, IsStatusOfInputs, Hit, View, HitsFrom, AreHits, total_row, page_row, page_rows, all_hits, WritesPage, Mean, HitsBetween, IsFirst, IsPlaceAfter}
 use Rattle.grep_session.proofs.lemmas.Writing.{drop-next, WrittenUpTo, none_written, written_on, all_written, broken_off, one_went, one_stopped}
-use Rattle.grep_live.proofs.lemmas.ListingLemmas.{HitsFrom-exist, with_parts}
-use Rattle.grep_live.proofs.lemmas.NumberLemmas.{counted_before}
+use Rattle.grep_live.proofs.lemmas.{ListingLemmas.HitsFrom-exist, ListingLemmas.with_parts, NumberLemmas.counted_before}
 use Rattle.grep_session.proofs.lemmas.FitLemmas.{zip-at, zip-length}
 
 -- ---- a part of a list
@@ -18,7 +17,7 @@ take-none A (suc n) = refl
 -- `count` elements from a place on, of a list and the elements after it
 part_append : (A : Type 0) (s l : ℕ) (xs ys : List A) → take l (drop s (xs ++ ys)) ≡ take l (drop s xs) ++ take (l - (length xs - s)) (drop (s - length xs) ys)
 part_append A s l [] ys =
-    let none : ◌≡◌ {A = List A} (take l (drop s [])) [] = ap (take l) (drop-none A s) ∙ take-none A l in
+    let none : ◌≡◌ {A = List A} (take l (drop s [])) [] = cc (drop-none A s, take-none A l) in
     let same_l : l - (0 - s) ≡ l = omega arith in
     let same_s : s - 0 ≡ s = omega arith in
     sym (λ i. none i ++ take (same_l i) (drop (same_s i) ys))
@@ -50,18 +49,18 @@ all_passed texts s l xs h = ap (λ t. map (page_row texts) (take l t)) (drop_all
 
 -- the page is full
 pub page_full : (texts : Bool) (s : ℕ) (l : ℕ) (xs : List (ℕ × Hit)) → l ≡ 0 → page_rows texts s l xs ≡ []
-page_full texts s l xs e = ap (λ n. map (page_row texts) (take n (drop s xs))) e
+page_full texts s l xs e = rw e
 
 -- as many as are skipped come first
 pub page_after : (texts : Bool) (s l : ℕ) (front back : List (ℕ × Hit)) → s ≡ length front → page_rows texts s l (front ++ back) ≡ page_rows texts 0 l back
 page_after texts s l front back e =
     let skip : s - s ≡ 0 = omega arith in
     let left : l - (s - s) ≡ l = omega arith in
-    page_append texts s l s front back (sym e) ∙ ap (λ rows. rows ++ page_rows texts (s - s) (l - (s - s)) back) (all_passed texts s l front (omega (arith, e))) ∙ (λ i. page_rows texts (skip i) (left i) back)
+    page_append _ s l s _ _ (sym e) ∙ ap (λ rows. rows ++ page_rows texts (s - s) (l - (s - s)) back) (all_passed _ s l _ (omega arith)) ∙ (λ i. page_rows texts (skip i) (left i) back)
 
 -- one of those that are left
 page_next : (texts : Bool) (l : ℕ) (x : ℕ × Hit) (xs : List (ℕ × Hit)) → 0 < l → page_rows texts 0 l (x ∷ xs) ≡ page_row texts x ∷ page_rows texts 0 (l - 1) xs
-page_next texts zero x xs h = absurd (omega (arith, h))
+page_next texts zero x xs h = absurd (omega arith)
 page_next texts (suc l) x xs h =
     let same : l ≡ suc l - 1 = omega arith in
     ap (λ n. page_row texts x ∷ page_rows texts 0 n xs) same
@@ -100,7 +99,7 @@ module _ (texts : Bool) (inputs : Inputs) (k from to count : ℕ) {W : Type 0} (
       next_row : rows (count - shown) s.rest ≡ row ∷ rows (count - (shown + 1)) f.rest
       next_row =
           let one_less : (count - shown) - 1 ≡ count - (shown + 1) = omega arith in
-          ap (rows (count - shown)) f.joined ∙ page_next texts (count - shown) (k, record { place = at; text = text; parts = parts }) (map (λ hit. (k, hit)) f.rest) (omega (arith, more)) ∙ ap (λ n. row ∷ rows n f.rest) one_less
+          ap (rows (count - shown)) f.joined ∙ page_next texts (count - shown) (k, record { place = at; text = text; parts = parts }) (map (λ hit. (k, hit)) f.rest) (omega arith) ∙ ap (λ n. row ∷ rows n f.rest) one_less
 
       pub shown_one : GoesOut contents failures b c (output_line margin (page_row texts (k, record { place = at; text = text; parts = parts }))) → ShownUpTo a c es (at + 1) (shown + 1) all
       shown_one went = record {
@@ -116,7 +115,7 @@ module _ (texts : Bool) (inputs : Inputs) (k from to count : ℕ) {W : Type 0} (
     -- no hit is left
     module _ (none : s.rest ≡ []) where
       pub shown_all : GoesOut contents failures a b (written margin (page_rows texts 0 count (map (λ hit. (k, hit)) all)))
-      shown_all = all_written contents failures margin a b (rows count all) (rows (count - shown) s.rest) (ap (rows (count - shown)) none ∙ page_none texts 0 (count - shown)) s.wrote
+      shown_all = all_written contents failures margin a b (rows count all) (rows (count - shown) s.rest) (cc (page_none _ 0 _)) s.wrote
 
       pub shown_rest : count - shown ≡ count - length all
       shown_rest = omega (arith, s.counted, ap length none)
@@ -125,11 +124,11 @@ module _ (texts : Bool) (inputs : Inputs) (k from to count : ℕ) {W : Type 0} (
     module _ (full : count ≤ shown) where
       pub full_all : GoesOut contents failures a b (written margin (page_rows texts 0 count (map (λ hit. (k, hit)) all)))
       full_all =
-          let none : count - shown ≡ 0 = omega (arith, full) in
-          all_written contents failures margin a b (rows count all) (rows (count - shown) s.rest) (page_full texts 0 (count - shown) (map (λ hit. (k, hit)) s.rest) none) s.wrote
+          let none : count - shown ≡ 0 = omega arith in
+          all_written contents failures margin a b (rows count all) (rows (count - shown) s.rest) (page_full _ 0 _ _ none) s.wrote
 
       pub full_rest : 0 ≡ count - length all
-      full_rest = omega (arith, full, s.counted)
+      full_rest = omega (arith, s.counted)
 
 -- ---- the hits of one file
 
@@ -143,11 +142,11 @@ pub record IsShownFrom (texts : Bool) (es : List Expression) (inputs : Inputs) (
 pub shown_from : (texts : Bool) (es : List Expression) (inputs : Inputs) (k place skip left : ℕ) (hits : List Hit) → place ≤ length (file_at inputs.files k).lines → IsPlaceAfter es inputs k skip place → HitsBetween es inputs k 0 (length (file_at inputs.files k).lines) hits → IsShownFrom texts es inputs k place skip left hits
 shown_from texts es inputs k place skip left hits within is are =
     let p = with_parts es inputs k 0 place (length (file_at inputs.files k).lines) hits (omega arith) within within are in
-    let skipped : skip ≡ length p.front = counted_before es inputs k place skip is.counted p.front p.is_front in
+    let skipped = counted_before es inputs k place skip is.counted p.front p.is_front in
     record {
       shown = p.back;
       are_shown = p.is_back;
-      counted = omega (arith, ap length p.joined, length-append p.front p.back, skipped);
+      counted = omega (arith, ap length p.joined, length-append p.front p.back);
       rows = ap (λ l. page_rows texts skip left (map (λ hit. (k, hit)) l)) p.joined ∙ ap (page_rows texts skip left) (map-append (λ hit. (k, hit)) p.front p.back)
           ∙ page_after texts skip left (map (λ hit. (k, hit)) p.front) (map (λ hit. (k, hit)) p.back) (skipped ∙ sym (length-map p.front (λ hit. (k, hit))));
     }
@@ -158,14 +157,14 @@ shown_from texts es inputs k place skip left hits within is are =
 whole_slice : (es : List Expression) (inputs : Inputs) (k : ℕ) (hits : List Hit) → HitsFrom es inputs.options 0 (file_at inputs.files k).lines hits → HitsBetween es inputs k 0 (length (file_at inputs.files k).lines) hits
 whole_slice es inputs k hits h =
     let lines = (file_at inputs.files k).lines in
-    subst (λ t. HitsFrom es inputs.options 0 t hits) (sym (take_all (length lines - 0) lines (omega arith))) h
+    rw (take_all (length lines - 0) lines (omega arith)) h
 
 -- the hits of file k in a view
 pub hits_at : (es : List Expression) (inputs : Inputs) (view : View) (k : ℕ) → k < length inputs.files → AreHits es inputs.options inputs.files view → HitsBetween es inputs k 0 (length (file_at inputs.files k).lines) (get_or view k [])
 hits_at es inputs view k inside are = whole_slice es inputs k (get_or view k []) (zip-at (λ (file : File) (hits : List Hit). HitsFrom es inputs.options 0 file.lines hits) inputs.files view k (file_at [] k) [] inside are)
 
 next_file : (view : View) (k : ℕ) → k < length view → all_hits k (drop k view) ≡ map (λ hit. (k, hit)) (get_or view k []) ++ all_hits (k + 1) (drop (k + 1) view)
-next_file view k inside = ap (all_hits k) (drop-next view k [] inside)
+next_file view k inside = rw (drop-next view k [] inside)
 
 pub view_long : (es : List Expression) (inputs : Inputs) (view : View) → AreHits es inputs.options inputs.files view → length inputs.files ≡ length view
 view_long es inputs view are = zip-length (λ (file : File) (hits : List Hit). HitsFrom es inputs.options 0 file.lines hits) inputs.files view are
@@ -181,14 +180,14 @@ files_none view = record { passed = 0; counted = omega arith; is_total = omega a
 
 pub files_on : (view : View) (k total found now : ℕ) → k < length view → CountedFiles view k total → found ≡ length (get_or view k []) → now ≡ min (total + found) (2 ^ 64 - 1) → CountedFiles view (k + 1) now
 files_on view k total found now inside s f e =
-    let long : length (all_hits k (drop k view)) ≡ length (get_or view k []) + length (all_hits (k + 1) (drop (k + 1) view)) =
+    let long =
     ap length (next_file view k inside) ∙ length-append (map (λ hit. (k, hit)) (get_or view k [])) (all_hits (k + 1) (drop (k + 1) view)) ∙ ap (λ n. n + length (all_hits (k + 1) (drop (k + 1) view))) (length-map (get_or view k []) (λ hit. (k, hit))) in
-    record { passed = s.passed + found; counted = omega (arith, s.counted, long, f); is_total = omega (arith, s.is_total, e) }
+    record { passed = s.passed + found; counted = omega (arith, s.counted); is_total = omega (arith, s.is_total) }
 
 pub files_all : (view : View) (k total : ℕ) → length view ≤ k → CountedFiles view k total → total ≡ min (length (all_hits 0 view)) (2 ^ 64 - 1)
 files_all view k total past s =
-    let none : length (all_hits k (drop k view)) ≡ 0 = ap (λ v. length (all_hits k v)) (drop_all k view past) in
-    let all : s.passed ≡ length (all_hits 0 view) = omega (arith, s.counted, none) in
+    let none : length (all_hits k (drop k view)) ≡ 0 = rw (drop_all k view past) in
+    let all : s.passed ≡ length (all_hits 0 view) = omega (arith, s.counted) in
     s.is_total ∙ ap (λ n. min n (2 ^ 64 - 1)) all
 
 module _ (texts : Bool) {W : Type 0} (contents : W → Option Text) (failures : W → ℕ) (margin : Text) (first count : ℕ) (view : View) (a b c : W) where
@@ -211,7 +210,7 @@ module _ (texts : Bool) {W : Type 0} (contents : W → Option Text) (failures : 
 
   pub paged_all : (k skip left : ℕ) → length view ≤ k → PagedUpTo a b k skip left → GoesOut contents failures a b (written margin (page_rows texts first count (all_hits 0 view)))
   paged_all k skip left past s =
-      all_written contents failures margin a b (page_rows texts first count (all_hits 0 view)) (page_rows texts skip left (all_hits k (drop k view))) (ap (λ v. page_rows texts skip left (all_hits k v)) (drop_all k view past) ∙ page_none texts skip left) s
+      all_written contents failures margin a b (page_rows texts first count (all_hits 0 view)) (page_rows texts skip left (all_hits k (drop k view))) (cc (drop_all k view past, page_none _ _ _)) s
 
 -- ---- what is shown
 

@@ -1,35 +1,34 @@
 -- A line that edits leave is not reported.
-use Rattle.grep_live.proofs.Prelude.{◌≡◌, ℕ, zero, suc, ◌+◌, ◌<◌, ◌≤◌, List, [], ◌∷◌, ◌++◌, length, take, drop, get_or, Result, Ok, Err, ◌⊎◌, refl, sym, ap, subst, ◌∙◌, inl, inr, arith, set, length-append, length-drop, length-map, length-set, length-take, get_or-set_same, get_or-set_other, get_or_append_left, slice_set, MatchResult, IfHolds, remove, splice, Text, Expression, Options, File, Inputs, file_at, EditFault, Edit, AddFile, AddMissing, DropFile, Splice, AddPatterns, ChangePattern, DropPattern, SetFlag, SetSyntax, SetContext, Applies, EditGives, whole_file, missing_file, spliced, Attempt, accepted, with_accepted, Marked, Stretch, Keeps, Moves, Splices, most_stretches, Watched, whole_mark, new_mark, mark_at, MarksAfter, MarksGiven, Change, AreChanges, ChangesFile, all_known, changes_at, LeavesAll, Stays, EachStays, LeaveLine, splices, UntouchedLines}
-use Rattle.grep_live.proofs.lemmas.ListLemmas.{three-at}
+use Rattle.grep_live.proofs.Prelude.{◌≡◌, ℕ, zero, suc, ◌+◌, ◌<◌, ◌≤◌, List, [], ◌∷◌, ◌++◌, length, take, drop, get_or, Result, Ok, Err, ◌⊎◌, refl, sym, ap, subst, ◌∙◌, inl, inr, arith, set, length-append, length-drop, length-map, length-set, length-take, get_or-set_same, get_or-set_other, get_or_append_left, slice_set, MatchResult, IfHolds, remove, Text, Expression, Options, File, Inputs, file_at, EditFault, Edit, AddFile, AddMissing, DropFile, Splice, AddPatterns, ChangePattern, DropPattern, SetFlag, SetSyntax, SetContext, Applies, EditGives, whole_file, missing_file, spliced, Attempt, accepted, with_accepted, Marked, Stretch, Keeps, Moves, Splices, most_stretches, Watched, whole_mark, new_mark, mark_at, MarksAfter, MarksGiven, Change, AreChanges, ChangesFile, all_known, changes_at, LeavesAll, Stays, EachStays, LeaveLine, splices, UntouchedLines}
+use Rattle.grep_live.proofs.lemmas.{ListLemmas.three-at, OnlyLemmas.all_left, OnlyLemmas.kept_before, OnlyLemmas.known_at}
 use Rattle.grep_live.proofs.lemmas.CarryLemmas.{added_file, added_missing, file_dropped, refused_same, splice_accepted}
-use Rattle.grep_live.proofs.lemmas.OnlyLemmas.{all_left, kept_before, known_at}
 
 -- ---- the changes of a file leave the lines that its mark keeps
 
 module _ (es : List Expression) (options : Options) where
   -- a line before all stretches
   leave_before : (stretches : List Stretch) (changes : List Change) (first place : ℕ) (lines : List Text) → place < first → AreChanges es options first lines stretches changes → LeaveLine changes place place
-  leave_before [] changes first place lines l c = subst (λ (d : List Change). LeaveLine d place place) (sym c) refl
+  leave_before [] changes first place lines l c = rw c refl
   leave_before (stretch ∷ more) [] first place lines l c = absurd c
   leave_before (stretch ∷ more) (change ∷ changes) first place lines l (is_front, is_removed, is_added, are_hits, rest) =
       let past = stretch.kept + stretch.added in
-      (place, inl (omega (arith, l, is_front), refl), leave_before more changes (first + past) place (drop past lines) (omega (arith, l)) rest)
+      (place, inl (omega arith, refl), leave_before more changes (first + past) place (drop past lines) (omega arith) rest)
 
   -- a line that is kept
   leave_kept : (stretches : List Stretch) (changes : List Change) (first old new p q : ℕ) (lines : List Text) → p ≡ first + old → q ≡ first + new → Keeps stretches old new → AreChanges es options first lines stretches changes → LeaveLine changes p q
   leave_kept [] changes first old new p q lines e f keeps c =
-      let same : q ≡ p = omega (arith, e, f, keeps) in
-      subst (λ (d : List Change). LeaveLine d p q) (sym c) same
+      let same : q ≡ p = omega arith in
+      rw c same
   leave_kept (stretch ∷ more) [] first old new p q lines e f keeps c = absurd c
   leave_kept (stretch ∷ more) (change ∷ changes) first old new p q lines e f (inl (l, same)) (is_front, is_removed, is_added, are_hits, rest) =
       let past = stretch.kept + stretch.added in
-      let is : p ≡ q = omega (arith, e, f, same) in
-      let others : LeaveLine changes p p = leave_before more changes (first + past) p (drop past lines) (omega (arith, e, l)) rest in
+      let is : p ≡ q = omega arith in
+      let others : LeaveLine changes p p = leave_before more changes (first + past) p (drop past lines) (omega arith) rest in
       (p, inl (omega (arith, e, l, is_front), refl), subst (LeaveLine changes p) is others)
   leave_kept (stretch ∷ more) (change ∷ changes) first old new p q lines e f (inr (past, later, was, is, keeps)) (is_front, is_removed, is_added, are_hits, rest) =
       let end = stretch.kept + stretch.added in
       let moved = change.front + change.added + past in
-      (moved, inr (past, omega (arith, e, was, is_front, is_removed), refl), leave_kept more changes (first + end) past later moved q (drop end lines) (omega (arith, is_front, is_added)) (omega (arith, f, is)) keeps rest)
+      (moved, inr (past, omega arith, refl), leave_kept more changes (first + end) past later moved q (drop end lines) (omega arith) (omega arith) keeps rest)
 
 -- ---- edits that leave a line
 
@@ -43,11 +42,11 @@ kept_after : {A : Type 0} (xs : List A) (other j : ℕ) (d : A) → other ≤ j 
 kept_after [] zero j d l = refl
 kept_after [] (suc other) j d l = refl
 kept_after (x ∷ xs) zero j d l = refl
-kept_after (x ∷ xs) (suc other) zero d l = absurd (omega (arith, l))
-kept_after (x ∷ xs) (suc other) (suc j) d l = kept_after xs other j d (omega (arith, l))
+kept_after (x ∷ xs) (suc other) zero d l = absurd (omega arith)
+kept_after (x ∷ xs) (suc other) (suc j) d l = kept_after xs _ j d (omega arith)
 
 inside_after : {A : Type 0} (xs : List A) (other j : ℕ) → other ≤ j → suc j < length xs → j < length (remove xs other)
-inside_after xs other j l h = omega (arith, l, h, length-append (take other xs) (drop (suc other) xs), length-take other xs, length-drop (suc other) xs)
+inside_after xs other j l h = omega (arith, length-append (take other xs) (drop (suc other) xs), length-take other xs, length-drop (suc other) xs)
 
 module _ (first : ℕ) where
   -- the same line
@@ -58,26 +57,26 @@ module _ (first : ℕ) where
   -- other lists with the same mark at this place
   same_mark : (k j line most : ℕ) (files new : List File) (marks more : List Marked) → j < length new → j < length more → mark_at more j ≡ mark_at marks k → IsKept first k line most files marks → IsKept first j line most new more
   same_mark k j line most files new marks more a b is u =
-      (a, b, subst (λ (m : Marked). Keeps m.stretches first line) (sym is) u.2, subst (λ (m : Marked). length m.stretches ≤ most) (sym is) u.3)
+      (a, b, rw is u.2, rw is u.3)
 
   line_added : (k line most : ℕ) (files : List File) (marks : List Marked) (file : File) (mark : Marked) → IsKept first k line most files marks → IsKept first k line most (files ++ file ∷ []) (marks ++ mark ∷ [])
   line_added k line most files marks file mark u =
-      same_mark k k line most files (files ++ file ∷ []) marks (marks ++ mark ∷ []) (omega (arith, u.0, length-append files (file ∷ []))) (omega (arith, u.1, length-append marks (mark ∷ []))) (get_or_append_left marks (mark ∷ []) (whole_mark 0) k u.1) u
+      same_mark k k _ _ _ _ _ _ (omega (arith, u.0, length-append files (file ∷ []))) (omega (arith, u.1, length-append marks (mark ∷ []))) (get_or_append_left marks (mark ∷ []) (whole_mark 0) k u.1) u
 
   line_dropped : (k j line most other : ℕ) (files : List File) (marks : List Marked) → ((k < other) × (j ≡ k)) ⊎ ((other < k) × (j + 1 ≡ k)) → IsKept first k line most files marks → IsKept first j line most (remove files other) (remove marks other)
   line_dropped k j line most other files marks (inl (l, e)) u =
       let file = kept_before files k other (file_at [] k) l u.0 in
       let mark = kept_before marks k other (whole_mark 0) l u.1 in
-      subst (λ (z : ℕ). IsKept first z line most (remove files other) (remove marks other)) (sym e) (same_mark k k line most files (remove files other) marks (remove marks other) file.0 mark.0 mark.1 u)
+      rw e (same_mark k k line most files (remove files other) marks (remove marks other) file.0 mark.0 mark.1 u)
   line_dropped k j line most other files marks (inr (l, e)) u =
-      let is : suc j ≡ k = omega (arith, e) in
-      same_mark k j line most files (remove files other) marks (remove marks other) (inside_after files other j (omega (arith, l, e)) (omega (arith, e, u.0))) (inside_after marks other j (omega (arith, l, e)) (omega (arith, e, u.1)))
-      (kept_after marks other j (whole_mark 0) (omega (arith, l, e)) ∙ ap (λ n. get_or marks n (whole_mark 0)) is) u
+      let is : suc j ≡ k = omega arith in
+      same_mark k j line most files (remove files other) marks (remove marks other) (inside_after files other j (omega arith) (omega (arith, u.0))) (inside_after marks other j (omega arith) (omega (arith, u.1)))
+      (kept_after marks other j (whole_mark 0) (omega arith) ∙ ap (λ n. get_or marks n (whole_mark 0)) is) u
 
   -- lines of another file were replaced
   line_apart : (k line most other : ℕ) (files : List File) (marks : List Marked) (file : File) (mark : Marked) → (other ≡ k → ⊥) → IsKept first k line most files marks → IsKept first k line most (set files other file) (set marks other mark)
   line_apart k line most other files marks file mark apart u =
-      same_mark k k line most files (set files other file) marks (set marks other mark) (omega (arith, u.0, length-set files other file)) (omega (arith, u.1, length-set marks other mark)) (get_or-set_other marks other k mark (whole_mark 0) (λ e. apart (sym e))) u
+      same_mark k k _ _ _ _ _ _ (omega (arith, u.0, length-set files other file)) (omega (arith, u.1, length-set marks other mark)) (get_or-set_other marks other k mark (whole_mark 0) (λ e. apart (sym e))) u
 
   -- lines of this file were replaced
   line_here : (k line now most start count added : ℕ) (files : List File) (marks : List Marked) (file : File) (mark : Marked) → most < most_stretches → Moves start count added line now → Splices start count added (mark_at marks k) mark → IsKept first k line most files marks →
@@ -86,12 +85,12 @@ module _ (first : ℕ) where
       let is : mark ≡ mark_at (set marks k mark) k = sym (get_or-set_same marks k mark (whole_mark 0) u.1) in (
         omega (arith, u.0, length-set files k file),
         omega (arith, u.1, length-set marks k mark),
-        subst (λ (m : Marked). Keeps m.stretches first now) is (s.all (omega (arith, u.3, few)) first line now u.2 moves),
+        rw is at (s.all (omega (arith, u.3)) first line now u.2 moves),
         subst (λ (m : Marked). length m.stretches ≤ most + 1) is (omega (arith, u.3, s.one_more)),
       )
 
   more_kept : (k line most more : ℕ) (files : List File) (marks : List Marked) → most ≤ more → IsKept first k line most files marks → IsKept first k line more files marks
-  more_kept k line most more files marks l u = (u.0, u.1, u.2, omega (arith, u.3, l))
+  more_kept k line most more files marks l u = (u.0, u.1, u.2, omega (arith, u.3))
 
   line_spliced : (k line j now most other start count : ℕ) (come : List Text) (old new : Watched) → most < most_stretches → Stays k line (Splice other start count come) old.inputs j now → Applies (Splice other start count come) old.inputs (Ok new.inputs) →
       MarksAfter (Splice other start count come) old new.marks → IsKept first k line most old.inputs.files old.marks → IsKept first j now (most + 1) new.inputs.files new.marks
@@ -100,16 +99,16 @@ module _ (first : ℕ) where
     where
       here : (o : ℕ) → o ≡ k → Moves start count (length come) line now → Splices start count (length come) (mark_at old.marks o) mark → IsKept first k now (most + 1) (spliced old.inputs.files o start count come) (slice_set old.marks o mark)
       here o same moves s =
-          let own : Splices start count (length come) (mark_at old.marks k) mark = subst (λ (m : ℕ). Splices start count (length come) (mark_at old.marks m) mark) same s in
-          subst (λ (m : ℕ). IsKept first k now (most + 1) (spliced old.inputs.files m start count come) (slice_set old.marks m mark)) (sym same)
-          (line_here k line now most start count (length come) old.inputs.files old.marks (record (file_at old.inputs.files k) { lines = splice (file_at old.inputs.files k).lines start (start + count) come }) mark few moves own u)
+          let own = rw same at s in
+          rw same
+          (line_here k _ _ _ _ _ _ _ _ _ _ few moves own u)
 
       by_file : IfHolds (other ≡ k) (Moves start count (length come) line now) (now ≡ line) → IsKept first k now (most + 1) (spliced old.inputs.files other start count come) (slice_set old.marks other mark)
       by_file (inl (same, moves)) = here other same moves s
       by_file (inr (apart, stays)) =
-          subst (λ (z : ℕ). IsKept first k z (most + 1) (spliced old.inputs.files other start count come) (slice_set old.marks other mark)) (sym stays)
-          (more_kept k line most (most + 1) (spliced old.inputs.files other start count come) (slice_set old.marks other mark) (omega arith)
-          (line_apart k line most other old.inputs.files old.marks (record (file_at old.inputs.files other) { lines = splice (file_at old.inputs.files other).lines start (start + count) come }) mark apart u))
+          rw stays
+          (more_kept k _ _ _ _ _ (omega arith)
+          (line_apart k _ _ _ _ _ _ _ apart u))
 
   -- the line after one edit, and how many stretches there are at most
   abbrev Further : ℕ → ℕ → ℕ → Watched → Type 0
@@ -133,7 +132,7 @@ module _ (first : ℕ) where
   line_accepted (DropFile other) later k line j now most old new few (e, f) a m u =
       (most, few, at_these j j line now most (remove old.inputs.files other) new.inputs.files (remove old.marks other) new.marks refl f (ap (λ (i : Inputs). i.files) (file_dropped other old.inputs new.inputs a)) m (line_dropped k j line most other old.inputs.files old.marks e u))
   line_accepted (Splice other start count come) later k line j now most old new few h a m u =
-      (most + 1, omega (arith, few), line_spliced k line j now most other start count come old new (omega (arith, few)) h a m u)
+      (most + 1, omega arith, line_spliced k line j now most other start count come old new (omega arith) h a m u)
   line_accepted (AddPatterns list) later k line j now most old new few h a m u = absurd h.0
   line_accepted (DropPattern p) later k line j now most old new few h a m u = absurd h.0
   line_accepted (ChangePattern p text) later k line j now most old new few h a m u = line_same (ChangePattern p text) later k line j now most old new few h a m u
@@ -149,14 +148,14 @@ module _ (first : ℕ) where
 
   line_left : (tried : List Attempt) (k line j now most : ℕ) (old new : Watched) → most + splices (accepted tried) ≤ most_stretches → EachStays k line tried old new j now → IsKept first k line most old.inputs.files old.marks → Further j now 0 new
   line_left [] k line j now most old new few (same, e, f) u =
-      (most, omega (arith, few), at_these k j line now most old.inputs.files new.inputs.files old.marks new.marks e f (ap (λ (w : Watched). w.inputs.files) same) (ap (λ (w : Watched). w.marks) same) u)
+      (most, omega arith, at_these k j line now most old.inputs.files new.inputs.files old.marks new.marks e f (ap (λ (w : Watched). w.inputs.files) same) (ap (λ (w : Watched). w.marks) same) u)
   line_left (attempt ∷ more) k line j now most old new few (between, file, place, gives, marked, stays, rest) u =
       let next = line_given attempt.edit attempt.answer (accepted more) k line file place most old between few gives marked stays u in
       line_left more file place j now next.0 between new next.1 rest next.2
 
 -- a file of which there is a line is there
 file_there : (files : List File) (k line : ℕ) → line < length (file_at files k).lines → k < length files
-file_there [] k line l = absurd (omega (arith, l))
+file_there [] k line l = absurd (omega arith)
 file_there (file ∷ files) zero line l = omega arith
 file_there (file ∷ files) (suc k) line l = omega (arith, file_there files k line l)
 
@@ -165,10 +164,10 @@ untouched_lines tried old new k line j now es changes within few stays are =
     let files = old.inputs.files in
     let marks = (all_known old).marks in
     let inside = file_there files k line within in
-    let long : k < length marks = omega (arith, inside, length-map files (λ (file : File). whole_mark (length file.lines))) in
+    let long : k < length marks = omega (arith, length-map files (λ (file : File). whole_mark (length file.lines))) in
     let whole : mark_at marks k ≡ whole_mark (length (file_at files k).lines) = known_at files k inside in
     let begun : IsKept line k line 0 files marks =
-    (inside, long, subst (λ (m : Marked). Keeps m.stretches line line) (sym whole) refl, subst (λ (m : Marked). length m.stretches ≤ 0) (sym whole) (omega arith)) in
-    let left = line_left line tried k line j now 0 (all_known old) new (omega (arith, few)) stays begun in
+    (inside, long, rw whole refl, rw whole (omega arith)) in
+    let left = line_left line tried k line j now 0 (all_known old) new (omega arith) stays begun in
     let change = three-at (ChangesFile es new.inputs.options) new.inputs.files new.marks changes j (file_at [] j) (whole_mark 0) [] left.2.0 are in
     leave_kept es new.inputs.options (mark_at new.marks j).stretches (changes_at changes j) 0 line now line now (file_at new.inputs.files j).lines (omega arith) (omega arith) left.2.2 change

@@ -1,6 +1,6 @@
 -- A pattern's text is in that of another: it matches each line that the other one matches.
 use Rattle.grep_session.proofs.Prelude.{take-append-drop, ◌≡◌, ℕ, ◌+◌, ◌≤◌, Bool, true, false, List, [], ◌∷◌, ◌++◌, length, map, take, drop, Option, None, Some, is_some, Decides, MatchBool, if◌then◌else◌, refl, sym, ap, subst, ◌∙◌, arith, length-append, map-append, drop-append_seam, false≢true, Text, Expression, byte, cat, sequence, Holds, Matches, folded, Syntax, Fixed, IsMeant, IsSpelled, Options, FindsNeedle, Narrows}
-use Rattle.re_syntax.specs.Spelled.{as_fixed}
+use Rattle.re_syntax.proofs.lemmas.FixedTokens.{fixed_spelled}
 use Rattle.re_syntax.proofs.lemmas.FixedStrings.{sequence-cat, cat-sequence}
 use Rattle.re_syntax.proofs.lemmas.FoldedLaws.{folded-cat}
 use Rattle.re_syntax.proofs.lemmas.HoldsDecided.{Holds-le}
@@ -49,7 +49,7 @@ module _ (line : Text) (fold : Bool) where
 string_means : (syntax : Syntax) (fold : Bool) (t : Text) (e : Expression) → syntax ≡ Fixed → IsMeant syntax fold t e → e ≡ string_expression fold t
 string_means syntax fold t e fixed m =
     let spelled = subst (λ s. IsSpelled s t m.0) fixed m.1 in
-    m.2 ∙ ap (λ s. if fold then folded s else s) (spells_one t Fixed m.0 (sequence (map byte t)) spelled as_fixed)
+    m.2 ∙ ap (λ s. if fold then folded s else s) (spells_one t Fixed m.0 (sequence (map byte t)) spelled (fixed_spelled t))
 
 -- a pattern whose text is in that of another matches its lines
 pub narrower_string : (syntax : Syntax) (options : Options) (old new : Text) (gone come : Expression) → Narrows syntax options old new → IsMeant syntax options.ignore_case old gone → IsMeant syntax options.ignore_case new come → (line : Text) → Matches come line options.line_regexp → Matches gone line options.line_regexp

@@ -3,7 +3,7 @@ use Rattle.std.specs.Prelude.{◌≡◌, Result, Ok, Err, All}
 use Rattle.re_syntax.specs.declared.syntax.Syntax.{Syntax}
 use Rattle.re_search.specs.Reading.{IsReadable}
 use Rattle.grep_core.specs.{declared.options.Options.Options, Files.Inputs}
-use Rattle.grep_session.specs.{declared.fault.EditFault.EditFault}
+use Rattle.grep_session.specs.declared.fault.EditFault.{EditFault}
 use Rattle.grep_session.specs.{declared.fault.EditFault.TheVariants.Memory, Edits.Reads}
 
 -- the inputs with another syntax and other options

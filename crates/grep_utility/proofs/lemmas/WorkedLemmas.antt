@@ -1,10 +1,11 @@
 -- One command from its words to its bytes, worked by hand.
-use Rattle.grep_utility.proofs.Prelude.{◌≡◌, ℕ, zero, suc, ◌≤◌, nat_eq, true, false, List, [], ◌∷◌, Option, Some, Ok, All, refl, sym, ap, ◌∙◌, subst, arith, inl, inr, codes, ⊎_elim, ◌⊎◌, ⊤, false≢true, All-nil, All-cons, Basic, Text, Expression, byte, Matches, list_of, IsMeant, as_basic, IsReadable, Options, no_options, Error, IsShown, Groups, File, whole, missing, Selected, HasSelected, FaultMet, Messages, StatusOf, Out, Source, Writer, devices, Steps, CommandGives, Folder, sources_named, IsKnown, full_files, unopened, Predicts, FailuresAre, Wrote, ReportsMemory, Asked, list, read, word_of, meaning_of, row_words, row_text, row_output, row_messages, RowFollows}
+use Rattle.grep_utility.proofs.Prelude.{◌≡◌, ℕ, zero, suc, ◌≤◌, nat_eq, true, false, List, [], ◌∷◌, Option, Some, Ok, All, refl, sym, ap, ◌∙◌, subst, arith, inl, inr, codes, ⊎_elim, ◌⊎◌, ⊤, false≢true, All-nil, All-cons, Basic, Text, Expression, byte, Matches, list_of, IsMeant, IsReadable, Options, no_options, Error, IsShown, Groups, File, whole, missing, Selected, HasSelected, FaultMet, Messages, StatusOf, Out, Source, Writer, devices, Steps, CommandGives, Folder, sources_named, IsKnown, full_files, unopened, Predicts, FailuresAre, Wrote, ReportsMemory, Asked, list, read, word_of, meaning_of, row_words, row_text, row_output, row_messages, RowFollows}
 use Rattle.std.specs.Str.{chars}
 use Rattle.std.specs.Fmt.{digits}
 use Rattle.re_syntax.specs.Lines.{lines_of}
-use Rattle.re_syntax.specs.Basic as basic
+use Rattle.re_syntax.specs.BasicTokens.{ordinary}
 use Rattle.re_syntax.proofs.lemmas.Decisions.{Any-first, Any-later, Any-cases, Any-none}
+use Rattle.re_syntax.proofs.lemmas.SpelledParts.{single, none, item, last, spells}
 use Rattle.grep_utility.proofs.lemmas.FullLemmas.{predicted}
 
 -- ---- what the words ask for
@@ -22,7 +23,7 @@ row_read = refl
 -- ---- what the pattern means
 
 pub a_meant : IsMeant Basic false (codes "a") (byte 97)
-a_meant = (byte 97, as_basic (basic.last (basic.item (basic.atom (basic.ordinary 97 refl (λ is. let no : ⊥ = omega (arith, is) in absurd no))) basic.none)) (omega arith), refl)
+a_meant = (byte 97, spells (last (item (single (ordinary 97 refl)) none)) (omega arith), refl)
 
 in_itself : Matches (byte 97) (97 ∷ []) false
 in_itself = (0, 1, omega arith, (97, refl, refl, refl))

@@ -3,7 +3,7 @@ use Rattle.std.specs.Prelude.{◌≡◌, ℕ, Bool, List, ◌++◌, All, Option,
 use Rattle.re_syntax.specs.{Bytes.Text, Lines.terminated, Lines.HasNoNewline}
 use Rattle.grep_core.specs.{Files.whole, Files.broken, Messages.cannot_open, Messages.read_error}
 use Rattle.grep_core.specs.{Working.Handed.StandsFor, Run.count_more}
-use Rattle.grep_utility.specs.{declared.patterns.FileRead.FileRead}
+use Rattle.grep_utility.specs.declared.patterns.FileRead.{FileRead}
 use Rattle.grep_utility.specs.{declared.patterns.PatternsFault.PatternsFault, Folder.Folder}
 use Rattle.grep_utility.specs.{Folder.display_name, Patterns.Unread, Patterns.FileGives}
 use Rattle.grep_utility.specs.{Patterns.GivesPatterns, Texts.out_of_memory, Words.PatternsFrom}

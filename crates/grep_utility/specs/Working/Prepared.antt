@@ -8,8 +8,8 @@ use Rattle.grep_utility.specs.{declared.prepare.CommandFault.CommandFault, Folde
 use Rattle.grep_utility.specs.{Patterns.folder_after_all, Patterns.GivePatterns}
 use Rattle.grep_utility.specs.{Patterns.FirstUnread, Texts.too_many_patterns, Texts.pattern_refused}
 use Rattle.grep_utility.specs.{Words.Asked, Working.CollectedTexts.StopsFor}
-use Rattle.grep_utility.specs.{Working.CollectedTexts.reported_of_patterns}
-use Rattle.grep_utility.specs.{Working.ServingMatchers.ServeFor}
+use Rattle.grep_utility.specs.Working.CollectedTexts.{reported_of_patterns}
+use Rattle.grep_utility.specs.Working.ServingMatchers.{ServeFor}
 
 module _ (asked : Asked) (folder : Folder) where
   -- the patterns are read, and these matchers serve for them; `after` is then known of the files

@@ -7,7 +7,7 @@ use Rattle.re_search.specs.Working.Matchers.{wants_whole}
 use Rattle.re_search.specs.{declared.matcher.Matcher.Matcher, Reading.IsReadable}
 use Rattle.re_search.specs.{Working.Literals.any_literal, Working.Literals.literal_meaning}
 use Rattle.re_search.specs.{declared.pattern.Pattern.Pattern, Working.Patterns.meant_by}
-use Rattle.re_search.specs.{Working.Patterns.IsPattern}
+use Rattle.re_search.specs.Working.Patterns.{IsPattern}
 use Rattle.grep_core.specs.{declared.options.Options.Options, Files.AreMeant}
 use Rattle.grep_core.specs.{Working.MatcherLists.KeepAtMost, Working.SameChoice.IsSameChoice}
 

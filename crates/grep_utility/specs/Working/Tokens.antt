@@ -6,11 +6,11 @@ use Rattle.grep_utility.specs.Words.{Token, flag, reads_as, source, list, file, 
 use Rattle.grep_utility.specs.Words.{fault, an_operand, ends_options, a_group, word_of, group}
 use Rattle.grep_utility.specs.Words.{pieces, texts_of, read, Asked, PatternsFrom, Draft}
 use Rattle.grep_utility.specs.declared.words.tokens.Word.TheVariants.{Operand, EndOfOptions, Group}
-use Rattle.grep_utility.specs.{declared.words.UsageFault.UsageFault}
-use Rattle.grep_utility.specs.{declared.words.UsageFault.TheVariants.Memory}
-use Rattle.grep_utility.specs.{declared.words.PatternSource.PatternSource}
-use Rattle.grep_utility.specs.{declared.words.Request.Request}
-use Rattle.grep_utility.specs.{declared.words.tokens.WordTokens.WordTokens}
+use Rattle.grep_utility.specs.declared.words.UsageFault.{UsageFault}
+use Rattle.grep_utility.specs.declared.words.UsageFault.TheVariants.{Memory}
+use Rattle.grep_utility.specs.declared.words.PatternSource.{PatternSource}
+use Rattle.grep_utility.specs.declared.words.Request.{Request}
+use Rattle.grep_utility.specs.declared.words.tokens.WordTokens.{WordTokens}
 use Rattle.grep_utility.specs.declared.words.PatternSource.TheVariants as given
 use Rattle.grep_utility.specs.declared.words.Draft as code_draft
 use Rattle.grep_utility.specs.declared.words.tokens.Token as code

@@ -3,7 +3,7 @@ use Rattle.std.specs.Prelude.{◌≡◌, ℕ, true, false, List, [], ◌∷◌, 
 use Rattle.re_syntax.specs.Bytes.{Text}
 use Rattle.grep_core.specs.{declared.status.Status.TheVariants.Error, Run.Devices}
 use Rattle.grep_utility.specs.{Command.CommandGives, Folder.Folder, Working.Known.HasReturned}
-use Rattle.grep_utility.specs.{Working.Known.WritesJust}
+use Rattle.grep_utility.specs.Working.Known.{WritesJust}
 
 -- `grep -n -B 2 a h missing`, where the file `h` has three lines and there is no file `missing`
 abbrev pub row_words : List Text

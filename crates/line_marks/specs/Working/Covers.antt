@@ -1,7 +1,7 @@
 -- What is left untouched where lines are lost, and where lines are replaced by others.
 use Rattle.std.specs.Prelude.{◌≡◌, ℕ, ◌+◌, ◌-◌, ◌<◌, ◌≤◌, ◌⊎◌, List, length}
-use Rattle.line_marks.specs.declared.stretch.Stretch.{Stretch}
 use Rattle.line_marks.specs.Stretches.{Fits, Keeps, IsBefore, IsAfter, Moves, most_stretches}
+use Rattle.line_marks.specs.declared.stretch.Stretch.{Stretch}
 
 -- between stretches lines may be lost, but none before all of them or after all of them
 pub record Loses (old new : List Stretch) : Type 0 where

@@ -1,7 +1,6 @@
 -- Where a line is among stretches, and stretches that lose lines to the one before them.
 use Rattle.std.specs.Prelude.{◌≡◌, ℕ, ◌+◌, ◌-◌, ◌^◌, ◌<◌, ◌≤◌, ⊤, List, [], ◌∷◌}
-use Rattle.line_marks.specs.declared.stretch.Stretch.{Stretch}
-use Rattle.line_marks.specs.Stretches.{Fits}
+use Rattle.line_marks.specs.{declared.stretch.Stretch.Stretch, Stretches.Fits}
 
 -- the stretches are of a file that had and has fewer than 2^64 lines, and has `end` or more
 pub record AreCounted (end : ℕ) (stretches : List Stretch) : Type 0 where

@@ -1,7 +1,6 @@
 -- Classes of bytes with equal rows.
 use Rattle.std.specs.Prelude.{◌≡◌, ◌≢◌, ℕ, ◌+◌, ◌*◌, ◌<◌, ◌≤◌, max, List, length, slice_index}
-use Rattle.re_auto.specs.declared.build.classes.Classes.{Classes}
-use Rattle.re_auto.specs.Working.Bits.{row_of}
+use Rattle.re_auto.specs.{declared.build.classes.Classes.Classes, Working.Bits.row_of}
 
 -- the row of each byte is that of its class, and bytes with the same row have the same class
 pub record AreClasses (rows : List ℕ) (width : ℕ) (classes : Classes) : Type 0 where

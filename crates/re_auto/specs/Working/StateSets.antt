@@ -1,13 +1,9 @@
 -- What a set of positions means on a line and at a place.
 use Rattle.std.specs.Prelude.{◌≡◌, ℕ, ◌<◌, ◌↔◌, Bool, List, false, length, slice_index}
-use Rattle.re_trees.specs.Bytes.{Text}
-use Rattle.re_trees.specs.Expression.{Expression}
-use Rattle.re_trees.specs.Holds.{positions}
-use Rattle.re_auto.specs.declared.mode.Mode.{Mode}
-use Rattle.re_auto.specs.declared.step.state_set.StateSet.{StateSet}
-use Rattle.re_auto.specs.Working.Bits.{Has}
-use Rattle.re_auto.specs.Working.Positions.{is_begin, part_of}
+use Rattle.re_trees.specs.{Bytes.Text, Expression.Expression, Holds.positions}
 use Rattle.re_auto.specs.Working.SteppedSets.{IsAfter, IsNext, Accepts}
+use Rattle.re_auto.specs.{declared.mode.Mode.Mode, declared.step.state_set.StateSet.StateSet}
+use Rattle.re_auto.specs.{Working.Bits.Has, Working.Positions.is_begin, Working.Positions.part_of}
 use Rattle.re_auto.specs.Working.Tables.{words_for}
 
 -- the set was made for the automaton of this expression, and has only its positions

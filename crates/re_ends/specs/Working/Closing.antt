@@ -1,13 +1,11 @@
 -- What is known while a step back makes groups before a byte, one for each end in turn.
 use Rattle.std.specs.Prelude.{◌≡◌, ℕ, ◌<◌, ◌≤◌, ◌↔◌, ◌⊎◌, Bool, List, length, slice_index}
-use Rattle.re_trees.specs.Expression.{Expression}
-use Rattle.re_trees.specs.Holds.{positions}
-use Rattle.re_auto.specs.declared.ranges.WordRange.{WordRange}
-use Rattle.re_auto.specs.Working.Bits.{Has}
-use Rattle.re_auto.specs.Working.Positions.{part_of}
-use Rattle.re_auto.specs.Working.Ranges.{Covers}
+use Rattle.re_trees.specs.{Expression.Expression, Holds.positions}
+use Rattle.re_auto.specs.{declared.ranges.WordRange.WordRange, Working.Bits.Has}
+use Rattle.re_auto.specs.{Working.Positions.part_of, Working.Ranges.Covers}
+use Rattle.re_ends.specs.Working.Groups.{group_of, AreFull, AreGroupsFor, AreInTurn, CanHave, Grow}
+use Rattle.re_ends.specs.Working.Groups.{HasGroups, In, IsRow, Names, numbers_of}
 use Rattle.re_ends.specs.declared.groups.Groups.{Groups}
-use Rattle.re_ends.specs.Working.Groups.{group_of, AreFull, AreGroupsFor, AreInTurn, CanHave, Grow, HasGroups, In, IsRow, Names, numbers_of}
 
 -- the expression, the byte and whether it is the line's last, the groups after it and their number
 pub record Byte : Type 0 where

@@ -1,13 +1,11 @@
 -- Greatest ends: for each position, the greatest place at which a stretch can end that takes the
 -- byte at a place with it.
-use Rattle.std.specs.Prelude.{◌≡◌, ℕ, zero, suc, ◌+◌, ◌<◌, ◌≤◌, ◌↔◌, ◌⊎◌, Bool, List, Option, Some, None, length, slice_index}
-use Rattle.re_trees.specs.Bytes.{Text}
-use Rattle.re_trees.specs.Expression.{Expression}
-use Rattle.re_trees.specs.Holds.{Holds}
-use Rattle.re_trees.specs.Parts.{IsFound}
-pub use Rattle.re_trees.specs.Working.PutEnds.{AddsEnds}
+use Rattle.std.specs.Prelude.{◌≡◌, ℕ, zero, suc, ◌+◌, ◌<◌, ◌≤◌, ◌↔◌, ◌⊎◌, Bool, List, Option, Some}
+use Rattle.std.specs.Prelude.{None, length, slice_index}
+use Rattle.re_trees.specs.{Bytes.Text, Expression.Expression, Holds.Holds, Parts.IsFound}
 use Rattle.re_trees.specs.declared.span.Span.{Span}
 use Rattle.re_auto.specs.Working.Positions.{Part, part_of, is_end, ByteAt}
+pub use Rattle.re_trees.specs.Working.PutEnds.{AddsEnds}
 
 -- A stretch that takes the byte at place p with position q can take n bytes more and end there.
 abbrev pub Leads : Part → Text → ℕ → ℕ → ℕ → Type 0

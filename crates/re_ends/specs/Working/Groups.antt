@@ -1,18 +1,13 @@
 -- Groups of positions at a place of a line: those of a group have the same greatest end, and the groups
 -- with greater ends come first. A row has the pieces of all groups, and a list has the groups' ends.
-use Rattle.std.specs.Prelude.{◌≡◌, ℕ, zero, suc, ◌/◌, ◌%◌, ◌^◌, ◌<◌, ◌≤◌, ◌↔◌, ◌⊎◌, Bool, List, [], ◌∷◌, ◌++◌, flat_map, length, map, slice_index, vec_capacity}
-use Rattle.std.specs.Int.{bit_at}
-use Rattle.std.specs.List.{range_with_len}
-use Rattle.re_trees.specs.Bytes.{Text}
-use Rattle.re_trees.specs.Expression.{Expression}
-use Rattle.re_trees.specs.Holds.{positions}
+use Rattle.std.specs.Prelude.{◌≡◌, ℕ, zero, suc, ◌/◌, ◌%◌, ◌^◌, ◌<◌, ◌≤◌, ◌↔◌, ◌⊎◌, Bool, List, []}
+use Rattle.std.specs.Prelude.{◌∷◌, ◌++◌, flat_map, length, map, slice_index, vec_capacity}
+use Rattle.std.specs.{Int.bit_at, List.range_with_len}
+use Rattle.re_trees.specs.{Bytes.Text, Expression.Expression, Holds.positions}
 use Rattle.re_trees.specs.Limits.{most_positions}
-use Rattle.re_auto.specs.Working.Positions.{Part}
-use Rattle.re_auto.specs.Working.Tables.{words_for}
-use Rattle.re_ends.specs.declared.groups.Groups.{Groups}
-use Rattle.re_ends.specs.declared.list.Run.{Run}
-use Rattle.re_ends.specs.Working.GreatestEnds.{LeadsPast}
-use Rattle.re_ends.specs.Working.Preceding.{ArePrecedingFor}
+use Rattle.re_auto.specs.{Working.Positions.Part, Working.Tables.words_for}
+use Rattle.re_ends.specs.{declared.groups.Groups.Groups, declared.list.Run.Run}
+use Rattle.re_ends.specs.{Working.GreatestEnds.LeadsPast, Working.Preceding.ArePrecedingFor}
 
 -- the ends of groups, and how many there is room for
 pub record Ends : Type 0 where

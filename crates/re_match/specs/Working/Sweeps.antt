@@ -10,7 +10,7 @@ use Rattle.re_needle.specs.Working.Needles.{RunIsNeeded, RunBegins}
 use Rattle.re_match.specs.declared.sweeps.Stop.TheVariants.{Unseen, Seen, Decided}
 use Rattle.re_match.specs.{Working.Literals.Literals, Working.Literals.LooksForAny}
 use Rattle.re_match.specs.{Working.Prefilters.AreNeeded, declared.sweeps.Stop.Stop}
-use Rattle.re_match.specs.{declared.sweeps.Sweep.Sweep}
+use Rattle.re_match.specs.declared.sweeps.Sweep.{Sweep}
 
 -- how many bytes of a line may still be passed
 abbrev pub left_for : Stop → ℕ → ℕ

@@ -1,9 +1,9 @@
 -- What the text of a pattern is read as and means, and why it is refused.
-use Rattle.re_search.proofs.Prelude.{◌≡◌, ℕ, ◌+◌, ◌*◌, ◌<◌, ◌^◌, List, [], ◌∷◌, ◌++◌, length, IsTrue, Bool, true, false, true≢false, inl, inr, map, refl, sym, ap, ◌∙◌, ◌≤◌, arith, if◌then◌else◌, PatternFault, Syntax, Fixed, Text, HasPositions, TooLarge, Expression, empty, one_of, none_of, begin, end, cat_none, cat_more, alt_none, alt_more, repeat, byte, cat, alt, sequence, folded, copies, positions, most_positions, up_to_word, IsMeant, IsSpelled, as_fixed, expression_of, has_limit, IsSmallFor, IsReadable, IsRefusedFor, Pattern, String, Tree, pattern_expression, meaning, meant_by, IsPattern}
+use Rattle.re_search.proofs.Prelude.{◌≡◌, ℕ, ◌+◌, ◌*◌, ◌<◌, ◌^◌, List, [], ◌∷◌, ◌++◌, length, IsTrue, Bool, true, false, true≢false, inl, inr, map, refl, sym, ap, ◌∙◌, ◌≤◌, arith, if◌then◌else◌, PatternFault, Syntax, Fixed, Text, HasPositions, TooLarge, Expression, empty, one_of, none_of, begin, end, cat_none, cat_more, alt_none, alt_more, repeat, byte, cat, alt, sequence, folded, copies, positions, most_positions, up_to_word, IsMeant, IsSpelled, expression_of, has_limit, IsSmallFor, IsReadable, IsRefusedFor, Pattern, String, Tree, pattern_expression, meaning, meant_by, IsPattern}
 use Rattle.std.specs.Borrow.{Bor}
 use Rattle.re_trees.specs.declared.tree.Tree.{Tree as SyntaxTree}
-use Rattle.re_syntax.proofs.lemmas.SpelledUnique.{spells_one}
-use Rattle.re_syntax.proofs.lemmas.TokenLaws.{fault_spells_none}
+use Rattle.re_syntax.proofs.lemmas.SpelledUnique.{spells_one, fault_spells_none}
+use Rattle.re_syntax.proofs.lemmas.FixedTokens.{fixed_spelled}
 
 -- a text means one expression
 pub means_one : (syntax : Syntax) (fold : Bool) (text : Text) (d e : Expression) → IsMeant syntax fold text d → IsMeant syntax fold text e → d ≡ e
@@ -56,14 +56,14 @@ positions_string (b ∷ []) = refl
 positions_string (b ∷ c ∷ t) = positions_bytes (b ∷ c ∷ t)
 
 pub fixed_positions : (t : Text) (count : ℕ) → count ≡ length t → count < 2 ^ 64 → HasPositions Fixed t count
-fixed_positions t count e small = record { expression = sequence (map byte t); spelled = as_fixed; counted = omega (arith, e, small, positions_string t) }
+fixed_positions t count e small = record { expression = sequence (map byte t); spelled = fixed_spelled t; counted = omega (arith, e, small, positions_string t) }
 
 -- ---- of a pattern
 
 -- a fixed string is read as it is
 pub fixed_read : (fold : Bool) (text : Bor (List ℕ)) → (IsTrue fold → length text.now ≤ most_positions) → IsPattern Fixed fold text.now (String text)
 fixed_read fold text few = record {
-  spelled = as_fixed;
+  spelled = fixed_spelled text.now;
   small = λ limited. omega (arith, few limited, positions_string text.now);
   counted = few;
   kind = λ free. refl;

@@ -4,7 +4,7 @@ use Rattle.re_syntax.specs.{declared.syntax.Syntax.Syntax, Bytes.Text, Expressio
 use Rattle.re_syntax.specs.{Holds.folded, Holds.positions, Profile.most_positions}
 use Rattle.re_syntax.specs.{Spelled.IsSpelled, Spelled.has_limit, Working.Trees.expression_of}
 use Rattle.re_search.specs.{declared.pattern.Pattern.Pattern, Reading.IsSmallFor}
-use Rattle.re_search.specs.{Working.Strings.string_expression}
+use Rattle.re_search.specs.Working.Strings.{string_expression}
 use Rattle.re_search.specs.declared.pattern.Pattern.TheVariants as p
 
 -- its expression

@@ -1,20 +1,18 @@
 -- Numbered sets of positions, and for each a row of cells with the set after each byte, as far as
 -- that is held.
-use Rattle.std.specs.Prelude.{◌≡◌, ℕ, zero, suc, ◌+◌, ◌-◌, ◌*◌, ◌^◌, ◌<◌, ◌≤◌, ◌↔◌, ◌⊎◌, List, Some, [], true, false, IsTrue, length, nat_lt, if◌then◌else◌, slice_get, slice_index}
-use Rattle.re_trees.specs.Bytes.{Text}
-use Rattle.re_trees.specs.Expression.{Expression}
-use Rattle.re_trees.specs.Working.Trees.{expression_of}
-use Rattle.re_auto.specs.declared.mode.Mode.{Mode}
-use Rattle.re_auto.specs.declared.mode.Mode.TheVariants.{Search}
-use Rattle.re_auto.specs.declared.step.state_set.StateSet.{StateSet}
-use Rattle.re_meter.specs.Meters.{Steps, many_reused}
+use Rattle.std.specs.Prelude.{◌≡◌, ℕ, zero, suc, ◌+◌, ◌-◌, ◌*◌, ◌^◌, ◌<◌, ◌≤◌, ◌↔◌, ◌⊎◌, List, Some}
+use Rattle.std.specs.Prelude.{[], true, false, IsTrue, length, nat_lt, if◌then◌else◌, slice_get}
+use Rattle.std.specs.Prelude.{slice_index}
+use Rattle.re_trees.specs.{Bytes.Text, Expression.Expression, Working.Trees.expression_of}
 use Rattle.re_auto.specs.Working.StateSets.{IsMadeFor, IsSame, IsNowhere, IsNextSet, IsAccepting}
 use Rattle.re_auto.specs.Working.StateSets.{StandsAt, AreAlikeInClasses}
-use Rattle.re_steps.specs.declared.table.Acceptance.{Acceptance}
-use Rattle.re_steps.specs.declared.table.LineSearch.{LineSearch}
-use Rattle.re_steps.specs.declared.table.StepTable.{StepTable}
-use Rattle.re_steps.specs.Working.Pairs.{unknown, Mirrors}
+use Rattle.re_auto.specs.{declared.mode.Mode.Mode, declared.mode.Mode.TheVariants.Search}
+use Rattle.re_auto.specs.declared.step.state_set.StateSet.{StateSet}
+use Rattle.re_meter.specs.Meters.{Steps, many_reused}
 use Rattle.re_steps.specs.Working.Stages.{Cache, Stage, IsPlain, Goes}
+use Rattle.re_steps.specs.declared.table.Acceptance.{Acceptance}
+use Rattle.re_steps.specs.{declared.table.LineSearch.LineSearch, declared.table.StepTable.StepTable}
+use Rattle.re_steps.specs.{Working.Pairs.unknown, Working.Pairs.Mirrors}
 
 -- numbered sets, their marks and cells, what the cache holds of these, and how many cells it may hold
 pub record Rows : Type 0 where

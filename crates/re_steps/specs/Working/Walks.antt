@@ -1,21 +1,18 @@
 -- Where a search gets that goes on over a line by held pairs.
-use Rattle.std.specs.Prelude.{◌≡◌, ℕ, suc, ◌-◌, ◌<◌, ◌≤◌, Bool, false, [], ◌++◌, Some, length, slice_get, slice_range}
-use Rattle.re_trees.specs.Bytes.{Text}
+use Rattle.std.specs.Prelude.{◌≡◌, ℕ, suc, ◌-◌, ◌<◌, ◌≤◌, Bool, false, [], ◌++◌, Some, length}
+use Rattle.std.specs.Prelude.{slice_get, slice_range}
+use Rattle.re_trees.specs.{Bytes.Text, Lines.HasNoNewline}
 use Rattle.re_auto.specs.declared.step.state_set.StateSet.{StateSet}
 use Rattle.re_meter.specs.Meters.{Steps}
-use Rattle.re_trees.specs.Lines.{HasNoNewline}
 use Rattle.re_runs.specs.Working.Blocks.{PassesUnmatched}
-use Rattle.re_steps.specs.declared.table.LineSearch.{LineSearch}
-use Rattle.re_steps.specs.declared.table.StepTable.{StepTable}
-use Rattle.re_steps.specs.declared.walk.Lines.{Lines}
-use Rattle.re_steps.specs.declared.walk.Spot.{Spot}
-use Rattle.re_steps.specs.declared.walk.Went.{Went}
-use Rattle.re_steps.specs.declared.walk.Went.TheVariants as w
-use Rattle.re_steps.specs.declared.walk.Outcome.{Outcome}
-use Rattle.re_steps.specs.declared.walk.Outcome.TheVariants as o
-use Rattle.re_steps.specs.Working.Rows.{IsRightFor, IsRow, ComesTo, Lands, LandsAlone, cache_of, walked}
-use Rattle.re_steps.specs.Working.Rows.{expression_in}
+use Rattle.re_steps.specs.Working.Rows.{IsRightFor, IsRow, ComesTo, Lands, LandsAlone, cache_of}
+use Rattle.re_steps.specs.Working.Rows.{walked, expression_in}
 use Rattle.re_steps.specs.Working.Stages.{Cache, Stage, Goes, Finishes}
+use Rattle.re_steps.specs.{declared.table.LineSearch.LineSearch, declared.table.StepTable.StepTable}
+use Rattle.re_steps.specs.{declared.walk.Lines.Lines, declared.walk.Spot.Spot}
+use Rattle.re_steps.specs.{declared.walk.Went.Went, declared.walk.Outcome.Outcome}
+use Rattle.re_steps.specs.declared.walk.Went.TheVariants as w
+use Rattle.re_steps.specs.declared.walk.Outcome.TheVariants as o
 
 -- a search that came from a first stage is at place j in this row of the table
 abbrev pub IsAt : LineSearch → Stage → StepTable → Steps → ℕ → ℕ → Type 0

@@ -1,43 +1,34 @@
 -- Worked examples of basic expressions: texts and what they spell.
-use Rattle.re_syntax.proofs.Prelude.{◌≡◌, ℕ, false, nat_eq, [], ◌∷◌, Some, None, IsTrue, codes, refl, arith, Basic, Text, empty, begin, end, repeat, cat, alt, byte, IsNumber, IsAllowed, exactly, ItemPlace, IsAtEnd, of_text, of_group, of_branch, leading, IsSpelled, as_basic}
-use Rattle.re_syntax.specs.Basic.{star, interval, is_ordinary, last, more, none, trailing, item, Item, atom, repeated, ordinary, group}
-use Rattle.re_syntax.proofs.lemmas.BracketsUnique.{apart}
+use Rattle.re_syntax.proofs.Prelude.{ℕ, Bool, [], ◌∷◌, Some, None, IsTrue, codes, refl, arith, Basic, Text, empty, begin, end, repeat, cat, alt, byte, IsNumber, IsAllowed, exactly, of_group, IsSpelled}
+use Rattle.re_syntax.specs.declared.tokens.ItemPlace.{ItemPlace}
+use Rattle.re_syntax.specs.BasicTokens.{star, interval, is_ordinary, opens, closes, parts, leads, trails, repeats, dollar, ordinary}
+use Rattle.re_syntax.proofs.lemmas.SpelledParts.{ItemReads, single, group, repeated, none, anchor, item, last, more, spells}
 
--- a byte that stands for itself and is no `$`
-itself : {p : ItemPlace} {t : Text} (b : ℕ) → IsTrue (is_ordinary p b) → nat_eq b 36 ≡ false → Item p 0 (b ∷ t) t (byte b)
-itself b h n = atom (ordinary b h (λ e. absurd (apart e n)))
-
--- a text that does not begin with a backslash is at no end
-not_end : {t u : Text} (c : ℕ) → IsAtEnd t → t ≡ c ∷ u → nat_eq c 92 ≡ false → ⊥
-not_end c of_text e n = cc
-not_end c of_group e n = apart (let same : c ≡ 92 = cc in same) n
-not_end c of_branch e n = apart (let same : c ≡ 92 = cc in same) n
-
--- a `$` before a byte that is no backslash
-dollar : {p : ItemPlace} {t : Text} (c : ℕ) → IsTrue (is_ordinary p 36) → nat_eq c 92 ≡ false → Item p 0 (36 ∷ c ∷ t) (c ∷ t) (byte 36)
-dollar c h n = atom (ordinary 36 h (λ e at_end. not_end c at_end refl n))
+-- a byte that stands for itself
+itself : {g : Bool} {p : ItemPlace} {t : Text} (b : ℕ) → IsTrue (is_ordinary p b) → ItemReads Basic g p 0 (b ∷ t) t (byte b)
+itself b h = single (ordinary b h)
 
 -- `^*a`: the star is the first item after the anchor
 star_after_anchor : IsSpelled Basic (codes "^*a") (cat (begin ∷ byte 42 ∷ byte 97 ∷ []))
-star_after_anchor = as_basic (last (leading (item (itself 42 refl refl) (item (itself 97 refl refl) none)))) (omega arith)
+star_after_anchor = spells (last (anchor (leads refl) (item (itself 42 refl) (item (itself 97 refl) none)))) (omega arith)
 
 -- `**`: the first star is a byte, the second repeats it
 two_stars : IsSpelled Basic (codes "**") (repeat (byte 42) 0 None)
-two_stars = as_basic (last (item (repeated (itself 42 refl refl) star) none)) (omega arith)
+two_stars = spells (last (item (repeated (itself 42 refl) (repeats refl star)) none)) (omega arith)
 
 -- `a^b$c`: neither is an anchor
 inner_marks : IsSpelled Basic (codes "a^b$c") (cat (byte 97 ∷ byte 94 ∷ byte 98 ∷ byte 36 ∷ byte 99 ∷ []))
-inner_marks =
-    as_basic (last (item (itself 97 refl refl) (item (itself 94 refl refl) (item (itself 98 refl refl) (item (dollar 99 refl refl) (item (itself 99 refl refl) none))))))
-    (omega arith)
+inner_marks = spells (last (item (itself 97 refl) (item (itself 94 refl) (item (itself 98 refl)
+    (item (single (dollar (λ a. elim a [ ]))) (item (itself 99 refl) none)))))) (omega arith)
 
 -- `a\(b$\)`: a group has anchors of its own
 end_in_group : IsSpelled Basic (codes "a\\(b$\\)") (cat (byte 97 ∷ cat (byte 98 ∷ end ∷ []) ∷ []))
-end_in_group = as_basic (last (item (itself 97 refl refl) (item (atom (group (last (item (itself 98 refl refl) (trailing of_group))))) none))) (omega arith)
+end_in_group = spells (last (item (itself 97 refl)
+    (item (group opens (last (item (itself 98 refl) (item (single (trails of_group)) none))) (λ q. closes refl)) none))) (omega arith)
 
 -- `a\{2\}*`: the duplications apply from left to right
 interval_star : IsSpelled Basic (codes "a\\{2\\}*") (repeat (repeat (byte 97) 2 (Some 2)) 0 None)
-interval_star = as_basic (last (item (repeated (repeated (itself 97 refl refl) (interval (exactly (codes "2") two) allowed)) star) none)) (omega arith)
+interval_star = spells (last (item (repeated (repeated (itself 97 refl) (repeats refl (interval (exactly (codes "2") two) allowed))) (repeats refl star)) none)) (omega arith)
   where
     two : IsNumber (codes "2")
     two = record { not_empty = λ e. cc; digits = refl }
@@ -47,9 +38,9 @@ interval_star = as_basic (last (item (repeated (repeated (itself 97 refl refl) (
 
 -- `\|`: a branch may be empty
 empty_branches : IsSpelled Basic (codes "\\|") (alt (empty ∷ empty ∷ []))
-empty_branches = as_basic (more none (last none)) (omega arith)
+empty_branches = spells (more none (λ q. parts) (last none)) (omega arith)
 
 -- `a\|^*b`: a caret that is first in its branch, and a star after it
 begin_in_branch : IsSpelled Basic (codes "a\\|^*b") (alt (byte 97 ∷ cat (begin ∷ byte 42 ∷ byte 98 ∷ []) ∷ []))
-begin_in_branch =
-    as_basic (more (item (itself 97 refl refl) none) (last (leading (item (itself 42 refl refl) (item (itself 98 refl refl) none))))) (omega arith)
+begin_in_branch = spells (more (item (itself 97 refl) none) (λ q. parts)
+    (last (anchor (leads refl) (item (itself 42 refl) (item (itself 98 refl) none))))) (omega arith)

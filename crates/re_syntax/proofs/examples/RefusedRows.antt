@@ -6,7 +6,6 @@ use Rattle.re_syntax.specs.FirstFaults.{IsFirstFault, no_token, later}
 use Rattle.re_syntax.specs.FirstFaults.{unclosed as never_closed}
 use Rattle.re_syntax.specs.ExtendedTokens.{needs_item, disallowed}
 use Rattle.re_syntax.specs.ExtendedTokens.{opens, parts, leads, ordinary}
-use Rattle.re_syntax.proofs.lemmas.TokenBridge.{may_be_deep, group_fits}
 
 -- a fault of this kind at this place
 abbrev At : FaultKind → ℕ → Text → Type 0
@@ -27,13 +26,13 @@ three_hundred = record { not_empty = λ e. cc; digits = refl }
 -- `(^*)`: nothing to repeat
 star_in_group : At NothingToRepeat 2 (codes "(^*)")
 star_in_group =
-    record { within = omega arith; is_fault = later opens (group_fits (omega arith)) (later leads (λ d. may_be_deep d) (no_token (needs_item (λ e. cc) opens_star))) }
+    record { within = omega arith; is_fault = later _ opens (λ d. omega arith) (later _ leads (λ d. d) (no_token (needs_item (λ e. cc) opens_star))) }
 
 -- `a|{1}`: the same, for an interval
 interval_after_bar : At NothingToRepeat 2 (codes "a|{1}")
 interval_after_bar = record {
   within = omega arith;
-  is_fault = later (ordinary 97 refl (λ e. absurd (omega arith))) (λ d. may_be_deep d) (later parts (λ d. may_be_deep d)
+  is_fault = later _ (ordinary 97 refl) (λ d. d) (later _ parts (λ d. d)
       (no_token (needs_item (λ e. cc) (opens_interval (record { inside = codes "1"; form = exactly (codes "1") one; whole = refl })))));
 }
 
@@ -41,18 +40,18 @@ interval_after_bar = record {
 too_large : At IntervalTooLarge 1 (codes "a{300,2}")
 too_large = record {
   within = omega arith;
-  is_fault = later (ordinary 97 refl (λ e. absurd (omega arith))) (λ d. may_be_deep d)
-      (no_token (disallowed (record { inside = codes "300,2"; form = between (codes "300") (codes "2") three_hundred two; whole = refl }) (least_too_large (omega arith))));
+  is_fault = later _ (ordinary 97 refl) (λ d. d)
+      (no_token (disallowed refl (record { inside = codes "300,2"; form = between (codes "300") (codes "2") three_hundred two; whole = refl }) (least_too_large (omega arith))));
 }
 
 -- `(a(b`: of two groups that nothing closes, the innermost
 two_unclosed : At UnclosedGroup 2 (codes "(a(b")
 two_unclosed = record {
   within = omega arith;
-  is_fault = later opens (group_fits (omega arith)) (later (ordinary 97 refl (λ e. absurd (omega arith))) (λ d. may_be_deep d)
-      (later opens (group_fits (omega arith)) (later (ordinary 98 refl (λ e. absurd (omega arith))) (λ d. may_be_deep d) (never_closed refl))));
+  is_fault = later _ opens (λ d. omega arith) (later _ (ordinary 97 refl) (λ d. d)
+      (later _ opens (λ d. omega arith) (later _ (ordinary 98 refl) (λ d. d) (never_closed refl))));
 }
 
 -- `a\)`, a basic expression: nothing is open
 closing_alone : BasicAt UnopenedGroup 1 (codes "a\\)")
-closing_alone = record { within = omega arith; is_fault = later (basic_ordinary 97 refl (λ e. absurd (omega arith))) (λ d. may_be_deep d) (no_token unopened) }
+closing_alone = record { within = omega arith; is_fault = later _ (basic_ordinary 97 refl) (λ d. d) (no_token (unopened (λ h. cc))) }

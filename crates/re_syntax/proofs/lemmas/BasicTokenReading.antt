@@ -1,10 +1,10 @@
 -- Tokens of basic expressions, by the bytes at their place.
-use Rattle.re_syntax.proofs.Prelude.{HasNoTimes, ◌≡◌, ◌≢◌, ℕ, ◌+◌, ◌<◌, ◌≤◌, ◌⊎◌, inl, inr, Bool, [], ◌∷◌, length, drop, Option, IsTrue, codes, refl, sym, ap, ◌∙◌, arith, ne_eqb, cases_eq, length-drop, Text, Begins, one_of, EscapeStands, basic_refused, IsAtEnd, of_text, of_group, of_branch, NeedsItem, needs_interval, needs_plus, needs_question, meant_bytes, HasNoSign, HasNoTail, OpensNoDuplication, is_undefined}
+use Rattle.re_syntax.proofs.Prelude.{HasNoTimes, ◌≡◌, ◌≢◌, ℕ, ◌+◌, ◌<◌, ◌≤◌, ◌⊎◌, inl, inr, Bool, true, not, [], ◌∷◌, length, drop, Option, IsTrue, codes, refl, sym, ap, ◌∙◌, arith, ne_eqb, cases_eq, length-drop, Text, Begins, one_of, EscapeStands, basic_refused, IsAtEnd, of_text, of_group, of_branch, NeedsItem, needs_interval, needs_plus, needs_question, meant_bytes, HasNoSign, HasNoTail, OpensNoDuplication, is_in, is_undefined}
 use Rattle.re_syntax.specs.declared.tokens.ItemPlace.{ItemPlace}
 use Rattle.re_syntax.specs.declared.tokens.ItemPlace.TheVariants.{First, AfterAnchor, Later}
-use Rattle.re_syntax.specs.Basic.{Duplication, is_ordinary, star, plus, question, interval}
+use Rattle.re_syntax.specs.BasicTokens.{Duplication, is_ordinary, star, plus, question, interval}
 use Rattle.re_syntax.specs.Tokens.{atom}
-use Rattle.re_syntax.specs.BasicTokens.{BasicToken, period, ordinary}
+use Rattle.re_syntax.specs.BasicTokens.{BasicToken, marks, period, dollar, ordinary}
 use Rattle.re_syntax.specs.Profile.{basic_escaped}
 
 pub dup_length : {d : Text} {least : ℕ} {most : Option ℕ} → Duplication d least most → 0 < length d
@@ -51,15 +51,18 @@ escape_allowed {text} {at} {b} s no_group no_bar no_closing no_need h =
     ) at h)
 
 -- a byte that is nothing else stands for itself
-ordinary_here : (p : ItemPlace) (b : ℕ) → b ≢ 91 → b ≢ 46 → b ≢ 92 → (p ≡ First → b ≢ 94) → (p ≡ Later → b ≢ 42) → IsTrue (is_ordinary p b)
-ordinary_here First b k d l c s = rw (ne_eqb 91 b (λ x. k (sym x)), ne_eqb 46 b (λ x. d (sym x)), ne_eqb 92 b (λ x. l (sym x)), ne_eqb 94 b (λ x. c refl (sym x))) refl
-ordinary_here AfterAnchor b k d l c s = rw (ne_eqb 91 b (λ x. k (sym x)), ne_eqb 46 b (λ x. d (sym x)), ne_eqb 92 b (λ x. l (sym x))) refl
-ordinary_here Later b k d l c s = rw (ne_eqb 91 b (λ x. k (sym x)), ne_eqb 46 b (λ x. d (sym x)), ne_eqb 92 b (λ x. l (sym x)), ne_eqb 42 b (λ x. s refl (sym x))) refl
+ordinary_here : (p : ItemPlace) (b : ℕ) → b ≢ 91 → b ≢ 46 → b ≢ 92 → b ≢ 36 → (p ≡ First → b ≢ 94) → (p ≡ Later → b ≢ 42) → IsTrue (is_ordinary p b)
+ordinary_here p b k d l m c s = rw (ne_eqb 91 b (λ x. k (sym x)), ne_eqb 46 b (λ x. d (sym x)), ne_eqb 92 b (λ x. l (sym x)), ne_eqb 36 b (λ x. m (sym x))) (go p c s)
+  where
+    go : (p : ItemPlace) → (p ≡ First → b ≢ 94) → (p ≡ Later → b ≢ 42) → not (is_in (marks p) b) ≡ true
+    go First c s = rw (ne_eqb 94 b (λ x. c refl (sym x))) refl
+    go AfterAnchor c s = refl
+    go Later c s = rw (ne_eqb 42 b (λ x. s refl (sym x))) refl
 
 pub single : {g : Bool} {p : ItemPlace} (b : ℕ) {u : Text} → HasNoTimes p (b ∷ u) → HasNoTail (b ∷ u) → (p ≡ First → ¬ Begins (codes "^") (b ∷ u)) → b ≢ 91 → b ≢ 92 → BasicToken g p (b ∷ u) u (atom (one_of (meant_bytes b)))
-single {g} {p} b {u} times tail first k l = go (cases_eq b 46)
+single {g} {p} b {u} times tail first k l = go (cases_eq b 46) (cases_eq b 36)
   where
-    go : (b ≡ 46) ⊎ (b ≡ 46 → ⊥) → BasicToken g p (b ∷ u) u (atom (one_of (meant_bytes b)))
-    go (inl e) = rw e period
-    go (inr n) = rw (ne_eqb b 46 n)
-        (ordinary b (ordinary_here p b k n l (λ q e. first q (u, ap (λ x. x ∷ u) e)) (λ q e. times.star q (u, ap (λ x. x ∷ u) e))) (λ e. tail.none u (rw e)))
+    go : (b ≡ 46) ⊎ (b ≡ 46 → ⊥) → (b ≡ 36) ⊎ (b ≡ 36 → ⊥) → BasicToken g p (b ∷ u) u (atom (one_of (meant_bytes b)))
+    go (inl e) m = rw e period
+    go (inr n) (inl e) = rw e (dollar (tail.none u (rw e)))
+    go (inr n) (inr m) = rw (ne_eqb b 46 n) (ordinary b (ordinary_here p b k n l m (λ q e. first q (u, ap (λ x. x ∷ u) e)) (λ q e. times.star q (u, ap (λ x. x ∷ u) e))))

@@ -1,103 +1,73 @@
 -- A place of a basic expression has one token, or one fault.
-use Rattle.re_syntax.proofs.Prelude.{EscapeFault, undefined, reference, ◌≡◌, ◌≢◌, ℕ, ◌+◌, inl, inr, Bool, false, nat_eq, [], ◌∷◌, ◌++◌, Option, IsTrue, codes, if◌then◌else◌, refl, sym, ap, ◌∙◌, ne_eqb, or_cases, or_left, or_right, Alnum, in_class, FaultKind, Basic, Text, byte, IsAtEnd, of_text, of_group, of_branch, NeedsItem, needs_interval, needs_plus, needs_question, basic_refused, is_in, is_undefined, one_to_nine}
+use Rattle.re_syntax.proofs.Prelude.{EscapeFault, undefined, reference, ◌≡◌, ◌≢◌, ℕ, ◌+◌, inl, inr, Bool, nat_eq, [], ◌∷◌, ◌++◌, Option, IsTrue, codes, if◌then◌else◌, refl, sym, ap, ◌∙◌, ne_eqb, or_cases, or_left, or_right, Alnum, in_class, FaultKind, Basic, Text, IsAtEnd, of_text, of_group, of_branch, NeedsItem, needs_interval, needs_plus, needs_question, basic_refused, is_in, is_undefined, one_to_nine}
 use Rattle.re_syntax.specs.declared.tokens.ItemPlace.{ItemPlace}
-use Rattle.re_syntax.specs.declared.tokens.ItemPlace.TheVariants.{First, Later}
-use Rattle.re_syntax.specs.Basic.{Duplication, is_ordinary, star, plus, question, interval}
+use Rattle.re_syntax.specs.declared.tokens.ItemPlace.TheVariants.{Later}
+use Rattle.re_syntax.specs.BasicTokens.{Duplication, is_ordinary, star, plus, question, interval}
 use Rattle.re_syntax.specs.Profile.{basic_escaped}
-use Rattle.re_syntax.specs.Tokens.{Token, closing, bar, atom, times}
+use Rattle.re_syntax.specs.Tokens.{Token, closing, bar, times}
 use Rattle.re_syntax.specs.EscapeFaults.{trailing}
-use Rattle.re_syntax.specs.BasicTokens.{BasicToken, opens, closes, parts, leads, trails, repeats, bracket, period, escaped, ordinary, BasicTokenFault, in_bracket, in_escape, unopened, needs_item, no_form, disallowed}
+use Rattle.re_syntax.specs.BasicTokens.{BasicToken, opens, closes, parts, leads, trails, repeats, bracket, period, dollar, escaped, ordinary, BasicTokenFault, in_bracket, in_escape, unopened, needs_item, no_form, disallowed}
 use Rattle.re_syntax.proofs.lemmas.BracketsUnique.{heads, tails, apart, bracket_front, IsBracket-unique}
 use Rattle.re_syntax.proofs.lemmas.BracketFaultsUnique.{bracket_fault-unique, bracket-no_fault, bracket_fault_front}
 use Rattle.re_syntax.proofs.lemmas.CutsUnique.{SameToken, SameFault, IsExact}
 use Rattle.re_syntax.proofs.lemmas.EscapeLaws.{escape_fault-unique, escape-no_fault}
-use Rattle.re_syntax.proofs.lemmas.TokenParts.{swapped, closed-unique, same_times, closed_by, no_closed, never_allowed, disallowed-unique}
+use Rattle.re_syntax.proofs.lemmas.TokenParts.{closed-unique, same_times, closed_by, no_closed, never_allowed, disallowed-unique}
 
 -- the kind of what begins with these bytes: all that may begin a duplication is of one kind
 abbrev escape_kind : Text → ℕ
 escape_kind [] = 500
 escape_kind (c ∷ w) = if is_in (codes "{+?") c then 0 else if is_in (codes "()|") c then 256 + c else 500
 
-abbrev kind_of : Text → ℕ
-kind_of [] = 600
-kind_of (b ∷ w) = if nat_eq b 92 then escape_kind w else if nat_eq b 42 then 0 else b
+abbrev kind_of : ItemPlace → Text → ℕ
+kind_of p [] = 600
+kind_of p (b ∷ w) = if is_ordinary p b then 700 else if nat_eq b 92 then escape_kind w else if nat_eq b 42 then 0 else b
 
-dup_kind : {d : Text} {least : ℕ} {most : Option ℕ} → Duplication d least most → (u : Text) → kind_of (d ++ u) ≡ 0
+dup_kind : {d : Text} {least : ℕ} {most : Option ℕ} → Duplication d least most → (u : Text) → kind_of Later (d ++ u) ≡ 0
 dup_kind star u = refl
 dup_kind plus u = refl
 dup_kind question u = refl
 dup_kind (interval form allowed) u = refl
 
-needs_kind : {t : Text} → NeedsItem t → kind_of t ≡ 0
-needs_kind needs_interval = refl
-needs_kind needs_plus = refl
-needs_kind needs_question = refl
+needs_kind : (p : ItemPlace) {t : Text} → NeedsItem t → kind_of p t ≡ 0
+needs_kind p needs_interval = refl
+needs_kind p needs_plus = refl
+needs_kind p needs_question = refl
 
 -- an escaped byte, and one that is refused, make no other token: a test tells them from the others
-plain_kind : (b : ℕ) (w : Text) (test : ℕ → Bool) {v : Bool} → test b ≢ v → test 40 ≡ v → test 41 ≡ v → test 124 ≡ v → test 123 ≡ v → test 43 ≡ v → test 63 ≡ v → kind_of (92 ∷ b ∷ w) ≡ 500
-plain_kind b w test {v} n i j k l m o = rw (ne_eqb 40 b (other 40 i), ne_eqb 41 b (other 41 j), ne_eqb 124 b (other 124 k), ne_eqb 123 b (other 123 l), ne_eqb 43 b (other 43 m), ne_eqb 63 b (other 63 o)) refl
+plain_kind : (p : ItemPlace) (b : ℕ) (w : Text) (test : ℕ → Bool) {v : Bool} → test b ≢ v → test 40 ≡ v → test 41 ≡ v → test 124 ≡ v → test 123 ≡ v → test 43 ≡ v → test 63 ≡ v → kind_of p (92 ∷ b ∷ w) ≡ 500
+plain_kind p b w test {v} n i j k l m o = rw (ne_eqb 40 b (other 40 i), ne_eqb 41 b (other 41 j), ne_eqb 124 b (other 124 k), ne_eqb 123 b (other 123 l), ne_eqb 43 b (other 43 m), ne_eqb 63 b (other 63 o)) refl
   where
     other : (c : ℕ) → test c ≡ v → c ≢ b
     other c h e = n (cc)
 
-escaped_kind : (b : ℕ) (w : Text) → ¬ IsTrue (is_undefined basic_escaped b) → kind_of (92 ∷ b ∷ w) ≡ 500
-escaped_kind b w h = plain_kind b w (is_undefined basic_escaped) h refl refl refl refl refl refl
+escaped_kind : (p : ItemPlace) (b : ℕ) (w : Text) → ¬ IsTrue (is_undefined basic_escaped b) → kind_of p (92 ∷ b ∷ w) ≡ 500
+escaped_kind p b w h = plain_kind p b w (is_undefined basic_escaped) h refl refl refl refl refl refl
 
-refused_kind : {t v : Text} {k : FaultKind} → EscapeFault basic_refused t k v → kind_of t ≡ 500
-refused_kind trailing = refl
-refused_kind (undefined {u = u} {b = b} h n) = plain_kind b u (is_undefined basic_refused) (λ e. let f = sym e ∙ h in cc) refl refl refl refl refl refl
-refused_kind (reference {u = u} {b = b} h) = plain_kind b u one_to_nine (λ e. let f = sym e ∙ h in cc) refl refl refl refl refl refl
+refused_kind : (p : ItemPlace) {t v : Text} {k : FaultKind} → EscapeFault basic_refused t k v → kind_of p t ≡ 500
+refused_kind p trailing = refl
+refused_kind p (undefined {u = u} {b = b} h n) = plain_kind p b u (is_undefined basic_refused) (λ e. let f = sym e ∙ h in cc) refl refl refl refl refl refl
+refused_kind p (reference {u = u} {b = b} h) = plain_kind p b u one_to_nine (λ e. let f = sym e ∙ h in cc) refl refl refl refl refl refl
 
-abbrev token_kind : {g : Bool} {p : ItemPlace} {t u : Text} {k : Token} → BasicToken g p t u k → (n : ℕ) × (kind_of t ≡ n)
+abbrev token_kind : {g : Bool} {p : ItemPlace} {t u : Text} {k : Token} → BasicToken g p t u k → (n : ℕ) × (kind_of p t ≡ n)
 token_kind opens = (296, refl)
-token_kind closes = (297, refl)
+token_kind (closes h) = (297, refl)
 token_kind parts = (380, refl)
-token_kind leads = (94, refl)
+token_kind (leads q) = (94, rw q refl)
 token_kind (trails a) = (36, refl)
-token_kind (repeats {u = u} d) = (0, dup_kind d u)
-token_kind (bracket h) = (91, ap kind_of (bracket_front h).1)
+token_kind (dollar n) = (36, refl)
+token_kind (repeats {u = u} q d) = (0, rw q (dup_kind d u))
+token_kind {p} (bracket h) = (91, ap (kind_of p) (bracket_front h).1)
 token_kind period = (46, refl)
-token_kind (escaped {u = u} b h) = (500, escaped_kind b u h)
-token_kind (ordinary {u = u} b h n) = (kind_of (b ∷ u), refl)
+token_kind {p} (escaped {u = u} b h) = (500, escaped_kind p b u h)
+token_kind (ordinary b h) = (700, rw h refl)
 
-abbrev fault_kind : {g : Bool} {p : ItemPlace} {t v : Text} {k : FaultKind} → BasicTokenFault g p t k v → (n : ℕ) × (kind_of t ≡ n)
-fault_kind (in_bracket f) = (91, ap kind_of (bracket_fault_front f).1)
-fault_kind (in_escape f) = (500, refused_kind f)
-fault_kind unopened = (297, refl)
-fault_kind (needs_item n o) = (0, needs_kind o)
-fault_kind (no_form h) = (0, refl)
-fault_kind (disallowed c d) = (0, refl)
-
--- where a byte stands for itself, that is the token, and there is no fault
-pub never : (p : ItemPlace) {b c : ℕ} {t w : Text} → IsTrue (is_ordinary p b) → is_ordinary p c ≡ false → c ∷ t ≡ b ∷ w → ⊥
-never p {b} h k e = let f : is_ordinary p b ≡ false = rw (heads e) at k in cc
-
-ordinary-only : {g : Bool} {p : ItemPlace} {t u w : Text} {k : Token} {b : ℕ} → BasicToken g p t u k → t ≡ b ∷ w → IsTrue (is_ordinary p b) → (b ≡ 36 → ¬ IsAtEnd w) → SameToken k (atom (byte b)) u w
-ordinary-only (ordinary c x m) e h n = record { tokens = rw (heads e); rests = tails e }
-ordinary-only {p = p} opens e h n = absurd (never p h refl e)
-ordinary-only {p = p} closes e h n = absurd (never p h refl e)
-ordinary-only {p = p} parts e h n = absurd (never p h refl e)
-ordinary-only leads e h n = absurd (never First h refl e)
-ordinary-only (trails a) e h n = absurd (n (sym (heads e)) (rw (sym (tails e)) a))
-ordinary-only (repeats star) e h n = absurd (never Later h refl e)
-ordinary-only (repeats plus) e h n = absurd (never Later h refl e)
-ordinary-only (repeats question) e h n = absurd (never Later h refl e)
-ordinary-only (repeats (interval form allowed)) e h n = absurd (never Later h refl e)
-ordinary-only {p = p} (bracket x) e h n = absurd (never p h refl (sym (bracket_front x).1 ∙ e))
-ordinary-only {p = p} period e h n = absurd (never p h refl e)
-ordinary-only {p = p} (escaped c x) e h n = absurd (never p h refl e)
-
-ordinary-no_fault : {g : Bool} {p : ItemPlace} {t v w : Text} {b : ℕ} {k : FaultKind} → BasicTokenFault g p t k v → t ≡ b ∷ w → IsTrue (is_ordinary p b) → ⊥
-ordinary-no_fault {p = p} (in_bracket f) e h = never p h refl (sym (bracket_fault_front f).1 ∙ e)
-ordinary-no_fault {p = p} (in_escape trailing) e h = never p h refl e
-ordinary-no_fault {p = p} (in_escape (undefined i m)) e h = never p h refl e
-ordinary-no_fault {p = p} (in_escape (reference i)) e h = never p h refl e
-ordinary-no_fault {p = p} unopened e h = never p h refl e
-ordinary-no_fault {p = p} (needs_item m needs_interval) e h = never p h refl e
-ordinary-no_fault {p = p} (needs_item m needs_plus) e h = never p h refl e
-ordinary-no_fault {p = p} (needs_item m needs_question) e h = never p h refl e
-ordinary-no_fault (no_form f) e h = never Later h refl e
-ordinary-no_fault (disallowed c d) e h = never Later h refl e
+abbrev fault_kind : {g : Bool} {p : ItemPlace} {t v : Text} {k : FaultKind} → BasicTokenFault g p t k v → (n : ℕ) × (kind_of p t ≡ n)
+fault_kind {p} (in_bracket f) = (91, ap (kind_of p) (bracket_fault_front f).1)
+fault_kind {p} (in_escape f) = (500, refused_kind p f)
+fault_kind (unopened n) = (297, refl)
+fault_kind {p} (needs_item n o) = (0, needs_kind p o)
+fault_kind (no_form q h) = (0, refl)
+fault_kind (disallowed q c d) = (0, refl)
 
 -- the byte that determines the kind of duplication: the first, or the one after a backslash
 abbrev first_byte : Text → ℕ
@@ -124,34 +94,36 @@ dup-unique (interval form i) (interval other j) {u} {v} e =
 dup-unique x y {u} {v} e = absurd (apart (sym (dup_mark x u).1 ∙ ap mark e ∙ (dup_mark y v).1) refl)
 
 token-unique : {g : Bool} {p : ItemPlace} {t s u v : Text} {j k : Token} → BasicToken g p t u j → BasicToken g p s v k → t ≡ s → SameToken j k u v
-token-unique (ordinary b h n) y e = swapped (ordinary-only y (sym e) h n)
-token-unique x (ordinary b h n) e = ordinary-only x e h n
+token-unique (ordinary b h) (ordinary c k) e = record { tokens = rw (heads e); rests = tails e }
+token-unique (dollar n) (dollar m) e = record { tokens = refl; rests = tails e }
+token-unique (dollar n) (trails a) e = absurd (n (rw (tails e) a))
+token-unique (trails a) (dollar n) e = absurd (n (rw (← (tails e)) a))
 token-unique opens opens e = record { tokens = refl; rests = tails (tails e) }
-token-unique closes closes e = record { tokens = refl; rests = tails (tails e) }
+token-unique (closes h) (closes k) e = record { tokens = refl; rests = tails (tails e) }
 token-unique parts parts e = record { tokens = refl; rests = tails (tails e) }
-token-unique leads leads e = record { tokens = refl; rests = tails e }
+token-unique (leads p) (leads q) e = record { tokens = refl; rests = tails e }
 token-unique (trails a) (trails b) e = record { tokens = refl; rests = tails e }
-token-unique (repeats {u = u} d) (repeats {u = v} c) e = dup-unique d c e
+token-unique (repeats p d) (repeats q c) e = dup-unique d c e
 token-unique (bracket h) (bracket k) e = let same = IsBracket-unique h k e in record { tokens = rw same.expressions; rests = same.rests }
 token-unique period period e = record { tokens = refl; rests = tails e }
 token-unique (escaped b h) (escaped c k) e = record { tokens = rw (heads (tails e)); rests = tails (tails e) }
-token-unique x y e = absurd (apart (sym (token_kind x).1 ∙ ap kind_of e ∙ (token_kind y).1) refl)
+token-unique {p} x y e = absurd (apart (sym (token_kind x).1 ∙ ap (kind_of p) e ∙ (token_kind y).1) refl)
 
 fault-unique : {g : Bool} {p : ItemPlace} {t s u v : Text} {j k : FaultKind} → BasicTokenFault g p t j u → BasicTokenFault g p s k v → t ≡ s → SameFault j k u v
 fault-unique (in_bracket x) (in_bracket y) e = bracket_fault-unique x y e
 fault-unique (in_escape x) (in_escape y) e = escape_fault-unique x y e
-fault-unique unopened unopened e = record { kinds = refl; places = e }
+fault-unique (unopened n) (unopened m) e = record { kinds = refl; places = e }
 fault-unique (needs_item n o) (needs_item m q) e = record { kinds = refl; places = e }
-fault-unique (needs_item n o) (no_form h) e = absurd (n refl)
-fault-unique (needs_item n o) (disallowed c d) e = absurd (n refl)
-fault-unique (no_form h) (needs_item n o) e = absurd (n refl)
-fault-unique (no_form h) (no_form k) e = record { kinds = refl; places = e }
-fault-unique (no_form h) (disallowed c d) e = absurd (no_closed h c (sym (tails (tails e))))
-fault-unique (disallowed c d) (needs_item n o) e = absurd (n refl)
-fault-unique (disallowed c d) (no_form h) e = absurd (no_closed h c (tails (tails e)))
-fault-unique (disallowed c d) (disallowed a b) e =
+fault-unique (needs_item n o) (no_form q h) e = absurd (n q)
+fault-unique (needs_item n o) (disallowed q c d) e = absurd (n q)
+fault-unique (no_form q h) (needs_item n o) e = absurd (n q)
+fault-unique (no_form p h) (no_form q k) e = record { kinds = refl; places = e }
+fault-unique (no_form p h) (disallowed q c d) e = absurd (no_closed h c (sym (tails (tails e))))
+fault-unique (disallowed q c d) (needs_item n o) e = absurd (n q)
+fault-unique (disallowed p c d) (no_form q h) e = absurd (no_closed h c (tails (tails e)))
+fault-unique (disallowed p c d) (disallowed q a b) e =
     let same = closed-unique 92 (codes "}") refl refl c a (tails (tails e)) in record { kinds = disallowed-unique d b same.least same.most; places = e }
-fault-unique x y e = absurd (apart (sym (fault_kind x).1 ∙ ap kind_of e ∙ (fault_kind y).1) refl)
+fault-unique {p} x y e = absurd (apart (sym (fault_kind x).1 ∙ ap (kind_of p) e ∙ (fault_kind y).1) refl)
 
 -- a byte among some is among more, so what may not follow a backslash is not escaped
 in_more : (s t : Text) (b : ℕ) → IsTrue (is_in t b) → IsTrue (is_in (s ++ t) b)
@@ -166,20 +138,20 @@ wider b h =
     ]
 
 fault-no_token : {g : Bool} {p : ItemPlace} {t s u v : Text} {k : Token} {j : FaultKind} → BasicTokenFault g p s j v → BasicToken g p t u k → s ≡ t → ⊥
-fault-no_token (needs_item n o) (repeats d) e = n refl
-fault-no_token y (ordinary b h n) e = ordinary-no_fault y e h
-fault-no_token (no_form h) (repeats star) e = apart (heads e) refl
-fault-no_token (no_form h) (repeats plus) e = apart (heads (tails e)) refl
-fault-no_token (no_form h) (repeats question) e = apart (heads (tails e)) refl
-fault-no_token (no_form h) (repeats {u = u} (interval form allowed)) e = no_closed h (closed_by {close = (codes "\\}")} u form) (sym (tails (tails e)))
-fault-no_token (disallowed c r) (repeats star) e = apart (heads e) refl
-fault-no_token (disallowed c r) (repeats plus) e = apart (heads (tails e)) refl
-fault-no_token (disallowed c r) (repeats question) e = apart (heads (tails e)) refl
-fault-no_token (disallowed c r) (repeats {u = u} (interval form allowed)) e =
+fault-no_token (needs_item n o) (repeats q d) e = n q
+fault-no_token (unopened n) (closes h) e = n h
+fault-no_token (no_form p h) (repeats q star) e = apart (heads e) refl
+fault-no_token (no_form p h) (repeats q plus) e = apart (heads (tails e)) refl
+fault-no_token (no_form p h) (repeats q question) e = apart (heads (tails e)) refl
+fault-no_token (no_form p h) (repeats {u = u} q (interval form allowed)) e = no_closed h (closed_by {close = (codes "\\}")} u form) (sym (tails (tails e)))
+fault-no_token (disallowed p c r) (repeats q star) e = apart (heads e) refl
+fault-no_token (disallowed p c r) (repeats q plus) e = apart (heads (tails e)) refl
+fault-no_token (disallowed p c r) (repeats q question) e = apart (heads (tails e)) refl
+fault-no_token (disallowed p c r) (repeats {u = u} q (interval form allowed)) e =
     let same = closed-unique 92 (codes "}") refl refl (closed_by u form) c (sym (tails (tails e))) in never_allowed same.least same.most allowed r
 fault-no_token (in_bracket f) (bracket h) e = bracket-no_fault h f (sym e)
 fault-no_token (in_escape f) (escaped b h) e = h (wider b (escape-no_fault f e))
-fault-no_token y x e = absurd (apart (sym (fault_kind y).1 ∙ ap kind_of e ∙ (token_kind x).1) refl)
+fault-no_token {p} y x e = absurd (apart (sym (fault_kind y).1 ∙ ap (kind_of p) e ∙ (token_kind x).1) refl)
 
 -- a token that is where a branch ends closes a group or separates branches
 abbrev pub MayEnd : Token → Type 0
@@ -188,22 +160,19 @@ MayEnd bar = Unit {0}
 MayEnd k = ⊥
 
 pub at_end : {g : Bool} {p : ItemPlace} {t s u : Text} {k : Token} → BasicToken g p t u k → IsAtEnd s → t ≡ s → MayEnd k
-at_end closes a e = tt
+at_end (closes h) a e = tt
 at_end parts a e = tt
-at_end (ordinary b h n) of_text e = absurd (cc)
-at_end {p = p} (ordinary b h n) of_group e = absurd (never p h refl (sym e))
-at_end {p = p} (ordinary b h n) of_branch e = absurd (never p h refl (sym e))
-at_end x of_text e = absurd (apart (sym (token_kind x).1 ∙ ap kind_of e) refl)
-at_end x of_group e = absurd (apart (sym (token_kind x).1 ∙ ap kind_of e) refl)
-at_end x of_branch e = absurd (apart (sym (token_kind x).1 ∙ ap kind_of e) refl)
+at_end {p} x of_text e = absurd (apart (sym (token_kind x).1 ∙ ap (kind_of p) e) refl)
+at_end {p} x of_group e = absurd (apart (sym (token_kind x).1 ∙ ap (kind_of p) e) refl)
+at_end {p} x of_branch e = absurd (apart (sym (token_kind x).1 ∙ ap (kind_of p) e) refl)
 
 token_not_end : {g : Bool} {p : ItemPlace} {t u : Text} {k : Token} → BasicToken g p t u k → t ≢ []
-token_not_end (ordinary b h n) e = cc
-token_not_end x e = absurd (apart (sym (token_kind x).1 ∙ ap kind_of e) refl)
+token_not_end (ordinary b h) e = cc
+token_not_end {p} x e = absurd (apart (sym (token_kind x).1 ∙ ap (kind_of p) e) refl)
 
 fault_not_end : {g : Bool} {p : ItemPlace} {t v : Text} {j : FaultKind} → BasicTokenFault g p t j v → t ≢ []
 fault_not_end (in_escape trailing) e = cc
-fault_not_end x e = absurd (apart (sym (fault_kind x).1 ∙ ap kind_of e) refl)
+fault_not_end {p} x e = absurd (apart (sym (fault_kind x).1 ∙ ap (kind_of p) e) refl)
 
 pub basic_exact : IsExact Basic
 basic_exact = record {

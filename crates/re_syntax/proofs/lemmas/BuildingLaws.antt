@@ -5,8 +5,8 @@ use Rattle.re_syntax.specs.declared.building.Building.{Building}
 use Rattle.re_syntax.specs.Tokens.{Token, closing}
 use Rattle.re_syntax.specs.FirstFaults.{IsCut}
 use Rattle.re_syntax.specs.Working.Builds.{Frame, repeat_last, branches_of, with_item, build_all, nothing_built, FrameMeans, Builds, BuildsOn}
-use Rattle.re_syntax.proofs.lemmas.Built.{repeat-snoc, build-append, build-one}
-use Rattle.re_syntax.proofs.lemmas.TokenLaws.{cut_branches, adds_none}
+use Rattle.re_syntax.specs.Spelled.{by_tokens}
+use Rattle.re_syntax.proofs.lemmas.Built.{repeat-snoc, build-append, build-one, cut_branches}
 use Rattle.re_syntax.proofs.lemmas.Mirrored.{partner, none_mirrors}
 
 -- a group is left
@@ -44,5 +44,4 @@ builds_more done {k} m on =
 
 -- the text spells what was built of its cut
 pub built_spelled : {syntax : Syntax} {text : Text} {done : List Token} → IsCut syntax text done → IsSpelled syntax text (choice (branches_of (build_all done nothing_built).level))
-built_spelled {done = done} cut =
-    adds_none _ (record { tokens = done; cut = cut; branches = branches_of (build_all done nothing_built).level; read = cut_branches cut; whole = refl })
+built_spelled cut = by_tokens cut (cut_branches cut)

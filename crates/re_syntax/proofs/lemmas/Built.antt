@@ -1,10 +1,12 @@
 -- Tokens have one meaning: what a machine builds of them, one after another. Each whole cut has one.
-use Rattle.re_syntax.proofs.Prelude.{◌≡◌, ℕ, zero, suc, Bool, true, length, List, [], ◌∷◌, ◌++◌, Option, refl, sym, ap, ◌∙◌, subst, append_assoc, append-nil, Text, Expression, begin, repeat, sequence, choice, Syntax}
+use Rattle.re_syntax.proofs.Prelude.{◌≡◌, ℕ, zero, suc, Bool, true, length, List, [], ◌∷◌, ◌++◌, Option, refl, sym, ap, ◌∙◌, subst, append_assoc, append-nil, Text, Expression, begin, repeat, sequence, choice, Syntax, Basic, Extended, Fixed}
 use Rattle.re_syntax.specs.declared.tokens.ItemPlace.{ItemPlace}
 use Rattle.re_syntax.specs.declared.tokens.ItemPlace.TheVariants.{First, AfterAnchor, Later}
 use Rattle.re_syntax.specs.Tokens.{Token, opening, closing, bar, lead, atom, times}
+use Rattle.re_syntax.specs.BasicTokens as basic
+use Rattle.re_syntax.specs.ExtendedTokens as extended
 use Rattle.re_syntax.specs.FirstFaults.{Around, Context, is_group, closed_group, IsToken, Cut, whole, next, IsCut}
-use Rattle.re_syntax.specs.Working.TokenGrammar.{Branches, last, more, Items, none, anchor, item, Item, single, group, repeated, Spells}
+use Rattle.re_syntax.specs.Spelled.{Branches, last, more, Items, none, anchor, item, Item, single, group, repeated}
 use Rattle.re_syntax.specs.Working.Builds.{Frame, Built, nothing_built, repeat_last, branches_of, with_item, build, build_all}
 
 pub build-append : (ks ls : List Token) (b : Built) → build_all (ks ++ ls) b ≡ build_all ls (build_all ks b)
@@ -73,7 +75,7 @@ mutual
         are = others.are ∙ append_assoc bs (sequence es ∷ []) fs;
       }
 
-branches-unique : {ks : List Token} {ds es : List Expression} → Branches ks ds → Branches ks es → ds ≡ es
+pub branches-unique : {ks : List Token} {ds es : List Expression} → Branches ks ds → Branches ks es → ds ≡ es
 branches-unique x y =
     let p = branches-built x {bs = []} {outer = []} in
     let q = branches-built y in
@@ -135,34 +137,29 @@ end_in : (os : List Around) (p : ItemPlace) → os ≡ [] → MeansIn (length os
 end_in [] p e = means_at p (record { branches = _; read = last none })
 end_in (a ∷ os) p e = absurd (cc)
 
--- what the proofs use of tokens: a closing is in a group, and a duplication follows an item
-pub record IsPlaced (syntax : Syntax) : Type 0 where
-  pub in_group : (g : Bool) (p : ItemPlace) (t u : Text) → IsToken syntax g p t u closing → g ≡ true
-  pub after_item : (g : Bool) (p : ItemPlace) (t u : Text) (least : ℕ) (most : Option ℕ) → IsToken syntax g p t u (times least most) → p ≡ Later
+-- a closing is in a group, and a duplication follows an item
+in_group : (syntax : Syntax) (g : Bool) (p : ItemPlace) (t u : Text) → IsToken syntax g p t u closing → g ≡ true
+in_group Basic _ _ _ _ (basic.closes h) = h
+in_group Extended _ _ _ _ (extended.closes h) = h
+in_group Fixed _ _ _ _ x = elim x [ ]
 
-module _ {syntax : Syntax} (placed : IsPlaced syntax) where
-  cut_means : {c : Context} {t : Text} {ks : List Token} → Cut syntax c t ks → MeansIn (length c.around) c.place ks
-  cut_means {c} (whole e) = end_in c.around c.place e
-  cut_means {c} (next {k = opening} x n y) = opening_in (length c.around) c.place (cut_means y)
-  cut_means {c} (next {k = closing} x n y) = closing_in c.around c c.place (suc c.height) _ (placed.in_group _ _ _ _ x) (cut_means y)
-  cut_means {c} (next {k = bar} x n y) = more_first (length c.around) (bar ∷ []) First c.place _ (λ ls m. means_at c.place (record { branches = _; read = more none m.read })) (cut_means y)
-  cut_means {c} (next {k = lead} x n y) = more_first (length c.around) (lead ∷ []) AfterAnchor c.place _ (λ ls m. means_at c.place (anchor_first m.read)) (cut_means y)
-  cut_means {c} (next {k = atom e} x n y) = item_in (length c.around) c.place _ (single e) (cut_means y)
-  cut_means {c} (next {k = times least most} x n y) = times_in (length c.around) least most _ (placed.after_item _ _ _ _ _ _ x) (cut_means y)
+after_item : (syntax : Syntax) (g : Bool) (p : ItemPlace) (t u : Text) (least : ℕ) (most : Option ℕ) → IsToken syntax g p t u (times least most) → p ≡ Later
+after_item Basic _ _ _ _ _ _ (basic.repeats h d) = h
+after_item Extended _ _ _ _ _ _ (extended.repeats h d) = h
+after_item Fixed _ _ _ _ _ _ x = elim x [ ]
 
-  -- a text that is cut spells an expression
-  pub cut_spells : {text : Text} {ks : List Token} → IsCut syntax text ks → (e : Expression) × Spells syntax text e
-  cut_spells {ks = ks} x =
-      let means = cut_means x in
-      (choice means.branches, record { tokens = ks; cut = x; branches = means.branches; read = means.read; whole = refl })
+cut_means : {syntax : Syntax} {c : Context} {t : Text} {ks : List Token} → Cut syntax c t ks → MeansIn (length c.around) c.place ks
+cut_means {c = c} (whole e) = end_in c.around c.place e
+cut_means {c = c} (next {k = opening} x n y) = opening_in (length c.around) c.place (cut_means y)
+cut_means {syntax} {c} (next {k = closing} x n y) = closing_in c.around c c.place (suc c.height) _ (in_group syntax _ _ _ _ x) (cut_means y)
+cut_means {c = c} (next {k = bar} x n y) = more_first (length c.around) (bar ∷ []) First c.place _ (λ ls m. means_at c.place (record { branches = _; read = more none m.read })) (cut_means y)
+cut_means {c = c} (next {k = lead} x n y) = more_first (length c.around) (lead ∷ []) AfterAnchor c.place _ (λ ls m. means_at c.place (anchor_first m.read)) (cut_means y)
+cut_means {c = c} (next {k = atom e} x n y) = item_in (length c.around) c.place _ (single e) (cut_means y)
+cut_means {syntax} {c} (next {k = times least most} x n y) = times_in (length c.around) least most _ (after_item syntax _ _ _ _ _ _ x) (cut_means y)
 
-  -- what is built of the whole cut are its branches
-  pub cut_built : {text : Text} {ks : List Token} → IsCut syntax text ks → Branches ks (branches_of (build_all ks nothing_built).level)
-  cut_built {ks = ks} x =
-      let means = cut_means x in
-      let built = branches-built means.read in
-      subst (Branches ks) (sym (ap (λ b. branches_of b.level) built.is ∙ built.are)) means.read
-
--- the same tokens mean one expression
-pub same_meaning : {syntax : Syntax} {text : Text} {d e : Expression} (x : Spells syntax text d) (y : Spells syntax text e) → x.tokens ≡ y.tokens → d ≡ e
-same_meaning x y same = cc (x.whole, branches-unique (rw same at x.read) y.read, y.whole)
+-- what is built of a whole cut are its branches
+pub cut_branches : {syntax : Syntax} {text : Text} {ks : List Token} → IsCut syntax text ks → Branches ks (branches_of (build_all ks nothing_built).level)
+cut_branches {ks = ks} x =
+    let means = cut_means x in
+    let built = branches-built means.read in
+    subst (Branches ks) (sym (ap (λ b. branches_of b.level) built.is ∙ built.are)) means.read

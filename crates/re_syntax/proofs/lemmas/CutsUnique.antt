@@ -52,33 +52,33 @@ module _ {syntax : Syntax} (exact : IsExact syntax) where
 
   pub fault-unique : {c : Context} {t u v : Text} {j k : FaultKind} → FirstFault syntax c t j u → FirstFault syntax c t k v → SameFault j k u v
   fault-unique (no_token f) (no_token g) = exact.fault _ _ _ _ _ _ _ f g
-  fault-unique (no_token f) (too_deep u x d) = absurd (exact.either _ _ _ _ _ _ _ x f)
+  fault-unique (no_token f) (too_deep k u x d) = absurd (exact.either _ _ _ _ _ _ _ x f)
   fault-unique (no_token f) (unclosed e) = absurd (exact.fault_not_end _ _ _ _ f)
-  fault-unique (no_token f) (later x n y) = absurd (exact.either _ _ _ _ _ _ _ x f)
-  fault-unique (too_deep u x d) (no_token f) = absurd (exact.either _ _ _ _ _ _ _ x f)
-  fault-unique (too_deep u x d) (too_deep w z b) = record { kinds = refl; places = refl }
-  fault-unique (too_deep u x d) (unclosed e) = absurd (exact.token_not_end _ _ _ _ x)
-  fault-unique (too_deep u x d) (later z n y) = absurd (n (rw (exact.token _ _ _ _ _ _ _ x z).tokens at d))
+  fault-unique (no_token f) (later k x n y) = absurd (exact.either _ _ _ _ _ _ _ x f)
+  fault-unique (too_deep k u x d) (no_token f) = absurd (exact.either _ _ _ _ _ _ _ x f)
+  fault-unique (too_deep k u x d) (too_deep l w z b) = record { kinds = refl; places = refl }
+  fault-unique (too_deep k u x d) (unclosed e) = absurd (exact.token_not_end _ _ _ _ x)
+  fault-unique (too_deep k u x d) (later l z n y) = absurd (n (rw (exact.token _ _ _ _ _ _ _ x z).tokens at d))
   fault-unique (unclosed e) (no_token f) = absurd (exact.fault_not_end _ _ _ _ f)
-  fault-unique (unclosed e) (too_deep u x d) = absurd (exact.token_not_end _ _ _ _ x)
+  fault-unique (unclosed e) (too_deep k u x d) = absurd (exact.token_not_end _ _ _ _ x)
   fault-unique (unclosed e) (unclosed f) = record { kinds = refl; places = ap (λ a. a.from) (same_around e f) }
-  fault-unique (unclosed e) (later x n y) = absurd (exact.token_not_end _ _ _ _ x)
-  fault-unique (later x n y) (no_token f) = absurd (exact.either _ _ _ _ _ _ _ x f)
-  fault-unique (later x n y) (too_deep w z d) = absurd (n (rw (exact.token _ _ _ _ _ _ _ z x).tokens at d))
-  fault-unique (later x n y) (unclosed e) = absurd (exact.token_not_end _ _ _ _ x)
-  fault-unique (later {k = j} x n y) (later {u = r} z m b) =
+  fault-unique (unclosed e) (later k x n y) = absurd (exact.token_not_end _ _ _ _ x)
+  fault-unique (later k x n y) (no_token f) = absurd (exact.either _ _ _ _ _ _ _ x f)
+  fault-unique (later k x n y) (too_deep l w z d) = absurd (n (rw (exact.token _ _ _ _ _ _ _ z x).tokens at d))
+  fault-unique (later k x n y) (unclosed e) = absurd (exact.token_not_end _ _ _ _ x)
+  fault-unique (later j x n y) (later {u = r} l z m b) =
       let same = exact.token _ _ _ _ _ _ _ x z in
       fault-unique y (rw same.rests (rw same.tokens b))
 
   pub fault-no_cut : {c : Context} {t u : Text} {j : FaultKind} {ks : List Token} → FirstFault syntax c t j u → Cut syntax c t ks → ⊥
   fault-no_cut (no_token f) (whole e) = exact.fault_not_end _ _ _ _ f
   fault-no_cut (no_token f) (next x n y) = exact.either _ _ _ _ _ _ _ x f
-  fault-no_cut (too_deep u x d) (whole e) = exact.token_not_end _ _ _ _ x
-  fault-no_cut (too_deep u x d) (next z n y) = n (rw (exact.token _ _ _ _ _ _ _ x z).tokens at d)
+  fault-no_cut (too_deep k u x d) (whole e) = exact.token_not_end _ _ _ _ x
+  fault-no_cut (too_deep k u x d) (next z n y) = n (rw (exact.token _ _ _ _ _ _ _ x z).tokens at d)
   fault-no_cut (unclosed e) (whole f) = let g = sym e ∙ f in cc
   fault-no_cut (unclosed e) (next x n y) = exact.token_not_end _ _ _ _ x
-  fault-no_cut (later x n y) (whole e) = exact.token_not_end _ _ _ _ x
-  fault-no_cut {c} {t} (later {k = j} x n y) (next {u = r} {ks = ks} z m b) =
+  fault-no_cut (later k x n y) (whole e) = exact.token_not_end _ _ _ _ x
+  fault-no_cut {c} {t} (later j x n y) (next {u = r} {ks = ks} z m b) =
       let same = exact.token _ _ _ _ _ _ _ x z in
       fault-no_cut y (subst (λ s. Cut syntax (after t j c) s ks) (sym same.rests) (subst (λ k. Cut syntax (after t k c) r ks) (sym same.tokens) b))
 

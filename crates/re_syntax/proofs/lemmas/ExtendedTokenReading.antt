@@ -1,8 +1,8 @@
 -- Tokens of extended expressions, by the bytes at their place.
 use Rattle.re_syntax.proofs.Prelude.{HasOne, ◌≡◌, ◌≢◌, ℕ, ◌+◌, ◌<◌, ◌≤◌, ◌⊎◌, inl, inr, ◌&&◌, Bool, true, false, nat_eq, [], ◌∷◌, ◌++◌, length, drop, Option, Some, None, MatchOption, MatchBool, is_some, IsTrue, slice_get, codes, refl, sym, ap, ◌∙◌, arith, ne_eqb, cases_eq, append_assoc, length-drop, slice_get_within, Counts, Text, Begins, IsAfter, is_in, OpensDuplication, opens_star, opens_plus, opens_question, opens_interval, HasNoInterval, and_right}
 use Rattle.re_syntax.specs.declared.tokens.ItemPlace.{ItemPlace}
-use Rattle.re_syntax.specs.Extended.{Duplication, is_ordinary, star, plus, question, interval}
-use Rattle.re_syntax.specs.ExtendedTokens.{ExtendedToken, closes, period, ordinary}
+use Rattle.re_syntax.specs.ExtendedTokens.{Duplication, is_ordinary, star, plus, question, interval}
+use Rattle.re_syntax.specs.ExtendedTokens.{ExtendedToken, closes, period, ordinary, brace}
 use Rattle.re_syntax.specs.Working.TokenSteps.{byte_token}
 use Rattle.re_syntax.proofs.lemmas.BracketsUnique.{heads, tails, apart}
 use Rattle.re_syntax.proofs.lemmas.Places.{byte_at}
@@ -24,7 +24,7 @@ opens_some (opens_question {u = u}) = (63, u, refl)
 opens_some (opens_interval {t = t} c) = (123, t, refl)
 
 -- a duplication opens one
-dup_opens : {d : Text} {least : ℕ} {most : Option ℕ} → Duplication d least most → (u : Text) → OpensDuplication (d ++ u)
+pub dup_opens : {d : Text} {least : ℕ} {most : Option ℕ} → Duplication d least most → (u : Text) → OpensDuplication (d ++ u)
 dup_opens star u = opens_star
 dup_opens plus u = opens_plus
 dup_opens question u = opens_question
@@ -53,14 +53,14 @@ none_without_brace text at b e n k o = go o refl
     go (opens_interval {t = t} c) f = k (t, sym f)
 
 -- a brace that begins nothing of an interval's form opens none
+pub no_opening : {t s : Text} → HasNoInterval (codes "}") t → OpensDuplication s → s ≡ 123 ∷ t → ⊥
+no_opening n opens_star e = apart (heads e) refl
+no_opening n opens_plus e = apart (heads e) refl
+no_opening n opens_question e = apart (heads e) refl
+no_opening n (opens_interval c) e = no_closed n c (tails e)
+
 pub none_without_interval : {text : Text} {at inside : ℕ} → IsAfter (codes "{") text at inside → HasNoInterval (codes "}") (drop inside text) → ¬ OpensDuplication (drop at text)
-none_without_interval {text} {at} s h o = go o refl
-  where
-    go : {t : Text} → OpensDuplication t → t ≡ drop at text → ⊥
-    go opens_star f = apart (heads (f ∙ s.front)) refl
-    go opens_plus f = apart (heads (f ∙ s.front)) refl
-    go opens_question f = apart (heads (f ∙ s.front)) refl
-    go (opens_interval c) f = no_closed h c (tails (f ∙ s.front))
+none_without_interval s h o = no_opening h o s.front
 
 -- whether a duplication was found
 pub found_opens : (text : Text) (at : ℕ) (found : Option (Counts × ℕ)) {b : Bool} → b ≡ is_some found →
@@ -71,8 +71,8 @@ found_opens text at (Some d) e h = rw (e, h.front) (dup_opens h.duplication _)
 -- Single bytes.
 
 -- a byte that is nothing else stands for itself
-stands_for_itself : (g : Bool) (b : ℕ) (u : Text) → ¬ OpensDuplication (b ∷ u) → b ≢ 91 → b ≢ 46 → b ≢ 92 → b ≢ 40 → b ≢ 36 → b ≢ 124 → b ≢ 94 → (g && is_in (codes ")") b) ≡ false → IsTrue (is_ordinary g b)
-stands_for_itself g b u m k d l o w bar caret close =
+stands_for_itself : (g : Bool) (b : ℕ) (u : Text) → ¬ OpensDuplication (b ∷ u) → b ≢ 91 → b ≢ 46 → b ≢ 92 → b ≢ 40 → b ≢ 36 → b ≢ 124 → b ≢ 94 → b ≢ 123 → (g && is_in (codes ")") b) ≡ false → IsTrue (is_ordinary g b)
+stands_for_itself g b u m k d l o w bar caret x close =
     rw (
       ne_eqb 91 b (λ x. k (sym x)),
       ne_eqb 46 b (λ x. d (sym x)),
@@ -84,6 +84,7 @@ stands_for_itself g b u m k d l o w bar caret close =
       ne_eqb 124 b (λ x. bar (sym x)),
       ne_eqb 94 b (λ x. caret (sym x)),
       ne_eqb 36 b (λ x. w (sym x)),
+      ne_eqb 123 b (λ e. x (sym e)),
       close,
     ) refl
   where
@@ -92,16 +93,14 @@ stands_for_itself g b u m k d l o w bar caret close =
 
 -- the token of a byte that begins no other
 pub single : {g : Bool} {p : ItemPlace} (b : ℕ) {u : Text} → ¬ OpensDuplication (b ∷ u) → b ≢ 91 → b ≢ 92 → b ≢ 40 → b ≢ 36 → b ≢ 124 → b ≢ 94 → ExtendedToken g p (b ∷ u) u (byte_token g b)
-single {g} {p} b {u} m k l o w bar caret = go g (cases_eq b 41) (cases_eq b 46)
+single {g} {p} b {u} m k l o w bar caret = go g (cases_eq b 41) (cases_eq b 46) (cases_eq b 123)
   where
-    no_interval : b ≡ 123 → HasNoInterval (codes "}") u
-    no_interval e = record { none = λ v least most c. m (rw e (opens_interval c)) }
+    plain : (g : Bool) → (g && nat_eq b 41) ≡ false → (g && is_in (codes ")") b) ≡ false → (b ≡ 46) ⊎ (b ≡ 46 → ⊥) → (b ≡ 123) ⊎ (b ≡ 123 → ⊥) → ExtendedToken g p (b ∷ u) u (byte_token g b)
+    plain g e f (inl d) s = rw (d, and_right g (nat_eq 46 41) refl) period
+    plain g e f (inr n) (inl i) = rw (i, and_right g (nat_eq 123 41) refl) (brace (record { none = λ v least most c. m (rw i (opens_interval c)) }))
+    plain g e f (inr n) (inr i) = rw (e, ne_eqb b 46 n) (ordinary b (stands_for_itself g b u m k n l o w bar caret i f))
 
-    plain : (g : Bool) → (g && nat_eq b 41) ≡ false → (g && is_in (codes ")") b) ≡ false → (b ≡ 46) ⊎ (b ≡ 46 → ⊥) → ExtendedToken g p (b ∷ u) u (byte_token g b)
-    plain g e f (inl d) = rw (d, and_right g (nat_eq 46 41) refl) period
-    plain g e f (inr n) = rw (e, ne_eqb b 46 n) (ordinary b (stands_for_itself g b u m k n l o w bar caret f) no_interval)
-
-    go : (g : Bool) → (b ≡ 41) ⊎ (b ≡ 41 → ⊥) → (b ≡ 46) ⊎ (b ≡ 46 → ⊥) → ExtendedToken g p (b ∷ u) u (byte_token g b)
-    go true (inl e) d = rw e closes
-    go true (inr n) d = plain true (ne_eqb b 41 n) (rw (ne_eqb 41 b (λ x. n (sym x))) refl) d
-    go false c d = plain _ refl refl d
+    go : (g : Bool) → (b ≡ 41) ⊎ (b ≡ 41 → ⊥) → (b ≡ 46) ⊎ (b ≡ 46 → ⊥) → (b ≡ 123) ⊎ (b ≡ 123 → ⊥) → ExtendedToken g p (b ∷ u) u (byte_token g b)
+    go true (inl e) d s = rw e (closes refl)
+    go true (inr n) d s = plain true (ne_eqb b 41 n) (rw (ne_eqb 41 b (λ x. n (sym x))) refl) d s
+    go false c d s = plain _ refl refl d s

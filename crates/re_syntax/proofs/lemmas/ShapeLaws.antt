@@ -1,5 +1,5 @@
 -- What is known at a place of a text, after one token more.
-use Rattle.re_syntax.proofs.Prelude.{zero, ◌⊎◌, ◌-◌, inl, inr, cases_lt, nat_lt, lt-ltb, true, false, drop-length, begin, append_assoc, append-nil, ◌≡◌, ◌≢◌, ℕ, suc, ◌+◌, ◌*◌, ◌<◌, ◌≤◌, max, Bool, List, [], ◌∷◌, ◌++◌, Option, length, length-append, drop, refl, sym, ap, ◌∙◌, subst, arith, TooDeep, UnclosedGroup, PatternFault, Syntax, Text, Expression, positions, cat, alt, choice, sequence, up_to_word, most_levels}
+use Rattle.re_syntax.proofs.Prelude.{zero, ◌⊎◌, ◌-◌, inl, inr, cases_lt, nat_lt, lt-ltb, drop-length, begin, append_assoc, append-nil, ◌≡◌, ◌≢◌, ℕ, suc, ◌+◌, ◌*◌, ◌<◌, ◌≤◌, max, List, [], ◌∷◌, ◌++◌, Option, length, length-append, drop, refl, sym, ap, ◌∙◌, subst, arith, TooDeep, UnclosedGroup, PatternFault, Syntax, Text, Expression, positions, cat, alt, choice, sequence, up_to_word, most_levels}
 use Rattle.std.specs.Prelude.{◌^◌}
 use Rattle.re_trees.specs.Holds.{copies}
 use Rattle.re_syntax.specs.declared.shape.OpenGroup.{OpenGroup}
@@ -9,7 +9,7 @@ use Rattle.re_syntax.specs.declared.tokens.ItemPlace.TheVariants.{First, AfterAn
 use Rattle.re_syntax.specs.declared.tokens.Token.{Token as Read}
 use Rattle.re_syntax.specs.Tokens.{Token, opening, closing, bar, lead, atom, times}
 use Rattle.re_syntax.specs.Faults.{IsAt}
-use Rattle.re_syntax.specs.FirstFaults.{Around, Context, start, is_group, after, closed_group, IsTooDeep, group, item, whole, next, FirstFault, no_token, too_deep, unclosed, later, IsToken, IsTokenFault, IsFirstFault}
+use Rattle.re_syntax.specs.FirstFaults.{Around, Context, start, is_group, after, closed_group, whole, next, FirstFault, no_token, too_deep, unclosed, later, IsToken, IsTokenFault, IsFirstFault}
 use Rattle.re_syntax.specs.Working.Builds.{Frame, Built, build_all, nothing_built, branches_of, repeat_last, left_group, with_item, level_positions, last_positions, rest_positions}
 use Rattle.re_syntax.specs.Working.Mirrors.{Mirrors, neither, both}
 use Rattle.re_syntax.specs.Working.ShapeSteps.{IsAround, Shows, Counts, Takes, Refuses, Reaches, Ends, EndsOpen}
@@ -88,25 +88,6 @@ counted {b = b} h = omega (arith, h.before, h.item, rest-and-last b.level.items)
 
 -- Tokens that are taken.
 
--- only a group or a duplication goes too deep
-abbrev pub rises : Token → Bool
-rises opening = true
-rises closing = false
-rises bar = false
-rises lead = false
-rises (atom e) = false
-rises (times least most) = true
-
-pub shallow : {c : Context} {k : Token} → IsTooDeep c k → rises k ≡ false → ⊥
-shallow (group h) e = cc
-shallow (item h) e = cc
-
-shallow_group : {c : Context} → length c.around < most_levels → ¬ IsTooDeep c opening
-shallow_group h (group k) = omega arith
-
-shallow_item : {c : Context} {least : ℕ} {most : Option ℕ} → c.last + length c.around < most_levels → ¬ IsTooDeep c (times least most)
-shallow_item h (item k) = omega arith
-
 -- a group was opened
 pub group_taken : {at p n : ℕ} {old new : Shape} → n ≡ length old.groups.items → n ≢ most_levels → n ≤ most_levels → p ≡ up_to_word (old.before + old.item) →
     new.place ≡ First → new.last ≡ 0 → new.height ≡ 0 → new.before ≡ 0 → new.item ≡ 0 →
@@ -115,7 +96,7 @@ group_taken {at} {p} {old} count room fits q place last height before none e =
     let more = ap length e ∙ length-append old.groups.items (record { opening = at; height = old.height; positions = p } ∷ []) in
     record {
       shows = λ text c within s. (
-        shallow_group (omega (arith, as_many s.around)),
+        λ d. omega (arith, as_many s.around),
         record {
           place_is = place;
           last_is = last;
@@ -129,7 +110,7 @@ group_taken {at} {p} {old} count room fits q place last height before none e =
     }
 
 pub group_refused : {at : ℕ} {shape : Shape} {fault : PatternFault} {n : ℕ} → n ≡ length shape.groups.items → n ≡ most_levels → fault ≡ record { kind = TooDeep; at = at } → Refuses opening at shape fault
-group_refused count full e = record { fault_is = e; deep = λ text c s. group (omega (arith, as_many s.around)) }
+group_refused count full e = record { fault_is = e; deep = λ text c s. omega (arith, as_many s.around) }
 
 -- an item was repeated
 pub item_taken : {at n m : ℕ} {old new : Shape} (least : ℕ) (most : Option ℕ) → n ≡ length old.groups.items → old.last + n < most_levels → m ≡ up_to_word (copies least most * old.item) →
@@ -137,7 +118,7 @@ pub item_taken : {at n m : ℕ} {old new : Shape} (least : ℕ) (most : Option �
     Takes (times least most) at old new
 item_taken least most count room product place last height before item' e = record {
   shows = λ text c within s. (
-    shallow_item (omega (arith, as_many s.around, s.last_is)),
+    λ d. omega (arith, as_many s.around, s.last_is),
     record {
       place_is = place;
       last_is = omega (arith, s.last_is);
@@ -155,12 +136,12 @@ item_taken least most count room product place last height before item' e = reco
 
 pub item_refused : {at : ℕ} {shape : Shape} {fault : PatternFault} {n : ℕ} (least : ℕ) (most : Option ℕ) → n ≡ length shape.groups.items → most_levels ≤ shape.last + n → fault ≡ record { kind = TooDeep; at = at } →
     Refuses (times least most) at shape fault
-item_refused least most count full e = record { fault_is = e; deep = λ text c s. item (omega (arith, as_many s.around, s.last_is)) }
+item_refused least most count full e = record { fault_is = e; deep = λ text c s. omega (arith, as_many s.around, s.last_is) }
 
 -- a group was closed
 pub group_left : {at p : ℕ} {old new : Shape} (last : OpenGroup) → old.groups.items ≡ new.groups.items ++ last ∷ [] → p ≡ up_to_word (old.before + old.item) → new.place ≡ Later → new.last ≡ old.height + 1 →
     new.height ≡ max last.height (old.height + 1) → new.before ≡ last.positions → new.item ≡ p → Takes closing at old new
-group_left {at} {old} {new} last e q place l height before item' = record { shows = λ text c within s. (λ d. shallow d refl, shown text c s); counts = counts }
+group_left {at} {old} {new} last e q place l height before item' = record { shows = λ text c within s. (λ d. d, shown text c s); counts = counts }
   where
     shown : (text : Text) (c : Context) → Shows text old c → Shows text new (after (drop at text) closing c)
     shown text c s =
@@ -187,7 +168,7 @@ group_left {at} {old} {new} last e q place l height before item' = record { show
 -- none was open
 pub none_left : {at : ℕ} {shape : Shape} → shape.groups.items ≡ [] → Takes closing at shape shape
 none_left {shape} e = record {
-  shows = λ text c within s. (λ d. shallow d refl, subst (λ os. Shows text shape (closed_group (suc c.height) os c)) (sym (none_mirrors s.around e)) s);
+  shows = λ text c within s. (λ d. d, subst (λ os. Shows text shape (closed_group (suc c.height) os c)) (sym (none_mirrors s.around e)) s);
   counts = λ b h.
       let none = none_mirrors h.around e in
       rw none (record { before = h.before; item = h.item; around = rw none at h.around });
@@ -201,7 +182,7 @@ flat e s = rw e
 
 pub bar_taken : {at : ℕ} {old new : Shape} → new ≡ record old { place = First; last = 0; before = up_to_word (old.before + old.item); item = 0 } → Takes bar at old new
 bar_taken e = record {
-  shows = λ text c within s. (λ d. shallow d refl, flat e s);
+  shows = λ text c within s. (λ d. d, flat e s);
   counts = λ b h. rw e
       (record { before = counted h ∙ ap up_to_word (sym (positions-branches b.level) ∙ omega arith); item = refl; around = h.around });
 }
@@ -216,10 +197,10 @@ one_taken x e p h = rw e (record {
 })
 
 pub lead_taken : {at : ℕ} {old new : Shape} → new ≡ record old { place = AfterAnchor; last = 0; before = up_to_word (old.before + old.item); item = 0 } → Takes lead at old new
-lead_taken e = record { shows = λ text c within s. (λ d. shallow d refl, flat e s); counts = λ b h. one_taken begin e refl h }
+lead_taken e = record { shows = λ text c within s. (λ d. d, flat e s); counts = λ b h. one_taken begin e refl h }
 
 pub atom_taken : {at n : ℕ} (x : Expression) {old new : Shape} → n ≡ positions x → n ≤ 1 → new ≡ record old { place = Later; last = 0; before = up_to_word (old.before + old.item); item = n } → Takes (atom x) at old new
-atom_taken x p few e = record { shows = λ text c within s. (λ d. shallow d refl, flat e s); counts = λ b h. one_taken x e (omega arith) h }
+atom_taken x p few e = record { shows = λ text c within s. (λ d. d, flat e s); counts = λ b h. one_taken x e (omega arith) h }
 
 -- What was read.
 
@@ -246,7 +227,7 @@ module _ {syntax : Syntax} {text : Text} {at : ℕ} {old : Shape} {done : List T
         context = after (drop at text) (token_of token) r.context;
         shows = shows;
         cut = λ ks x. rw (append_assoc done (token_of token ∷ []) ks) (r.cut (token_of token ∷ ks) (next (here t) light x));
-        fault = λ kind from x. r.fault kind from (later (here t) light x);
+        fault = λ kind from x. r.fault kind from (later _ (here t) light x);
         counts = rw (build-append _ _ _ ∙ build-one (token_of token) (build_all done nothing_built)) (k.counts (build_all done nothing_built) r.counts);
       }
 
@@ -261,7 +242,7 @@ module _ {syntax : Syntax} {text : Text} {at : ℕ} {old : Shape} {done : List T
   -- the token goes too deep
   pub deep_met : {token : Read} {beyond : ℕ} {fault : PatternFault} → Stands syntax (nat_lt 0 n) old.place text at token beyond → Refuses (token_of token) at old fault → IsFirstFault syntax text fault
   deep_met {fault} t h =
-      rw h.fault_is (record { within = r.within; is_fault = r.fault TooDeep (drop at text) (too_deep _ (here t) (h.deep text r.context r.shows)) })
+      rw h.fault_is (record { within = r.within; is_fault = r.fault TooDeep (drop at text) (too_deep _ _ (here t) (h.deep text r.context r.shows)) })
 
 -- the text begins
 pub reaches_start : (syntax : Syntax) (text : Text) {shape : Shape} → ((text : Text) → Shows text shape start) → Counts shape nothing_built → Reaches syntax text 0 shape []

@@ -1,18 +1,39 @@
--- The laws of the definitions: one expression, one split, one list of parts.
-use Rattle.re_syntax.proofs.Prelude.{◌≡◌, Text, Expression, Syntax, IsSpelled, SpellsOne, HasOneSplit, HasOnePartList}
-use Rattle.re_syntax.proofs.lemmas.TokenLaws.{keeps_spelled, one_meaning}
+-- The laws of the definitions: one cut, one expression, one split, one list of parts.
+use Rattle.re_syntax.proofs.Prelude.{ap, FaultKind, Text, Expression, choice, Syntax, Basic, Extended, Fixed, IsSpelled, SpellsOne, HasOneSplit, HasOnePartList}
+use Rattle.re_syntax.specs.FirstFaults.{start, FirstFault}
+use Rattle.re_syntax.specs.Laws.{HasOneCut}
+use Rattle.re_syntax.specs.Spelled.{by_tokens}
+use Rattle.re_syntax.proofs.lemmas.BasicTokensUnique.{basic_exact}
+use Rattle.re_syntax.proofs.lemmas.Built.{branches-unique, cut_branches}
+use Rattle.re_syntax.proofs.lemmas.CutsUnique.{IsExact, cuts-unique, faults-unique, fault-no_cut}
+use Rattle.re_syntax.proofs.lemmas.ExtendedTokensUnique.{extended_exact}
+use Rattle.re_syntax.proofs.lemmas.FixedTokens.{fixed_exact}
 use Rattle.re_trees.proofs.lemmas.LinesLaws.{AreLines-lines_of, lines_of-unique, AreListed-list_of, list_of-unique}
 use Rattle.re_syntax.proofs.lemmas.PartsExist.{AreParts-exist}
 use Rattle.re_trees.proofs.lemmas.EndedLinesLaws.{AreEndedLines-ended_lines_of, ended_lines_of-unique}
 use Rattle.re_syntax.proofs.lemmas.PartsLaws.{ArePartsFrom-unique}
 
--- a text spells one expression
-pub IsSpelled-unique : {syntax : Syntax} {t : Text} {d e : Expression} → IsSpelled syntax t d → IsSpelled syntax t e → d ≡ e
-IsSpelled-unique p q = one_meaning (keeps_spelled _ p) (keeps_spelled _ q)
+exact : (syntax : Syntax) → IsExact syntax
+exact Basic = basic_exact
+exact Extended = extended_exact
+exact Fixed = fixed_exact
+
+-- the law on cuts
+pub has_one_cut : (text : Text) (syntax : Syntax) → HasOneCut syntax text
+has_one_cut _ syntax = record {
+  cuts = λ ks ls x y. cuts-unique (exact _) x y;
+  faults = λ f g x y. faults-unique (exact _) x y;
+  never_both = λ f ks x y. fault-no_cut (exact _) x.is_fault y;
+  each = λ ks x. (_, by_tokens x (cut_branches x));
+}
 
 -- the law on what a text spells
 pub spells_one : (text : Text) → SpellsOne text
-spells_one _ _ d e p q = IsSpelled-unique p q
+spells_one _ _ _ _ (by_tokens x r) (by_tokens y q) = ap choice (branches-unique (rw (cuts-unique (exact _) x y) at r) q)
+
+-- a text that has a first fault spells nothing
+pub fault_spells_none : {syntax : Syntax} {text from : Text} {kind : FaultKind} → FirstFault syntax start text kind from → (e : Expression) → ¬ IsSpelled syntax text e
+fault_spells_none f e (by_tokens x r) = fault-no_cut (exact _) f x
 
 -- the law on lines and patterns
 pub has_one_split : {text : Text} → HasOneSplit text

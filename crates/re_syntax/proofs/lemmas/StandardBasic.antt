@@ -1,72 +1,54 @@
 -- Basic expressions of the standard alone spell the same here.
-use Rattle.re_syntax.proofs.Prelude.{◌≡◌, ℕ, List, ◌∷◌, ◌++◌, Option, refl, sym, ◌∙◌, Basic, Text, Expression, ItemPlace, IsAtEnd, of_text, of_group, of_branch, leading, IsSpelled, as_basic, IsStandardBasic}
-use Rattle.re_syntax.specs.Basic.{Duplication, star, interval, last, Items, none, trailing, item, Item, atom, repeated, Atom, bracket, period, escaped, ordinary, group}
-use Rattle.re_syntax.specs.Working.StandardBasic.{Duplication as StandardDuplication, star as standard_star, interval as standard_interval, IsAtEnd as StandardEnd, of_text as standard_of_text, of_group as standard_of_group, Items as StandardItems, none as standard_none, leading as standard_leading, trailing as standard_trailing, item as standard_item, Item as StandardItem, atom as standard_atom, repeated as standard_repeated, Atom as StandardAtom, bracket as standard_bracket, period as standard_period, escaped as standard_escaped, ordinary as standard_ordinary, group as standard_group, as_basic as standard_as_basic}
-use Rattle.re_syntax.proofs.lemmas.BracketsUnique.{heads, tails, apart, bracket_front}
-use Rattle.re_syntax.proofs.lemmas.BasicTokensUnique.{never}
+use Rattle.re_syntax.proofs.Prelude.{ℕ, Bool, false, List, Option, refl, Basic, Text, Expression, IsAtEnd, of_text, of_group, IsSpelled, IsStandardBasic}
+use Rattle.re_syntax.specs.declared.tokens.ItemPlace.{ItemPlace}
+use Rattle.re_syntax.specs.BasicTokens as basic
+use Rattle.re_syntax.specs.Working.StandardBasic.{Duplication, star, interval, IsAtEnd as StandardEnd, of_text as standard_of_text, of_group as standard_of_group, Items, none, leading, trailing, item, Item, bracket, period, escaped, ordinary, dollar, group, repeated, as_basic}
+use Rattle.re_syntax.proofs.lemmas.BasicTokensUnique.{at_end}
+use Rattle.re_syntax.proofs.lemmas.SpelledParts.{ItemReads, ItemsRead, BranchesRead, spells}
+use Rattle.re_syntax.proofs.lemmas.SpelledParts as parts
 use Rattle.re_syntax.proofs.lemmas.StandardIntervals.{interval-kept}
-
--- Where the standard has a part, there is no `\|`.
-
-end_no_bar : {t : Text} → StandardEnd t → (w : Text) → t ≡ 92 ∷ 124 ∷ w → ⊥
-end_no_bar standard_of_text w e = cc
-end_no_bar standard_of_group w e = apart (heads (tails e)) refl
-
-duplication_no_bar : {d : Text} {least : ℕ} {most : Option ℕ} → StandardDuplication d least most → (u w : Text) → d ++ u ≡ 92 ∷ 124 ∷ w → ⊥
-duplication_no_bar standard_star u w e = apart (heads e) refl
-duplication_no_bar (standard_interval form allowed) u w e = apart (heads (tails e)) refl
-
-atom_no_bar : {p : ItemPlace} {h : ℕ} {t u : Text} {e : Expression} → StandardAtom p h t u e → (w : Text) → t ≡ 92 ∷ 124 ∷ w → ⊥
-atom_no_bar (standard_bracket b) w e = let (v, f) = bracket_front b in apart (heads (sym f ∙ e)) refl
-atom_no_bar standard_period w e = apart (heads e) refl
-atom_no_bar (standard_escaped b h) w e = h (rw (heads (tails e)) refl)
-atom_no_bar {p} (standard_ordinary b h k) w e = never p h refl (sym e)
-atom_no_bar (standard_group is) w e = apart (heads (tails e)) refl
-
-item_no_bar : {p : ItemPlace} {h : ℕ} {t u : Text} {e : Expression} → StandardItem p h t u e → (w : Text) → t ≡ 92 ∷ 124 ∷ w → ⊥
-item_no_bar (standard_atom a) w e = atom_no_bar a w e
-item_no_bar (standard_repeated i d) w e = item_no_bar i w e
-
-items_no_bar : {p : ItemPlace} {h : ℕ} {t u : Text} {es : List Expression} → StandardItems p h t u es → StandardEnd u → (w : Text) → t ≡ 92 ∷ 124 ∷ w → ⊥
-items_no_bar standard_none s w e = end_no_bar s w e
-items_no_bar (standard_leading is) s w e = apart (heads e) refl
-items_no_bar (standard_trailing l) s w e = apart (heads e) refl
-items_no_bar (standard_item i is) s w e = item_no_bar i w e
-
--- So each part of the standard is one here.
 
 end-kept : {t : Text} → StandardEnd t → IsAtEnd t
 end-kept standard_of_text = of_text
 end-kept standard_of_group = of_group
 
--- an end where no other branch follows is one of the standard's
-end_back : {t : Text} → IsAtEnd t → ((w : Text) → t ≡ 92 ∷ 124 ∷ w → ⊥) → StandardEnd t
-end_back of_text n = standard_of_text
-end_back of_group n = standard_of_group
-end_back (of_branch {t = w}) n = absurd (n w refl)
+duplication-kept : {d : Text} {least : ℕ} {most : Option ℕ} → Duplication d least most → basic.Duplication d least most
+duplication-kept star = basic.star
+duplication-kept (interval form allowed) = basic.interval (interval-kept form) allowed
 
-duplication-kept : {d : Text} {least : ℕ} {most : Option ℕ} → StandardDuplication d least most → Duplication d least most
-duplication-kept standard_star = star
-duplication-kept (standard_interval form allowed) = interval (interval-kept form) allowed
+-- Where the standard has a part no other branch follows, so each end there is one of the standard's.
+
+item_apart : {p : ItemPlace} {h : ℕ} {t u : Text} {e : Expression} → Item p h t u e → ¬ IsAtEnd t
+item_apart {p} (bracket b) a = at_end {g = false} {p = p} (basic.bracket b) a refl
+item_apart period a = elim a [ ]
+item_apart {p} (escaped b h) a = at_end {g = false} {p = p} (basic.escaped b h) a refl
+item_apart {p} (ordinary b h) a = at_end {g = false} {p = p} (basic.ordinary b h) a refl
+item_apart (dollar n) a = elim a [ ]
+item_apart (group is) a = elim a [ ]
+item_apart (repeated i d) a = item_apart i a
+
+items_end : {p : ItemPlace} {h : ℕ} {t u : Text} {es : List Expression} → Items p h t u es → StandardEnd u → IsAtEnd t → StandardEnd t
+items_end none s a = s
+items_end (leading is) s a = elim a [ ]
+items_end (trailing l) s a = elim a [ ]
+items_end (item i is) s a = absurd (item_apart i a)
 
 mutual
-  items-kept : {p : ItemPlace} {h : ℕ} {t u : Text} {es : List Expression} → StandardItems p h t u es → StandardEnd u → Items p h t u es
-  items-kept standard_none s = none
-  items-kept (standard_leading is) s = leading (items-kept is s)
-  items-kept (standard_trailing l) s = trailing (end-kept l)
-  items-kept (standard_item i is) s = item (item-kept i (items_no_bar is s)) (items-kept is s)
+  items_read : {p : ItemPlace} {h : ℕ} {t u : Text} {es : List Expression} → Items p h t u es → StandardEnd u → {g : Bool} → ItemsRead Basic g p h t u es
+  items_read none s = parts.none
+  items_read (leading is) s = parts.anchor (basic.leads refl) (items_read is s)
+  items_read (trailing l) s = parts.item (parts.single (basic.trails (end-kept l))) parts.none
+  items_read (item i is) s = parts.item (item_read i (items_end is s)) (items_read is s)
 
-  item-kept : {p : ItemPlace} {h : ℕ} {t u : Text} {e : Expression} → StandardItem p h t u e → ((w : Text) → u ≡ 92 ∷ 124 ∷ w → ⊥) → Item p h t u e
-  item-kept (standard_atom a) n = atom (atom-kept a n)
-  item-kept (standard_repeated {u = u} i d) n = repeated (item-kept i (duplication_no_bar d u)) (duplication-kept d)
-
-  atom-kept : {p : ItemPlace} {h : ℕ} {t u : Text} {e : Expression} → StandardAtom p h t u e → ((w : Text) → u ≡ 92 ∷ 124 ∷ w → ⊥) → Atom p h t u e
-  atom-kept (standard_bracket b) n = bracket b
-  atom-kept standard_period n = period
-  atom-kept (standard_escaped b h) n = escaped b h
-  atom-kept (standard_ordinary b h k) n = ordinary b h (λ e at_end. k e (end_back at_end n))
-  atom-kept (standard_group is) n = group (last (items-kept is standard_of_group))
+  item_read : {p : ItemPlace} {h : ℕ} {t u : Text} {e : Expression} → Item p h t u e → (IsAtEnd u → StandardEnd u) → {g : Bool} → ItemReads Basic g p h t u e
+  item_read (bracket b) n = parts.single (basic.bracket b)
+  item_read period n = parts.single basic.period
+  item_read (escaped b h) n = parts.single (basic.escaped b h)
+  item_read (ordinary b h) n = parts.single (basic.ordinary b h)
+  item_read (dollar k) n = parts.single (basic.dollar (λ a. k (n a)))
+  item_read (group is) n = parts.group basic.opens (parts.last (items_read is standard_of_group)) (λ q. basic.closes refl)
+  item_read (repeated i d) n = parts.repeated (item_read i (λ a. absurd (at_end {g = false} (basic.repeats refl (duplication-kept d)) a refl))) (basic.repeats refl (duplication-kept d))
 
 -- a whole basic expression
 pub basic-kept : {t : Text} {e : Expression} → IsStandardBasic t e → IsSpelled Basic t e
-basic-kept (standard_as_basic is h) = as_basic (last (items-kept is standard_of_text)) h
+basic-kept (as_basic is h) = spells (parts.last (items_read is standard_of_text)) h

@@ -1,7 +1,6 @@
 -- Tokens and their faults in any syntax, by the bytes at their place.
 use Rattle.re_syntax.proofs.Prelude.{HasOne, ◌≡◌, ℕ, ◌+◌, ◌<◌, ◌≤◌, Bool, false, nat_eq, ◌∷◌, ◌++◌, length, drop, get_or, Option, sym, ◌∙◌, arith, append_assoc, length-drop, length-append, Digit, in_class, Syntax, FaultKind, Counts, Text, byte, IsBracketUpTo, IsAfter, IsAllowed, IsDisallowed, IsNoPart, IntervalStands, EscapeStands}
 use Rattle.re_syntax.specs.declared.tokens.ItemPlace.{ItemPlace}
-use Rattle.re_syntax.specs.declared.tokens.ItemPlace.TheVariants.{Later}
 use Rattle.re_syntax.specs.declared.tokens.Token.{Token as Read}
 use Rattle.re_syntax.specs.declared.tokens.Token.TheVariants.{Atom as Atomic, Times}
 use Rattle.re_syntax.specs.declared.tokens.Atom.{Atom}
@@ -35,12 +34,12 @@ module _ {syntax : Syntax} {g : Bool} {p : ItemPlace} {text : Text} {at : ℕ} w
   bracket_stands it b x = let within = b.within in record { forward = omega (arith, simp length-drop at (bracket-shortens b.stands)); within = within; stands = x }
 
   -- a duplication
-  pub times_stand : {beyond : ℕ} {counts : Counts} {D : Text → ℕ → Option ℕ → Type 0} → p ≡ Later → (d : HasOne D text at counts beyond) → 0 < length d.bytes →
-      IsToken syntax g Later (d.bytes ++ drop beyond text) (drop beyond text) (times counts.least counts.most) → Stands syntax g p text at (Times counts) beyond
-  times_stand {beyond} e d some x =
+  pub times_stand : {beyond : ℕ} {counts : Counts} {D : Text → ℕ → Option ℕ → Type 0} (d : HasOne D text at counts beyond) → 0 < length d.bytes →
+      IsToken syntax g p (d.bytes ++ drop beyond text) (drop beyond text) (times counts.least counts.most) → Stands syntax g p text at (Times counts) beyond
+  times_stand {beyond} d some x =
       let within = d.within in
       let lengths : length (drop at text) ≡ length d.bytes + length (drop beyond text) = cc (d.front, length-append d.bytes (drop beyond text)) in
-      stands_by (omega (arith, simp length-drop at lengths)) within d.front (rw e x)
+      stands_by (omega (arith, simp length-drop at lengths)) within d.front x
 
 -- an interval whose counts are allowed is a duplication, and one whose counts are refused is a fault
 module _ {opening close text : Text} {at inside beyond : ℕ} {counts : Counts} (s : IsAfter opening text at inside) (i : IntervalStands close text inside counts beyond) where

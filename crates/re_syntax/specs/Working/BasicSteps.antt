@@ -1,8 +1,8 @@
 -- What each step of reading a basic expression's tokens says.
 use Rattle.std.specs.Prelude.{◌≡◌, ℕ, ◌++◌, drop, codes}
 use Rattle.re_trees.specs.Bytes.{Text, Begins}
-use Rattle.re_syntax.specs.Working.Ahead.{IsAfter}
-use Rattle.re_syntax.specs.Basic.{ItemPlace, Later, IsAtEnd}
+use Rattle.re_syntax.specs.{Working.Ahead.IsAfter, declared.tokens.ItemPlace.ItemPlace}
+use Rattle.re_syntax.specs.{declared.tokens.ItemPlace.TheVariants.Later, BasicTokens.IsAtEnd}
 use Rattle.re_syntax.specs.BasicTokens.{NeedsItem}
 
 -- the text begins with nothing that opens a duplication

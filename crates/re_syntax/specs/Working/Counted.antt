@@ -1,10 +1,7 @@
 -- The number of positions of a text's expression, its intervals written out.
 use Rattle.std.specs.Prelude.{◌≡◌, ℕ, ◌-◌, ◌^◌, min}
-use Rattle.re_syntax.specs.declared.syntax.Syntax.{Syntax}
-use Rattle.re_trees.specs.Bytes.{Text}
-use Rattle.re_trees.specs.Expression.{Expression}
-use Rattle.re_trees.specs.Holds.{positions}
-use Rattle.re_syntax.specs.Spelled.{IsSpelled}
+use Rattle.re_syntax.specs.{declared.syntax.Syntax.Syntax, Spelled.IsSpelled}
+use Rattle.re_trees.specs.{Bytes.Text, Expression.Expression, Holds.positions}
 
 -- a number as a machine word keeps it: the greatest word where the number is greater
 abbrev pub up_to_word : ℕ → ℕ

@@ -1,11 +1,9 @@
 -- What each step of reading an interval says.
 use Rattle.std.specs.Prelude.{◌≡◌, ℕ, ◌≤◌, ◌∷◌, ◌++◌, length, take, drop, Option, Some, IsTrue}
-use Rattle.std.specs.List.{list_all}
-use Rattle.std.specs.Option.{option_map}
-use Rattle.re_trees.specs.declared.class.Class.TheVariants.{Digit}
-use Rattle.re_syntax.specs.declared.interval.Counts.{Counts}
-use Rattle.re_trees.specs.Bytes.{Text, in_class}
+use Rattle.std.specs.{List.list_all, Option.option_map}
+use Rattle.re_trees.specs.{declared.class.Class.TheVariants.Digit, Bytes.Text, Bytes.in_class}
 use Rattle.re_syntax.specs.Intervals.{IsNumber, value, ClosedInterval, capped}
+use Rattle.re_syntax.specs.declared.interval.Counts.{Counts}
 
 abbrev pub AreDigits : Text → Type 0
 AreDigits t = IsTrue (list_all (in_class Digit) t)

@@ -1,15 +1,14 @@
--- Basic regular expressions of the standard alone (XBD 9.3): as in Basic, without branches, `\+`,
--- `\?` and the interval that has no least number. The law that what the standard defines keeps its
--- meaning uses them; no definition rests on this.
-use Rattle.std.specs.Prelude.{◌≡◌, ℕ, suc, max, ◌≤◌, List, [], ◌∷◌, ◌++◌, Option, None, IsTrue}
-use Rattle.std.specs.Prelude.{codes}
-use Rattle.re_trees.specs.Bytes.{Text, any_but_nul}
+-- Basic regular expressions of the standard alone (XBD 9.3). Each relation is between a text that
+-- begins with a part, the text after the part, and what the part means; a number is the part's
+-- height: how deep groups and duplications are nested in it. The law that what the standard defines
+-- keeps its meaning uses this; no definition rests on it.
+use Rattle.std.specs.Prelude.{ℕ, suc, max, ◌≤◌, List, [], ◌∷◌, ◌++◌, Option, None, IsTrue, codes}
 use Rattle.re_trees.specs.Expression.{Expression, one_of, begin, end, repeat, byte, sequence}
-use Rattle.re_syntax.specs.Basic.{ItemPlace, First, AfterAnchor, Later, is_ordinary}
-use Rattle.re_syntax.specs.Brackets.{IsBracket}
-use Rattle.re_syntax.specs.Intervals.{IsAllowed}
-use Rattle.re_syntax.specs.Profile.{most_levels, basic_escaped}
-use Rattle.re_syntax.specs.Escapes.{is_undefined}
+use Rattle.re_trees.specs.Bytes.{Text, any_but_nul}
+use Rattle.re_syntax.specs.declared.tokens.ItemPlace.TheVariants.{First, AfterAnchor, Later}
+use Rattle.re_syntax.specs.{declared.tokens.ItemPlace.ItemPlace, BasicTokens.is_ordinary}
+use Rattle.re_syntax.specs.{Brackets.IsBracket, Intervals.IsAllowed, Profile.most_levels}
+use Rattle.re_syntax.specs.{Profile.basic_escaped, Escapes.is_undefined}
 use Rattle.re_syntax.specs.Working.StandardIntervals.{Interval}
 
 -- `*`, or an interval in `\{` and `\}` (XBD 9.3.6)
@@ -34,23 +33,21 @@ mutual
     item : {p : ItemPlace} {h k : ℕ} {t u v : Text} {e : Expression} {es : List Expression} →
         Item p h t u e → Items Later k u v es → Items p (max h k) t v (e ∷ es)
 
-  -- an atom, or an item and a duplication
+  -- an atom, a group, or an item and a duplication
   pub data Item : ItemPlace → ℕ → Text → Text → Expression → Type 0 where
-    atom : {p : ItemPlace} {h : ℕ} {t u : Text} {e : Expression} → Atom p h t u e → Item p h t u e
+    bracket : {p : ItemPlace} {t u : Text} {e : Expression} → IsBracket t u e → Item p 0 t u e
+    period : {p : ItemPlace} {u : Text} → Item p 0 (codes "." ++ u) u (one_of any_but_nul)
+    escaped : {p : ItemPlace} {u : Text} (b : ℕ) → ¬ IsTrue (is_undefined basic_escaped b) →
+        Item p 0 (codes "\\" ++ b ∷ u) u (byte b)
+    ordinary : {p : ItemPlace} {u : Text} (b : ℕ) → IsTrue (is_ordinary p b) →
+        Item p 0 (b ∷ u) u (byte b)
+    -- a `$` that is not last
+    dollar : {p : ItemPlace} {u : Text} → ¬ IsAtEnd u → Item p 0 (codes "$" ++ u) u (byte 36)
+    group : {p : ItemPlace} {h : ℕ} {t u : Text} {es : List Expression} →
+        Items First h t (codes "\\)" ++ u) es → Item p (suc h) (codes "\\(" ++ t) u (sequence es)
     repeated : {p : ItemPlace} {h : ℕ} {t d u : Text} {e : Expression}
         {least : ℕ} {most : Option ℕ} → Item p h t (d ++ u) e → Duplication d least most →
         Item p (suc h) t u (repeat e least most)
-
-  pub data Atom : ItemPlace → ℕ → Text → Text → Expression → Type 0 where
-    bracket : {p : ItemPlace} {t u : Text} {e : Expression} → IsBracket t u e → Atom p 0 t u e
-    period : {p : ItemPlace} {u : Text} → Atom p 0 (codes "." ++ u) u (one_of any_but_nul)
-    escaped : {p : ItemPlace} {u : Text} (b : ℕ) → ¬ IsTrue (is_undefined basic_escaped b) →
-        Atom p 0 (codes "\\" ++ b ∷ u) u (byte b)
-    -- a `$` is not last
-    ordinary : {p : ItemPlace} {u : Text} (b : ℕ) → IsTrue (is_ordinary p b) →
-        (b ≡ 36 → ¬ IsAtEnd u) → Atom p 0 (b ∷ u) u (byte b)
-    group : {p : ItemPlace} {h : ℕ} {t u : Text} {es : List Expression} →
-        Items First h t (codes "\\)" ++ u) es → Atom p (suc h) (codes "\\(" ++ t) u (sequence es)
 
 -- the text is such an expression, and not too deep
 pub data IsStandardBasic : Text → Expression → Type 0 where

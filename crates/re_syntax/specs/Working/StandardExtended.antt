@@ -1,17 +1,14 @@
--- Extended regular expressions of the standard alone (XBD 9.4): as in Extended, without the
--- interval that has no least number. The law that what the standard defines keeps its meaning uses
--- them; no definition rests on this.
-use Rattle.std.specs.Prelude.{◌≡◌, ℕ, suc, max, ◌≤◌, Bool, true, false, List, [], ◌∷◌, ◌++◌, Option}
+-- Extended regular expressions of the standard alone (XBD 9.4), as in StandardBasic. A truth value
+-- says whether the part is in a group.
+use Rattle.std.specs.Prelude.{ℕ, suc, max, ◌≤◌, Bool, true, false, List, [], ◌∷◌, ◌++◌, Option}
 use Rattle.std.specs.Prelude.{Some, None, IsTrue, codes}
-use Rattle.re_trees.specs.Bytes.{Text, any_but_nul}
 use Rattle.re_trees.specs.Expression.{Expression, one_of, begin, end, repeat, byte, sequence}
 use Rattle.re_trees.specs.Expression.{choice}
-use Rattle.re_syntax.specs.Extended.{is_ordinary}
-use Rattle.re_syntax.specs.Brackets.{IsBracket}
-use Rattle.re_syntax.specs.Intervals.{IsAllowed}
-use Rattle.re_syntax.specs.Profile.{most_levels, extended_refused}
-use Rattle.re_syntax.specs.Escapes.{is_undefined}
-use Rattle.re_syntax.specs.Working.StandardIntervals.{Interval, HasNoInterval}
+use Rattle.re_trees.specs.Bytes.{Text, any_but_nul}
+use Rattle.re_syntax.specs.{ExtendedTokens.is_ordinary, Brackets.IsBracket, Intervals.IsAllowed}
+use Rattle.re_syntax.specs.{Profile.most_levels, Profile.extended_refused, Escapes.is_undefined}
+use Rattle.re_syntax.specs.Working.StandardIntervals.{Interval}
+use Rattle.re_syntax.specs.Working.StandardIntervals.{HasNoInterval}
 
 -- `*`, `+`, `?`, or an interval in braces (XBD 9.4.6)
 pub data Duplication : Text → ℕ → Option ℕ → Type 0 where
@@ -39,24 +36,23 @@ mutual
     item : {g : Bool} {h k : ℕ} {t u v : Text} {e : Expression} {es : List Expression} →
         Item g h t u e → Items g k u v es → Items g (max h k) t v (e ∷ es)
 
-  -- an atom, or an item and a duplication
+  -- an atom, a group, or an item and a duplication
   pub data Item : Bool → ℕ → Text → Text → Expression → Type 0 where
-    atom : {g : Bool} {h : ℕ} {t u : Text} {e : Expression} → Atom g h t u e → Item g h t u e
+    bracket : {g : Bool} {t u : Text} {e : Expression} → IsBracket t u e → Item g 0 t u e
+    period : {g : Bool} {u : Text} → Item g 0 (codes "." ++ u) u (one_of any_but_nul)
+    dollar : {g : Bool} {u : Text} → Item g 0 (codes "$" ++ u) u end
+    escaped : {g : Bool} {u : Text} (b : ℕ) → ¬ IsTrue (is_undefined extended_refused b) →
+        Item g 0 (codes "\\" ++ b ∷ u) u (byte b)
+    ordinary : {g : Bool} {u : Text} (b : ℕ) → IsTrue (is_ordinary g b) →
+        Item g 0 (b ∷ u) u (byte b)
+    -- a `{` that begins no text of an interval's form
+    brace : {g : Bool} {u : Text} → HasNoInterval (codes "}") u →
+        Item g 0 (codes "{" ++ u) u (byte 123)
+    group : {g : Bool} {h : ℕ} {t u : Text} {es : List Expression} →
+        Branches true h t (codes ")" ++ u) es → Item g (suc h) (codes "(" ++ t) u (choice es)
     repeated : {g : Bool} {h : ℕ} {t d u : Text} {e : Expression} {least : ℕ} {most : Option ℕ} →
         Item g h t (d ++ u) e → Duplication d least most →
         Item g (suc h) t u (repeat e least most)
-
-  pub data Atom : Bool → ℕ → Text → Text → Expression → Type 0 where
-    bracket : {g : Bool} {t u : Text} {e : Expression} → IsBracket t u e → Atom g 0 t u e
-    period : {g : Bool} {u : Text} → Atom g 0 (codes "." ++ u) u (one_of any_but_nul)
-    dollar : {g : Bool} {u : Text} → Atom g 0 (codes "$" ++ u) u end
-    escaped : {g : Bool} {u : Text} (b : ℕ) → ¬ IsTrue (is_undefined extended_refused b) →
-        Atom g 0 (codes "\\" ++ b ∷ u) u (byte b)
-    -- a `{` begins no text of an interval's form
-    ordinary : {g : Bool} {u : Text} (b : ℕ) → IsTrue (is_ordinary g b) →
-        (b ≡ 123 → HasNoInterval (codes "}") u) → Atom g 0 (b ∷ u) u (byte b)
-    group : {g : Bool} {h : ℕ} {t u : Text} {es : List Expression} →
-        Branches true h t (codes ")" ++ u) es → Atom g (suc h) (codes "(" ++ t) u (choice es)
 
 -- the text is such an expression, in no group, and not too deep
 pub data IsStandardExtended : Text → Expression → Type 0 where

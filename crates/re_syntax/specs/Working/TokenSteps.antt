@@ -1,16 +1,14 @@
 -- What reading a token says.
 use Rattle.std.specs.Prelude.{ℕ, ◌<◌, ◌≤◌, ◌&&◌, Bool, length, drop, nat_eq, if◌then◌else◌}
-use Rattle.re_syntax.specs.declared.tokens.ItemPlace.{ItemPlace}
-use Rattle.re_syntax.specs.declared.syntax.Syntax.{Syntax}
-use Rattle.re_syntax.specs.declared.tokens.Atom.{Atom}
 use Rattle.re_syntax.specs.declared.tokens.Atom.TheVariants.{Set, Not, End}
-use Rattle.re_syntax.specs.declared.tokens.Token.{Token as Read}
 use Rattle.re_syntax.specs.declared.tokens.Token.TheVariants.{Opening, Closing, Bar, Lead, Times}
 use Rattle.re_syntax.specs.declared.tokens.Token.TheVariants.{Atom as Atomic}
-use Rattle.re_trees.specs.Bytes.{Text, Bytes, any_but_nul, only}
+use Rattle.re_syntax.specs.Tokens.{Token, opening, closing, bar, lead, atom, times}
+use Rattle.re_syntax.specs.{declared.tokens.ItemPlace.ItemPlace, declared.syntax.Syntax.Syntax}
+use Rattle.re_syntax.specs.{declared.tokens.Atom.Atom, declared.tokens.Token.Token as Read}
 use Rattle.re_syntax.specs.FirstFaults.{IsToken}
 use Rattle.re_trees.specs.Expression.{Expression, one_of, none_of, end}
-use Rattle.re_syntax.specs.Tokens.{Token, opening, closing, bar, lead, atom, times}
+use Rattle.re_trees.specs.{Bytes.Text, Bytes.Bytes, Bytes.any_but_nul, Bytes.only}
 use Rattle.re_trees.specs.Working.Trees.{members}
 
 -- what an atom means

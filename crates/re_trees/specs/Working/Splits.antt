@@ -1,8 +1,7 @@
 -- The texts that a splitter has not returned yet.
 use Rattle.std.specs.Prelude.{List, [], Option, Some, None}
 use Rattle.std.specs.Borrow.{Bor}
-use Rattle.re_trees.specs.Bytes.{Text}
-use Rattle.re_trees.specs.Lines.{list_of}
+use Rattle.re_trees.specs.{Bytes.Text, Lines.list_of}
 
 abbrev pub texts_of_rest : Option (Bor Text) → List Text
 texts_of_rest None = []

@@ -2,11 +2,10 @@
 use Rattle.std.specs.Prelude.{◌≡◌, ℕ, ◌-◌, ◌<◌, Bool, ◌&&◌, not, nat_lt, nat_eq, if◌then◌else◌}
 use Rattle.std.specs.Prelude.{Option, MatchOption, IsTrue}
 use Rattle.std.specs.Int.{bit_at}
-use Rattle.re_trees.specs.Bytes.{Bytes, nothing}
-use Rattle.re_trees.specs.Expression.{Expression, empty, one_of, none_of, begin, end, repeat, cat, alt}
-use Rattle.re_trees.specs.declared.bytes.ByteSet.{ByteSet}
-use Rattle.re_trees.specs.declared.tree.Tree.{Tree}
-use Rattle.re_trees.specs.declared.tree.Tree.TheOpen.{Tree-F}
+use Rattle.re_trees.specs.Expression.{Expression, empty, one_of, none_of, begin, end, repeat, cat}
+use Rattle.re_trees.specs.Expression.{alt}
+use Rattle.re_trees.specs.{Bytes.Bytes, Bytes.nothing, declared.bytes.ByteSet.ByteSet}
+use Rattle.re_trees.specs.{declared.tree.Tree.Tree, declared.tree.Tree.TheOpen.Tree-F}
 use Rattle.re_trees.specs.declared.tree.Tree.TheFolds.{fold-Tree}
 
 -- the bit at this place is 1

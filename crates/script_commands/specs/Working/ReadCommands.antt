@@ -5,10 +5,10 @@ use Rattle.grep_session.specs.Edits.{Edit, AddFile, AddMissing, DropFile, Splice
 use Rattle.grep_session.specs.Edits.{DropPattern, ChangePattern, SetFlag, SetSyntax, SetContext}
 use Rattle.script_commands.specs.Commands.{Command, edits, counts, shows, lists_changes, lists_page}
 use Rattle.script_commands.specs.Commands.{asks_version, switches_text}
-use Rattle.script_commands.specs.{declared.command.LineEdit.LineEdit}
-use Rattle.script_commands.specs.{declared.command.FileEdit.FileEdit}
-use Rattle.script_commands.specs.{declared.command.PatternEdit.PatternEdit}
-use Rattle.script_commands.specs.{declared.command.CountedEdit.CountedEdit}
+use Rattle.script_commands.specs.declared.command.LineEdit.{LineEdit}
+use Rattle.script_commands.specs.declared.command.FileEdit.{FileEdit}
+use Rattle.script_commands.specs.declared.command.PatternEdit.{PatternEdit}
+use Rattle.script_commands.specs.declared.command.CountedEdit.{CountedEdit}
 use Rattle.script_commands.specs.declared.command.LineEdit.TheVariants as line_edit
 use Rattle.script_commands.specs.declared.command.FileEdit.TheVariants as file_edit
 use Rattle.script_commands.specs.declared.command.PatternEdit.TheVariants as pattern_edit

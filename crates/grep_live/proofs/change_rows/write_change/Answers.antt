@@ -1,4 +1,4 @@
-use Rattle.grep_live.proofs.Prelude.{◌+◌, ◌≤◌, List, drop, length, get_or, subst, drop_all, Stretch, file_at}
+use Rattle.grep_live.proofs.Prelude.{◌+◌, drop, length, get_or, drop_all, Stretch, file_at}
 use Rattle.grep_session.proofs.lemmas.Writing.{writes_err}
 use Rattle.grep_live.proofs.lemmas.ChangesLemmas.{stretches_begin, next_stretch, turn_is, changed_none, changed_on, changed_stops, changed_all}
 use Rattle.grep_live.proofs.change_rows.write_change.Goals as goal
@@ -34,12 +34,12 @@ returns-in_err-write_stretch g c =
     let is = turn_is items stretches i none c.stretches-stretch-items.ensures c.loop-stretch-test.true in
     λ es meant all are.
     writes_err g.W.CountedWrite.contents g.W.CountedWrite.failures c.args.form.margin.now _ _ _ c.from_residual.result c.from_residual.ensures.0
-    (changed_stops c.args.form.has_text c.args.session.now.inputs c.args.k g.W.CountedWrite.contents g.W.CountedWrite.failures c.args.form.margin.now es c.args.out.now c.loop-stretch.out c.write_stretch.new.out c.loop-stretch.rest.from (get_or items i none) (drop (i + 1) stretches) all (drop i stretches) is (c.loop-stretch.invariant.changes es meant all are) (λ hits h. c.in_err-write_stretch.ensures es meant hits h))
+    (changed_stops c.args.form.has_text c.args.session.now.inputs c.args.k g.W.CountedWrite.contents g.W.CountedWrite.failures _ es _ _ _ _ _ _ _ _ is (c.loop-stretch.invariant.changes es meant all are) (λ hits h. c.in_err-write_stretch.ensures es meant hits h))
 
 pub returns : goal.returns
 returns g c =
     let i = c.loop-stretch.stretch-index in
     let stretches = c.args.mark.now.stretches in
-    let past : length stretches ≤ i = subst (λ (l : List Stretch). length l ≤ i) c.stretches-stretch-items.ensures c.loop-stretch-test.false in
+    let past = rw c.stretches-stretch-items.ensures at c.loop-stretch-test.false in
     λ es meant all are.
     changed_all c.args.form.has_text c.args.session.now.inputs c.args.k g.W.CountedWrite.contents g.W.CountedWrite.failures c.args.form.margin.now es c.args.out.now c.loop-stretch.out c.loop-stretch.rest.from (drop i stretches) all (drop_all i stretches past) (c.loop-stretch.invariant.changes es meant all are)

@@ -1,4 +1,4 @@
-use Rattle.grep_live.proofs.Prelude.{map, arith, span_places}
+use Rattle.grep_live.proofs.Prelude.{arith}
 use Rattle.grep_session.proofs.lemmas.Writing.{writes_err}
 use Rattle.grep_live.proofs.lemmas.ChangesLemmas.{listed_none, listed_one, listed_stops, listed_all}
 use Rattle.grep_live.proofs.change_rows.write_hits.Goals as goal
@@ -6,7 +6,7 @@ use Rattle.grep_live.proofs.change_rows.write_hits.Goals as goal
 pub loop-found-init : goal.loop-found-init
 loop-found-init g c = record {
   in_order = c.requires.in_order;
-  lists = listed_none c.args.form.has_text c.args.session.now.inputs c.args.stretch.k c.args.stretch.from c.args.stretch.to g.W.CountedWrite.contents g.W.CountedWrite.failures c.args.form.margin.now c.args.out.now;
+  lists = listed_none c.args.form.has_text c.args.session.now.inputs c.args.stretch.k _ c.args.stretch.to g.W.CountedWrite.contents g.W.CountedWrite.failures c.args.form.margin.now _;
 }
 
 pub returns-in_err-write_hit_row : goal.returns-in_err-write_hit_row
@@ -16,7 +16,7 @@ returns-in_err-write_hit_row g c =
     let s = c.loop-found.invariant.lists es meant all hits in
     let f = c.in-Some.ensures.first es meant s.left s.are_left in
     writes_err g.W.CountedWrite.contents g.W.CountedWrite.failures c.args.form.margin.now _ _ _ c.from_residual.result c.from_residual.ensures.0
-    (listed_stops c.args.form.has_text c.args.session.now.inputs c.args.stretch.k c.args.stretch.from c.args.stretch.to g.W.CountedWrite.contents g.W.CountedWrite.failures c.args.form.margin.now es all c.args.out.now c.loop-found.out c.loop-found.from s found.place found.hit.text.now (map span_places found.hit.parts.now) f c.write_hit_row.new.out c.in_err-write_hit_row.ensures)
+    (listed_stops _ c.args.session.now.inputs c.args.stretch.k c.args.stretch.from c.args.stretch.to g.W.CountedWrite.contents g.W.CountedWrite.failures _ es _ _ _ _ s _ _ _ f _ c.in_err-write_hit_row.ensures)
 
 pub loop-found-preserved : goal.loop-found-preserved
 loop-found-preserved g c =
@@ -27,10 +27,10 @@ loop-found-preserved g c =
           (λ es meant all hits.
           let s = c.loop-found.invariant.lists es meant all hits in
           let f = c.in-Some.ensures.first es meant s.left s.are_left in
-          listed_one c.args.form.has_text c.args.session.now.inputs c.args.stretch.k c.args.stretch.from c.args.stretch.to g.W.CountedWrite.contents g.W.CountedWrite.failures c.args.form.margin.now es all c.args.out.now c.loop-found.out c.loop-found.from s found.place found.hit.text.now (map span_places found.hit.parts.now) f c.write_hit_row.new.out c.in_ok-write_hit_row.ensures);
+          listed_one _ c.args.session.now.inputs c.args.stretch.k c.args.stretch.from c.args.stretch.to g.W.CountedWrite.contents g.W.CountedWrite.failures _ es _ _ _ _ s _ _ _ f _ c.in_ok-write_hit_row.ensures);
     }
 
 pub returns : goal.returns
 returns g c = λ es meant all hits.
     let s = c.loop-found.invariant.lists es meant all hits in
-    listed_all c.args.form.has_text c.args.session.now.inputs c.args.stretch.k c.args.stretch.from c.args.stretch.to g.W.CountedWrite.contents g.W.CountedWrite.failures c.args.form.margin.now es all c.args.out.now c.loop-found.out c.loop-found.from s (c.in_default.ensures.first es meant s.left s.are_left)
+    listed_all _ c.args.session.now.inputs c.args.stretch.k c.args.stretch.from c.args.stretch.to g.W.CountedWrite.contents g.W.CountedWrite.failures _ es _ _ _ c.loop-found.from s (c.in_default.ensures.first es meant s.left s.are_left)

@@ -1,4 +1,4 @@
-use Rattle.grep_live.proofs.Prelude.{◌-◌, sym, subst, written, GoesOut, Writes}
+use Rattle.grep_live.proofs.Prelude.{◌-◌, sym}
 use Rattle.grep_core.proofs.lemmas.RowLemmas.{goes_nowhere}
 use Rattle.grep_live.proofs.lemmas.ChangesLemmas.{rows_idle, rows_busy}
 use Rattle.grep_live.proofs.change_rows.write_stretch.Goals as goal
@@ -6,9 +6,9 @@ use Rattle.grep_live.proofs.change_rows.write_stretch.Goals as goal
 pub returns-then-is_idle : goal.returns-then-is_idle
 returns-then-is_idle g c = λ es meant hits are.
     let none = rows_idle c.args.form.has_text c.args.stretch.k c.args.stretch.from c.args.removed (c.args.stretch.to - c.args.stretch.from) hits (sym c.if-is_idle.ensures) in
-    subst (λ rows. GoesOut g.W.CountedWrite.contents g.W.CountedWrite.failures c.args.out.now c.args.out.now (written c.args.form.margin.now rows)) (sym none) (goes_nowhere g.W.CountedWrite.contents g.W.CountedWrite.failures c.args.out.now)
+    rw none (goes_nowhere g.W.CountedWrite.contents g.W.CountedWrite.failures c.args.out.now)
 
 pub returns : goal.returns
 returns g c = λ es meant hits are.
     let some = rows_busy c.args.form.has_text c.args.stretch.k c.args.stretch.from c.args.removed (c.args.stretch.to - c.args.stretch.from) hits (sym c.if-is_idle.ensures) in
-    subst (λ rows. Writes g.W.CountedWrite.contents g.W.CountedWrite.failures c.args.out.now c.write_rows.new.out (written c.args.form.margin.now rows) c.write_rows.result) (sym some) (c.write_rows.ensures es meant hits are)
+    rw some (c.write_rows.ensures es meant hits are)

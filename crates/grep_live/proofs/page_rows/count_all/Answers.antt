@@ -11,7 +11,7 @@ loop-k-preserved c =
     let k = c.loop-k.k in
     let there : k < length session.files = omega (arith, c.loop-k-test.true, c.file_count-k-end.ensures) in
     λ es meant view are.
-    let inside : k < length view = omega (arith, there, view_long es session view are) in
+    let inside : k < length view = omega (arith, view_long es session view are) in
     files_on view k c.loop-k.total c.count_file-count.result c.saturating_add-total.result inside (c.loop-k.invariant es meant view are) (c.count_file-count.ensures es meant (get_or view k []) (hits_at es session view k there are)) c.saturating_add-total.ensures
 
 pub returns : goal.returns

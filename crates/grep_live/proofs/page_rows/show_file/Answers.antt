@@ -1,4 +1,4 @@
-use Rattle.grep_live.proofs.Prelude.{ℕ, arith, subst, sym, written, GoesOut, StopsWithin, HitsBetween}
+use Rattle.grep_live.proofs.Prelude.{arith}
 use Rattle.grep_session.proofs.lemmas.Writing.{writes_err}
 use Rattle.grep_live.proofs.lemmas.PageLemmas.{shown_from}
 use Rattle.grep_live.proofs.page_rows.show_file.Goals as goal
@@ -10,9 +10,9 @@ returns-in_err-page-clause-wrote g c =
     let from = c.place_after-from.result in
     λ es meant hits are.
     let s = shown_from c.args.form.has_text es session k from c.args.page.now.skip c.args.page.now.left hits c.place_after-from.ensures.within (c.place_after-from.ensures.place es meant) are in
-    let there = subst (λ (n : ℕ). HitsBetween es session k from n s.shown) (sym c.line_count-to.ensures) s.are_shown in
+    let there = rw (← c.line_count-to.ensures) at s.are_shown in
     writes_err g.W.CountedWrite.contents g.W.CountedWrite.failures c.args.form.margin.now _ _ _ c.from_residual.result c.from_residual.ensures.0
-    (subst (λ rows. StopsWithin g.W.CountedWrite.contents g.W.CountedWrite.failures c.args.out.now c.show_hits.new.out (written c.args.form.margin.now rows)) (sym s.rows) (c.in_err-page.ensures.wrote es meant s.shown there))
+    (rw s.rows (c.in_err-page.ensures.wrote es meant s.shown there))
 
 pub returns-clause-wrote : goal.returns-clause-wrote
 returns-clause-wrote g c =
@@ -21,8 +21,8 @@ returns-clause-wrote g c =
     let from = c.place_after-from.result in
     λ es meant hits are.
     let s = shown_from c.args.form.has_text es session k from c.args.page.now.skip c.args.page.now.left hits c.place_after-from.ensures.within (c.place_after-from.ensures.place es meant) are in
-    let there = subst (λ (n : ℕ). HitsBetween es session k from n s.shown) (sym c.line_count-to.ensures) s.are_shown in
-    subst (λ rows. GoesOut g.W.CountedWrite.contents g.W.CountedWrite.failures c.args.out.now c.show_hits.new.out (written c.args.form.margin.now rows)) (sym s.rows) (c.in_ok-page.ensures.wrote es meant s.shown there)
+    let there = rw (← c.line_count-to.ensures) at s.are_shown in
+    rw s.rows (c.in_ok-page.ensures.wrote es meant s.shown there)
 
 pub returns-clause-rest : goal.returns-clause-rest
 returns-clause-rest g c =
@@ -31,5 +31,5 @@ returns-clause-rest g c =
     let from = c.place_after-from.result in
     λ es meant hits are.
     let s = shown_from c.args.form.has_text es session k from c.args.page.now.skip c.args.page.now.left hits c.place_after-from.ensures.within (c.place_after-from.ensures.place es meant) are in
-    let there = subst (λ (n : ℕ). HitsBetween es session k from n s.shown) (sym c.line_count-to.ensures) s.are_shown in
+    let there = rw (← c.line_count-to.ensures) at s.are_shown in
     (omega (arith, s.counted), omega (arith, s.counted, c.in_ok-page.ensures.rest es meant s.shown there))

@@ -12,7 +12,7 @@ returns-in_err-show_file g c =
     let k = c.loop-k.k in
     λ es meant view are.
     let there : k < length session.files = omega (arith, c.loop-k-test.true, c.file_count-k-end.ensures) in
-    let inside : k < length view = omega (arith, there, view_long es session view are) in
+    let inside : k < length view = omega (arith, view_long es session view are) in
     let hits = hits_at es session view k there are in
     writes_err g.W.CountedWrite.contents g.W.CountedWrite.failures c.args.form.margin.now _ _ _ c.from_residual.result c.from_residual.ensures.0
     (paged_stops c.args.form.has_text g.W.CountedWrite.contents g.W.CountedWrite.failures c.args.form.margin.now c.args.first c.args.count view c.args.out.now c.loop-k.out c.show_file.new.out k c.loop-k.page.skip c.loop-k.page.left inside (c.loop-k.invariant es meant view are) (c.in_err-show_file.ensures.wrote es meant (get_or view k []) hits))
@@ -23,7 +23,7 @@ loop-k-preserved g c =
     let k = c.loop-k.k in
     λ es meant view are.
     let there : k < length session.files = omega (arith, c.loop-k-test.true, c.file_count-k-end.ensures) in
-    let inside : k < length view = omega (arith, there, view_long es session view are) in
+    let inside : k < length view = omega (arith, view_long es session view are) in
     let hits = hits_at es session view k there are in
     let rest = c.in_ok-show_file.ensures.rest es meant (get_or view k []) hits in
     paged_on c.args.form.has_text g.W.CountedWrite.contents g.W.CountedWrite.failures c.args.form.margin.now c.args.first c.args.count view c.args.out.now c.loop-k.out c.show_file.new.out k c.loop-k.page.skip c.loop-k.page.left inside (c.loop-k.invariant es meant view are)

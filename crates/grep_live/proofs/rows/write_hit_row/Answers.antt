@@ -1,4 +1,4 @@
-use Rattle.grep_live.proofs.Prelude.{[], ◌∷◌, ◌++◌, map, subst, Text, newline, StopsWithin, Writes, span_places, spaced, parts_text, line_text}
+use Rattle.grep_live.proofs.Prelude.{[], ◌∷◌, ◌++◌, map, newline, span_places, spaced, parts_text, line_text}
 use Rattle.grep_core.proofs.lemmas.RowLemmas.{stops_early, writes_last}
 use Rattle.grep_session.proofs.lemmas.Writing.{writes_err}
 use Rattle.grep_live.proofs.lemmas.Pushing.{row_grouped}
@@ -11,9 +11,9 @@ returns-in_err-write_head g c =
     let numbers = spaced c.args.numbers.now in
     let parts = parts_text (map span_places c.args.hit.parts.now) in
     let end = line_text c.args.form.has_text c.args.hit.text.now in
-    let rest : Text = 32 ∷ (parts ++ (end ++ newline ∷ [])) in
+    let rest = 32 ∷ (parts ++ (end ++ newline ∷ [])) in
     writes_err g.W.CountedWrite.contents g.W.CountedWrite.failures [] _ _ _ c.from_residual.result c.from_residual.ensures.0
-    (subst (StopsWithin g.W.CountedWrite.contents g.W.CountedWrite.failures c.args.out.now c.write_head.new.out) (row_grouped margin word numbers parts end)
+    (rw (row_grouped _ _ _ _ _) at
     (stops_early g.W.CountedWrite.contents g.W.CountedWrite.failures c.args.out.now c.write_head.new.out (margin ++ (word ++ numbers)) rest c.in_err-write_head.ensures))
 
 pub returns : goal.returns
@@ -23,6 +23,6 @@ returns g c =
     let numbers = spaced c.args.numbers.now in
     let parts = parts_text (map span_places c.args.hit.parts.now) in
     let end = line_text c.args.form.has_text c.args.hit.text.now in
-    let rest : Text = 32 ∷ (parts ++ (end ++ newline ∷ [])) in
-    subst (λ bytes. Writes g.W.CountedWrite.contents g.W.CountedWrite.failures c.args.out.now c.write_rest.new.out bytes c.write_rest.result) (row_grouped margin word numbers parts end)
+    let rest = 32 ∷ (parts ++ (end ++ newline ∷ [])) in
+    rw (row_grouped _ _ _ _ _) at
     (writes_last g.W.CountedWrite.contents g.W.CountedWrite.failures c.args.out.now c.write_head.new.out c.write_rest.new.out (margin ++ (word ++ numbers)) rest c.write_rest.result c.in_ok-write_head.ensures c.write_rest.ensures)

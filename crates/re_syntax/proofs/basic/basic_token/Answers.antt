@@ -10,13 +10,13 @@ use Rattle.re_syntax.proofs.basic.basic_token.Goals as goal
 pub returns-in-Some-clause-read : goal.returns-in-Some-clause-read
 returns-in-Some-clause-read c =
     let found = rw c.in-Some.is at c.in_ok-counts.ensures.read in
-    times_stand found.0 found.1 (dup_length found.1.duplication) (repeats found.1.duplication)
+    times_stand found.1 (dup_length found.1.duplication) (repeats found.0 found.1.duplication)
 
 pub returns-in-Some-after_tail-clause-read : goal.returns-in-Some-after_tail-clause-read
 returns-in-Some-after_tail-clause-read c = let t = c.in-Some-after_tail.ensures in bytes_stand _ (omega arith) t.stands (trails t.last)
 
 pub returns-in-Some-after_lead-clause-read : goal.returns-in-Some-after_lead-clause-read
-returns-in-Some-after_lead-clause-read c = let l = c.in-Some-after_lead.ensures in rw l.0 (bytes_stand _ (omega arith) l.1 leads)
+returns-in-Some-after_lead-clause-read c = let l = c.in-Some-after_lead.ensures in bytes_stand _ (omega arith) l.1 (leads l.0)
 
 pub atom_at-requires : goal.atom_at-requires
 atom_at-requires c = byte_here _ _ c.requires c.in-91.is

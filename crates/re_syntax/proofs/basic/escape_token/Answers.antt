@@ -12,10 +12,10 @@ pub returns-in-Some-after-clause-read : goal.returns-in-Some-after-clause-read
 returns-in-Some-after-clause-read c p = bytes_stand _ (omega arith) c.in-Some-after.ensures parts
 
 pub returns-then-in_group-clause-read : goal.returns-then-in_group-clause-read
-returns-then-in_group-clause-read c p = rw c.if-in_group.true (bytes_stand _ (omega arith) c.in-Some-after-2.ensures closes)
+returns-then-in_group-clause-read c p = bytes_stand _ (omega arith) c.in-Some-after-2.ensures (closes c.if-in_group.true)
 
 pub returns-in-Some-after-2-clause-refused : goal.returns-in-Some-after-2-clause-refused
-returns-in-Some-after-2-clause-refused c p = record { within = c.requires.within; is_fault = rw (c.if-in_group.false, c.in-Some-after-2.ensures.front) unopened }
+returns-in-Some-after-2-clause-refused c p = record { within = c.requires.within; is_fault = rw c.in-Some-after-2.ensures.front (unopened (λ h. cc (h, c.if-in_group.false))) }
 
 pub returns-in_err-byte-clause-refused : goal.returns-in_err-byte-clause-refused
 returns-in_err-byte-clause-refused c =

@@ -10,7 +10,7 @@ use Rattle.re_syntax.proofs.extended.extended_token.Goals as goal
 pub returns-in-Some-clause-read : goal.returns-in-Some-clause-read
 returns-in-Some-clause-read c =
     let found = rw c.in-Some.is at c.in_ok-counts.ensures.read in
-    times_stand found.0 found.1 (dup_length found.1.duplication) (repeats found.1.duplication)
+    times_stand found.1 (dup_length found.1.duplication) (repeats found.0 found.1.duplication)
 
 pub atom_at-requires : goal.atom_at-requires
 atom_at-requires c = byte_here _ _ c.requires c.in-91.is

@@ -1,6 +1,6 @@
 use Rattle.re_syntax.proofs.Prelude.{refl, opens_interval}
 use Rattle.re_syntax.specs.declared.tokens.ItemPlace.TheVariants.{Later}
-use Rattle.re_syntax.specs.Extended.{interval}
+use Rattle.re_syntax.specs.ExtendedTokens.{interval}
 use Rattle.re_syntax.specs.ExtendedTokens.{ExtendedTokenFault, disallowed}
 use Rattle.re_syntax.proofs.lemmas.ExtendedTokenReading.{none_at_end, sign_stands, none_without_brace, none_without_interval}
 use Rattle.re_syntax.proofs.lemmas.TokenReading.{closing_no_part, interval_stands, bad_interval}
@@ -27,7 +27,7 @@ returns-in-None-counts_fault-clause-read c =
 
 pub returns-in-Some-counts_fault-clause-refused : goal.returns-in-Some-counts_fault-clause-refused
 returns-in-Some-counts_fault-clause-refused c =
-    let i = c.in-Some-read_interval.ensures in bad_interval c.in-Some-after.ensures i (ExtendedTokenFault Later) c.requires c.in-Some-counts_fault.ensures (λ bad. disallowed i.stands bad)
+    let i = c.in-Some-read_interval.ensures in bad_interval c.in-Some-after.ensures i (ExtendedTokenFault Later) c.requires c.in-Some-counts_fault.ensures (λ bad. disallowed refl i.stands bad)
 
 pub returns-in-Some-counts_fault-clause-opens : goal.returns-in-Some-counts_fault-clause-opens
 returns-in-Some-counts_fault-clause-opens c = rw c.in-Some-after.ensures.front (opens_interval c.in-Some-read_interval.ensures.stands)

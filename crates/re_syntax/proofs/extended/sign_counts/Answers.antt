@@ -1,4 +1,4 @@
-use Rattle.re_syntax.specs.Extended.{star, plus, question}
+use Rattle.re_syntax.specs.ExtendedTokens.{star, plus, question}
 use Rattle.re_syntax.proofs.extended.sign_counts.Goals as goal
 
 pub returns-in-42 : goal.returns-in-42

@@ -1,6 +1,6 @@
 use Rattle.re_syntax.proofs.Prelude.{codes, refl}
 use Rattle.re_syntax.specs.declared.tokens.ItemPlace.TheVariants.{Later}
-use Rattle.re_syntax.specs.Basic.{interval}
+use Rattle.re_syntax.specs.BasicTokens.{interval}
 use Rattle.re_syntax.specs.BasicTokens.{BasicTokenFault, no_form, disallowed}
 use Rattle.re_syntax.proofs.lemmas.BasicTokenReading.{no_duplication_opens}
 use Rattle.re_syntax.proofs.lemmas.TokenReading.{closing_no_part, interval_stands, bad_interval}
@@ -17,8 +17,8 @@ pub returns-in-None-clause-read : goal.returns-in-None-clause-read
 returns-in-None-clause-read c = no_duplication_opens c.in_default.ensures c.in-None.ensures
 
 pub returns-in-None-read_interval-clause-refused : goal.returns-in-None-read_interval-clause-refused
-returns-in-None-read_interval-clause-refused c g = record { within = c.requires; is_fault = rw c.in-Some-after.ensures.front (no_form c.in-None-read_interval.ensures) }
+returns-in-None-read_interval-clause-refused c g = record { within = c.requires; is_fault = rw c.in-Some-after.ensures.front (no_form refl c.in-None-read_interval.ensures) }
 
 pub returns-in-Some-counts_fault-clause-refused : goal.returns-in-Some-counts_fault-clause-refused
 returns-in-Some-counts_fault-clause-refused c g =
-    let i = c.in-Some-read_interval.ensures in bad_interval c.in-Some-after.ensures i (BasicTokenFault g Later) c.requires c.in-Some-counts_fault.ensures (λ bad. disallowed i.stands bad)
+    let i = c.in-Some-read_interval.ensures in bad_interval c.in-Some-after.ensures i (BasicTokenFault g Later) c.requires c.in-Some-counts_fault.ensures (λ bad. disallowed refl i.stands bad)

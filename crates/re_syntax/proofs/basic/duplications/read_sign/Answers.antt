@@ -1,4 +1,4 @@
-use Rattle.re_syntax.specs.Basic.{star, plus, question}
+use Rattle.re_syntax.specs.BasicTokens.{star, plus, question}
 use Rattle.re_syntax.proofs.basic.duplications.read_sign.Goals as goal
 
 pub returns-in-Some : goal.returns-in-Some
