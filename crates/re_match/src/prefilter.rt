@@ -23,7 +23,7 @@ use crate::sweeps::{Stop, Sweep};
 use crate::window::{Edges, rest_of};
 use re_auto::Meter;
 use re_ends::Window;
-use re_needle::{Needle, has_begin};
+use re_needle::{Needle, has_begin, needed_string};
 use re_runs::{RunFinder, Swept, bytes_over, first_line_with_run, has_no_newline};
 use re_trees::{Span, Tree};
 use std::alloc::{AllocError, Global};
@@ -299,15 +299,12 @@ fn add_needed(alloc: Global, branch: &Tree, texts: &mut Vec<u8>) -> Result<bool,
         (text : Text) × IsNeeded text (expression_of branch.now) × HasNoNewline text
         × (texts.new.items ≡ texts.old.items ++ (text ++ newline ∷ []))) }
 {
-    let Some(needle) = Needle::of_string(alloc, branch)? else {
+    let Some(text) = needed_string(alloc, branch)? else {
         return Ok(false);
     };
-    let Some(text) = needle.finder.text() else {
-        return Ok(false);
-    };
-    if !has_no_newline(text) {
+    if !has_no_newline(&text) {
         return Ok(false);
     }
-    add_line(texts, text)?;
+    add_line(texts, &text)?;
     Ok(true)
 }

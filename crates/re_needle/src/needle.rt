@@ -3,7 +3,7 @@ ghost use Rattle.std.specs.Prelude.{◌≡◌, ◌≤◌, ◌++◌, List, Option
 ghost use Rattle.re_trees.specs.Bytes.{Bytes, only};
 ghost use Rattle.re_trees.specs.Expression.{Expression, byte};
 ghost use Rattle.re_trees.specs.Working.Trees.{expression_of, members};
-ghost use Rattle.re_needle.specs.Working.Needles.{IsNeedleFor, IsRunNeedleFor};
+ghost use Rattle.re_needle.specs.Working.Needles.{IsNeeded, IsNeedleFor, IsRunNeedleFor};
 ghost use Rattle.re_needle.specs.Working.Outlines.{IsOutline, shown};
 
 use crate::choice::{Run, RunKind, best_run};
@@ -59,17 +59,6 @@ impl Needle {
             return Ok(inside);
         }
         Ok(run)
-    }
-
-    /// The string to look for: the longest or rarest that each match contains. `None` if none of two
-    /// bytes or more is known. The only error is that an allocation failed.
-    pub fn of_string(alloc: Global, tree: &Tree) -> Result<Option<Needle>, AllocError>
-        ensures { IfOk result (IsNeedleFor (expression_of tree.now)) }
-    {
-        let mut marks = Vec::new(alloc);
-        add_outline(alloc, tree, &mut marks)?;
-        let bytes = best_run(&marks, RunKind::Bytes);
-        text_needle(alloc, &marks, bytes.start, 2)
     }
 
     /// Whether the runs are rare in most texts, and at fewer than `most` of 65,536 places.
@@ -141,6 +130,22 @@ pub fn run_needle(alloc: Global, marks: &[OutlineItem]) -> Result<Option<Needle>
         return Ok(single);
     }
     set_needle(alloc, marks, sets.start, RunKind::SmallSets, 1, true)
+}
+
+/// A string that every match contains, the longest or rarest that is known. `None` if none of two
+/// bytes or more is known. The only error is that an allocation failed.
+pub fn needed_string(alloc: Global, tree: &Tree) -> Result<Option<Vec<u8>>, AllocError>
+    ensures { IfOk result
+        (λ found. IfSome found (λ text. IsNeeded text.items (expression_of tree.now))) }
+{
+    let mut marks = Vec::new(alloc);
+    add_outline(alloc, tree, &mut marks)?;
+    let run = best_run(&marks, RunKind::Bytes);
+    let text = leading_bytes(alloc, &marks[run.start..])?;
+    if text.len() < 2 {
+        return Ok(None);
+    }
+    Ok(Some(text))
 }
 
 // The needle of the single bytes from a mark on, if there are at least `least`.

@@ -35,9 +35,9 @@ run_is_needle marks finder is_first is_all is_common run rest start is stands so
 )
 
 -- a string whose run is needed is needed
-pub text_needed : (finder : RunFinder) (text : Text) (e : Expression) → runs_of finder ≡ one_run (map only text) → RunIsNeeded (runs_of finder) e → IsNeeded text e
-text_needed finder text e is needed = λ line i j within h.
-    let (k, low, some) = subst (λ run. RunIsNeeded run e) is needed line i j within h in
+pub text_needed : (text : Text) (e : Expression) → RunIsNeeded (one_run (map only text)) e → IsNeeded text e
+text_needed text e needed = λ line i j within h.
+    let (k, low, some) = needed line i j within h in
     let (there, high) = one_between (map only text) line j k some in
     (k, low, omega (arith, high, length-map text only), run_text line text k (one_stands (map only text) line k there))
 
