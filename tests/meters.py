@@ -149,7 +149,7 @@ def code_of_readers(bench: Bench) -> Verdict:
     faults = []
     for crate, below in sorted(DEFINITIONS):
         for file in sorted((CRATES / crate / "src").glob("**/*.rt")):
-            code = re.sub(rf"(?m)^\s*ghost use .*$|\b{below}::{NEWLINE};", "", file.read_text(encoding="utf-8"))
+            code = re.sub(rf"(?m)^\s*ghost use [^;]*;|\b{below}::{NEWLINE};", "", file.read_text(encoding="utf-8"))
             faults += [f"{crate}/{file.name} names {below}"] if re.search(rf"\b{below}\b", code) else []
     return judged(faults)
 
@@ -191,4 +191,4 @@ def newlines_alone(bench: Bench) -> Verdict:
 
 def code_of(file: Path) -> str:
     """The text of a file without its comments and its imports of definitions."""
-    return re.sub(r"(?m)//.*$|^\s*ghost use .*$", "", file.read_text(encoding="utf-8"))
+    return re.sub(r"(?m)//.*$|^\s*ghost use [^;]*;", "", file.read_text(encoding="utf-8"))

@@ -27,8 +27,8 @@ FUNCTION = re.compile(r"( *)(?:pub(?:\(\w+\))? )?(?:const )?fn (\w+)")
 NOTHING = {"use", "mod", "where", "with", "unfolding"}
 """Words that begin a line and name nothing."""
 
-IMPORT = re.compile(r"^ *(?:pub )?(?:ghost )?use [^{;\n]*(?:\{[^}]*\})?.*$", re.MULTILINE)
-"""An import, perhaps of several lines."""
+IMPORT = re.compile(r" *(?:unfoldable )?(?:pub )?(?:ghost )?use ")
+"""How an import begins. It goes on for as long as braces are open."""
 
 STANDS_ALONE = re.compile(r"/specs/Laws\.antt$|/src/laws\.rt$|/src/main\.rt$|/declared/|/proofs/examples/|_tests/|/examples/")
 """Files whose contents nothing has to use."""
@@ -48,8 +48,12 @@ def code_of(file: Path) -> list[str]:
     """The lines of a file without comments and imports."""
     text = file.read_text(encoding="utf-8")
     comment = r"//.*" if file.suffix == ".rt" else r"(?:^|(?<=\s))--(?:\s.*)?$"
-    text = re.sub(comment, "", text, flags=re.MULTILINE)
-    return IMPORT.sub(lambda found: "\n" * found[0].count("\n"), text).splitlines()
+    lines, braces = re.sub(comment, "", text, flags=re.MULTILINE).splitlines(), 0
+    for number, line in enumerate(lines):
+        if braces or IMPORT.match(line):
+            braces += line.count("{") - line.count("}")
+            lines[number] = ""
+    return lines
 
 
 def lemma_heads(lines: list[str]) -> list[tuple[int, str]]:
@@ -99,17 +103,23 @@ def may_be_unused(item: Item) -> bool:
     return not STANDS_ALONE.search(name) and bool(re.search(r"/lemmas/|/specs/|\.rt$", name))
 
 
-WORDS = re.compile(r"^use Rattle\.\w+\.proofs\.Prelude\.\{([^}]*)\}", re.MULTILINE)
+WORDS = re.compile(r"^use [^\n]*\bproofs\.\{?Prelude\.(?:\{([^}]*)\}|([^\s,}]+))", re.MULTILINE)
 """An import of words that the crate's proofs/Prelude.antt passes on."""
+
+
+def words_from_prelude(file: Path) -> set[str]:
+    """The words that a file of proofs imports from its crate's Prelude.antt."""
+    found = WORDS.findall(file.read_text(encoding="utf-8"))
+    return {name for several, one in found for name in (several or one).split(", ")}
 
 
 def homes_of_words(file: Path) -> set[str]:
     """The files of specs in which the words are that a file of proofs imports from its crate's Prelude.antt."""
-    imported = {name for names in WORDS.findall(file.read_text(encoding="utf-8")) for name in names.split(", ")}
+    imported = words_from_prelude(file)
     if not imported:
         return set()
     words = file.parents[len(file.parts) - file.parts.index("proofs") - 2] / "Prelude.antt"
-    passed_on = re.findall(r"use ([\w.+-]+)\.\{(.*)\}", words.read_text(encoding="utf-8"))
+    passed_on = re.findall(r"([\w.+-]+)\.\{([^{}]*)\}", words.read_text(encoding="utf-8"))
     return {module.rpartition(".")[2] for module, names in passed_on if imported & set(names.split(", "))}
 
 
@@ -146,10 +156,9 @@ def unused_words(crates: Path) -> list[Item]:
     """The words that a crate passes on to its proofs, and none of them imports."""
     found = []
     for file in sorted(crates.glob("*/proofs/Prelude.antt")):
-        others = [other.read_text(encoding="utf-8") for other in file.parent.rglob("*.antt")]
-        imported = {name for text in others for names in WORDS.findall(text) for name in names.split(", ")}
+        imported = {name for other in file.parent.rglob("*.antt") for name in words_from_prelude(other)}
         for number, line in enumerate(file.read_text(encoding="utf-8").splitlines()):
-            passed_on = [name for names in re.findall(r"\{(.*)\}", line) for name in names.split(", ")]
+            passed_on = [name for names in re.findall(r"\{([^{}]*)\}", line) for name in names.split(", ")]
             found += [Item(name, file, number, number + 1) for name in passed_on if name not in imported]
     return found
 
