@@ -1,7 +1,9 @@
 -- The words of specs and of std that proofs of this crate use, passed on from one place. Declares nothing.
 pub use Rattle.grep_core.specs.Around.{BeginsGroup, Groups, IsRow, IsShown, Shows, group_separator}
 pub use Rattle.grep_core.specs.Choose.{Chosen, EachGives, IfHolds}
-pub use Rattle.grep_core.specs.Cost.{SearchesFiles, SearchesLines, files_cost, line_cost, lines_cost, part_searches, parts_cost, search_cost}
+pub use Rattle.grep_core.specs.Cost.{SearchesFiles, files_cost, line_cost, lines_cost, part_searches, search_cost}
+pub use Rattle.grep_core.specs.Working.BlockRows.{SearchesLines}
+pub use Rattle.grep_core.specs.Working.OneLine.{parts_cost}
 pub use Rattle.grep_core.specs.Files.{Ending, File, HasSelected, Matched, Selected, broken, missing, whole}
 pub use Rattle.grep_core.specs.Laws.{ContextIsForLines, HasOneAnswer, IsOne, MeansOne}
 pub use Rattle.grep_core.specs.Matchers.{IsFirstRefused}
@@ -37,7 +39,8 @@ pub use Rattle.grep_core.specs.declared.status.SearchFault.{SearchFault}
 pub use Rattle.grep_core.specs.declared.status.Status.{Status}
 pub use Rattle.grep_core.specs.declared.status.Status.TheVariants.{Error, NoneSelected}
 pub use Rattle.grep_io.specs.Counted.{one_more}
-pub use Rattle.grep_io.specs.Reading.{AreLeft, HasRead, IsOneLineAndFew, IsReadingOf, OneLeft, Reading, Source, ends_after, fails_after, failures_of, file_of, most_lines, not_opened, open_source, up_to_limit}
+pub use Rattle.grep_io.specs.Reading.{AreLeft, HasRead, IsOneLineAndFew, IsReadingOf, Reading, Source, ends_after, fails_after, failures_of, file_of, most_lines, not_opened, open_source, up_to_limit}
+pub use Rattle.grep_io.specs.Working.LineReader.{OneLeft}
 pub use Rattle.grep_io.specs.Working.Handed.{BeginsWith, file_so_far}
 pub use Rattle.grep_io.specs.Working.LineReader.{LineReader}
 pub use Rattle.grep_io.specs.Working.Numbered.{AreAhead, HasHanded, NextIs, Numbered, PassesNext}

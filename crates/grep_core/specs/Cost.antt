@@ -18,10 +18,6 @@ part_searches parts = 1
 part_searches _ = 0
 
 module _ (options : Options) (matchers : ℕ) where
-  -- what the parts of a line cost
-  abbrev pub parts_cost : Text → ℕ
-  parts_cost line = part_searches (form options) * search_cost matchers line
-
   -- a line is searched once, and for its parts besides
   abbrev pub line_cost : Text → ℕ
   line_cost line = (part_searches (form options) + 1) * search_cost matchers line
@@ -31,10 +27,6 @@ module _ (options : Options) (matchers : ℕ) where
 
   abbrev pub files_cost : List File → ℕ
   files_cost files = sum_by (λ file. lines_cost file.lines) files
-
-  -- no more work was done than the search of these lines costs
-  abbrev pub SearchesLines : List Text → Steps → Steps → Type 0
-  SearchesLines text old new = AddsAtMost (lines_cost text) old new
 
   -- no more work was done than the search of these files costs
   abbrev pub SearchesFiles : List File → Steps → Steps → Type 0

@@ -61,10 +61,6 @@ AreLeft source (fails_after bytes) left =
     (rest : Option Text) × (left ≡ rest ∷ []) × Consumes source.bytes rest bytes
 AreLeft source (ends_after bytes) left = (rest : Option Text) × (left ≡ rest ∷ [])
 
--- one reader was returned, which had this left
-abbrev pub OneLeft : Option Text → List (Option Text) → Type 0
-OneLeft rest left = left ≡ rest ∷ []
-
 -- how many bytes a buffer holds
 abbrev pub buffer_size : ℕ
 buffer_size = 65536

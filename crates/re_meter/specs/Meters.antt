@@ -15,31 +15,13 @@ abbrev pub counted : ℕ → ℕ → ℕ
 counted more n = min (n + more) (2 ^ 64 - 1)
 
 abbrev pub many_built : ℕ → Steps → Steps
-many_built more steps =
-    record {
-      built = counted more steps.built;
-      reused = steps.reused;
-      passed = steps.passed;
-    }
+many_built more steps = record steps { built = counted more steps.built }
 
 abbrev pub many_reused : ℕ → Steps → Steps
-many_reused more steps =
-    record {
-      built = steps.built;
-      reused = counted more steps.reused;
-      passed = steps.passed;
-    }
-
-abbrev pub one_reused : Steps → Steps
-one_reused steps = many_reused 1 steps
+many_reused more steps = record steps { reused = counted more steps.reused }
 
 abbrev pub many_passed : ℕ → Steps → Steps
-many_passed more steps =
-    record {
-      built = steps.built;
-      reused = steps.reused;
-      passed = counted more steps.passed;
-    }
+many_passed more steps = record steps { passed = counted more steps.passed }
 
 -- at most so many steps were counted, and at most so many bytes were passed; no count fell, but
 -- each stops at the greatest u64

@@ -2,7 +2,7 @@
 #![tactic(auto)]
 
 ghost use Rattle.std.specs.Prelude.{◌≡◌};
-ghost use Rattle.re_meter.specs.Meters.{many_built, many_reused, one_reused, many_passed, fresh};
+ghost use Rattle.re_meter.specs.Meters.{many_built, many_reused, many_passed, fresh};
 
 use std::marker::Model;
 
@@ -63,7 +63,7 @@ impl Meter {
 
     /// Counts one more step found in a cache.
     pub fn add_reused(&mut self)
-        ensures { self.new ≡ one_reused self.old }
+        ensures { self.new ≡ many_reused 1 self.old }
     {
         self.reused = self.reused.saturating_add(1);
     }

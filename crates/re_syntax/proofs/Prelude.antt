@@ -1,11 +1,14 @@
 -- The words of specs and of std that proofs of this crate use, passed on from one place. Declares nothing.
 pub use Rattle.re_syntax.specs.BasicTokens.{IsAtEnd, NeedsItem, needs_interval, needs_plus, needs_question, of_branch, of_group, of_text}
-pub use Rattle.re_syntax.specs.Brackets.{Element, IsBracket, IsBracketUpTo, MayBeAlone, OpensNamed, Point, Rest, alone, bare, class, closing, equivalence, matching, non_matching, span, symbol}
+pub use Rattle.re_syntax.specs.Brackets.{Element, IsBracket, MayBeAlone, OpensNamed, Point, Rest, alone, bare, class, closing, equivalence, matching, non_matching, span, symbol}
+pub use Rattle.re_syntax.specs.Working.BracketSteps.{IsBracketUpTo}
 pub use Rattle.re_syntax.specs.EscapeFaults.{EscapeFault, one_to_nine, reference, undefined}
 pub use Rattle.re_syntax.specs.Escapes.{is_in, is_undefined}
 pub use Rattle.re_syntax.specs.ExtendedTokens.{OpensDuplication, opens_interval, opens_plus, opens_question, opens_star}
 pub use Rattle.re_syntax.specs.IntervalFaults.{IsDisallowed, descending, least_too_large, most_too_large}
-pub use Rattle.re_syntax.specs.Intervals.{ClosedInterval, HasNoInterval, Interval, IsAllowed, IsNoPart, IsNumber, at_least, between, capped, exactly, up_to, value, value_after}
+pub use Rattle.re_syntax.specs.Intervals.{ClosedInterval, HasNoInterval, Interval, IsAllowed, IsNumber, at_least, between, exactly, up_to, value, value_after}
+pub use Rattle.re_syntax.specs.Working.IntervalSteps.{capped}
+pub use Rattle.re_syntax.specs.Working.IntervalSteps.{IsNoPart}
 pub use Rattle.re_syntax.specs.Laws.{BeginsWithOneBracket, HasNoOpenComma, HasOnePartList, HasOneSplit, KeepsStandard, SpellsOne}
 pub use Rattle.re_syntax.specs.Profile.{basic_refused, most_levels}
 pub use Rattle.re_syntax.specs.Spelled.{IsSpelled}

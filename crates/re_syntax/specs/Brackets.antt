@@ -49,8 +49,3 @@ pub data IsBracket : Text → Text → Expression → Type 0 where
       IsBracket (codes "[" ++ t) u (one_of s)
   non_matching : {t u : Text} {s : Bytes} → Rest First t u s →
       IsBracket (codes "[^" ++ t) u (none_of s)
-
--- a bracket expression of the text, from one place up to another, and what it means
-pub record IsBracketUpTo (text : Text) (from beyond : ℕ) (e : Expression) : Type 0 where
-  pub within : beyond ≤ length text
-  pub stands : IsBracket (drop from text) (drop beyond text) e

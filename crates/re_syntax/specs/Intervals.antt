@@ -40,16 +40,6 @@ pub record ClosedInterval (close t u : Text) (least : ℕ) (most : Option ℕ) :
   pub form : Interval inside least most
   pub whole : t ≡ inside ++ (close ++ u)
 
--- the text begins with a byte that no interval's form has
-pub record IsNoPart (t : Text) : Type 0 where
-  pub not_empty : t ≢ []
-  pub no_digit : (b : ℕ) (u : Text) → t ≡ b ∷ u → ¬ IsTrue (in_class Digit b)
-  pub no_comma : ¬ Begins (codes ",") t
-
--- what a reader keeps of a number: all numbers above the limit are one
-abbrev pub capped : ℕ → ℕ
-capped n = min n (most_repeats + 1)
-
 -- the text begins with no interval that this closes
 pub record HasNoInterval (close t : Text) : Type 0 where
   pub none : (u : Text) (least : ℕ) (most : Option ℕ) → ¬ ClosedInterval close t u least most

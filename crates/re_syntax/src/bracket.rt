@@ -3,7 +3,8 @@ ghost use Rattle.std.specs.Prelude.{◌≡◌, ◌≢◌, ℕ, ◌≤◌, ◌++�
 ghost use Rattle.std.specs.Prelude.{OnOk, MatchOption, MatchBool, codes, slice_get, drop};
 ghost use Rattle.re_trees.specs.Bytes.{Begins, class_name};
 ghost use Rattle.re_trees.specs.Working.Trees.{members};
-ghost use Rattle.re_syntax.specs.Brackets.{Point, Element, Rest, IsBracket, IsBracketUpTo};
+ghost use Rattle.re_syntax.specs.Brackets.{Point, Element, Rest, IsBracket};
+ghost use Rattle.re_syntax.specs.Working.BracketSteps.{IsBracketUpTo};
 ghost use Rattle.re_syntax.specs.BracketFaults.{PointFault, RangeFault, ElementFault, ListFault};
 ghost use Rattle.re_syntax.specs.BracketFaults.{BracketFault};
 ghost use Rattle.re_syntax.specs.Working.BracketSteps.{from_place, Fails, IsIn, IsHyphenBefore};

@@ -2,14 +2,19 @@
 use Rattle.std.specs.Prelude.{◌≡◌, ℕ, ◌+◌, ◌≤◌, Bool, IsTrue, ◌↔◌, List, [], ◌∷◌, ◌++◌, All, length}
 use Rattle.std.specs.Prelude.{if◌then◌else◌}
 use Rattle.re_syntax.specs.{Bytes.Text, Lines.HasNoNewline, Lines.terminated, Expression.Expression}
-use Rattle.re_search.specs.Meters.{Steps}
+use Rattle.re_search.specs.Meters.{Steps, AddsAtMost}
+use Rattle.grep_core.specs.Cost.{lines_cost}
 use Rattle.grep_core.specs.declared.status.SearchFault.TheVariants.{Write, Memory}
 use Rattle.grep_core.specs.declared.options.Options.{Options}
 use Rattle.grep_core.specs.declared.search.searched_block.SearchedLines.{SearchedLines}
-use Rattle.grep_core.specs.{declared.status.SearchFault.SearchFault, Cost.SearchesLines}
+use Rattle.grep_core.specs.declared.status.SearchFault.{SearchFault}
 use Rattle.grep_core.specs.{Files.Selected, Run.Writer, Run.TakesAll, Run.TakesFront}
 use Rattle.grep_core.specs.{Working.OneLine.RowsOfLine, Working.SearchedBlocks.IsNextOf}
 use Rattle.grep_io.specs.{Counted.one_more, Working.Numbered.Numbered}
+
+-- no more work was done than the search of these lines costs
+abbrev pub SearchesLines : Options → ℕ → List Text → Steps → Steps → Type 0
+SearchesLines options matchers text old new = AddsAtMost (lines_cost options matchers text) old new
 
 module _ (es : List Expression) (options : Options) (many : Bool) (name : Text) where
   -- the rows of the lines, the first of which has this number; `found` of them are selected

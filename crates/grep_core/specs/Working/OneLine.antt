@@ -1,8 +1,9 @@
 -- What is written for one line of a file, and for a file's first lines.
-use Rattle.std.specs.Prelude.{◌≡◌, ℕ, ◌+◌, Bool, false, IsTrue, ◌↔◌, List, [], ◌∷◌, ◌++◌, ⊤}
+use Rattle.std.specs.Prelude.{◌≡◌, ℕ, ◌+◌, ◌*◌, Bool, false, IsTrue, ◌↔◌, List, [], ◌∷◌, ◌++◌, ⊤}
 use Rattle.re_syntax.specs.{Bytes.Text, Expression.Expression}
 use Rattle.grep_core.specs.declared.status.SearchFault.TheVariants.{Write, Memory}
 use Rattle.grep_core.specs.Output.{Form, parts, lines, around, form, head_of, shown_number, RowsOf}
+use Rattle.grep_core.specs.Cost.{part_searches, search_cost}
 use Rattle.grep_core.specs.Output.{PartsOfLine, PartRowsOf, GroupsOf}
 use Rattle.grep_core.specs.declared.options.Options.{Options}
 use Rattle.grep_core.specs.{declared.status.SearchFault.SearchFault, Choose.IfHolds, Files.File}
@@ -84,3 +85,7 @@ module _ (es : List Expression) (options : Options) (many : Bool) where
     abbrev pub StopsLine : SearchFault → Type 0
     StopsLine Write = BreaksLine
     StopsLine (Memory n) = (n + 1 ≡ number) × (new ≡ old)
+
+-- what the parts of a line cost
+abbrev pub parts_cost : Options → ℕ → Text → ℕ
+parts_cost options matchers line = part_searches (form options) * search_cost matchers line

@@ -16,7 +16,8 @@ use Rattle.grep_core.specs.{Output.names, Output.counts, Output.form, Messages.m
 use Rattle.grep_core.specs.{Messages.FaultMet, Messages.Reported, Run.Writer, Run.Devices}
 use Rattle.grep_core.specs.{Run.TakesAll, Run.TakesFront, Run.begun, Run.count_more}
 use Rattle.grep_core.specs.{Working.Groups.GroupedAs, Working.Groups.rows_after}
-use Rattle.grep_core.specs.{Working.Requests.name_shown, Cost.SearchesLines}
+use Rattle.grep_core.specs.Working.Requests.{name_shown}
+use Rattle.grep_core.specs.Working.BlockRows.{SearchesLines}
 use Rattle.grep_io.specs.Reading.{Source, Reading, IsReadingOf, file_of, failures_of, AreLeft}
 use Rattle.grep_io.specs.Reading.{HasRead}
 use Rattle.grep_io.specs.Counted.{one_more}

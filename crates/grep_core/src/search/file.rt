@@ -3,7 +3,8 @@ ghost use Rattle.std.specs.Prelude.{◌≡◌, ◌+◌, ◌-◌, ◌^◌, ◌<�
 ghost use Rattle.std.specs.Prelude.{false, if◌then◌else◌};
 ghost use Rattle.re_search.specs.Working.Matchers.{AreAlike, AreSame, expressions_of};
 ghost use Rattle.grep_core.specs.Output.{form, written};
-ghost use Rattle.grep_io.specs.Reading.{open_source, OneLeft};
+ghost use Rattle.grep_io.specs.Reading.{open_source};
+ghost use Rattle.grep_io.specs.Working.LineReader.{OneLeft};
 ghost use Rattle.grep_io.specs.Written.{Writes};
 ghost use Rattle.grep_core.specs.Run.{writer, devices};
 ghost use Rattle.grep_core.specs.Sources.{source_at, Returns};

@@ -8,7 +8,7 @@ ghost use Rattle.re_search.specs.Meters.{Steps};
 ghost use Rattle.re_search.specs.Working.Blocks.{IsBlock};
 ghost use Rattle.re_search.specs.Working.Matchers.{AreAlike, AreSame, expressions_of};
 ghost use Rattle.re_search.specs.Working.Sought.{sought_of};
-ghost use Rattle.grep_core.specs.Cost.{SearchesLines};
+ghost use Rattle.grep_core.specs.Working.BlockRows.{SearchesLines};
 ghost use Rattle.grep_core.specs.Run.{writer};
 ghost use Rattle.grep_core.specs.Working.OneLine.{IsBare};
 ghost use Rattle.grep_core.specs.Working.SearchedBlocks.{IsDivided, IsNextOf, WritesMatched};

@@ -4,7 +4,8 @@ ghost use Rattle.re_search.specs.Searches.{AddsAtMost};
 ghost use Rattle.re_search.specs.Working.Matchers.{AreAlike, AreSame, expressions_of};
 ghost use Rattle.grep_core.specs.Output.{form, parts};
 ghost use Rattle.grep_core.specs.Run.{writer};
-ghost use Rattle.grep_core.specs.Cost.{line_cost, parts_cost, search_cost};
+ghost use Rattle.grep_core.specs.Cost.{line_cost, search_cost};
+ghost use Rattle.grep_core.specs.Working.OneLine.{parts_cost};
 ghost use Rattle.grep_core.specs.Working.OneLine.{WritesSelected, BreaksSelected, TakesLine};
 ghost use Rattle.grep_core.specs.Working.OneLine.{StopsLine};
 

@@ -1,5 +1,5 @@
 -- What a reader of lines is in contracts, and what a call for the next line does.
-use Rattle.std.specs.Prelude.{◌≡◌, ◌≢◌, ℕ, ◌<◌, [], ◌∷◌, ◌++◌, length, Option}
+use Rattle.std.specs.Prelude.{◌≡◌, ◌≢◌, ℕ, ◌<◌, List, [], ◌∷◌, ◌++◌, length, Option}
 use Rattle.std.specs.Io.KnownBytes.{prepend_known, Keeps, Consumes, IsAtEnd}
 use Rattle.re_trees.specs.{Bytes.Text, Lines.newline, Lines.HasNoNewline}
 use Rattle.grep_io.specs.declared.input.lines.Stage.TheVariants.{Open, Ended, Failed}
@@ -68,3 +68,7 @@ module _ {R : Type 0} (remaining : R → Option Text) (failures : R → ℕ) whe
     pub few_held : IsOneLineAndFew new.ahead
     pub none_shown : new.line ≡ []
     pub none_failed : failures new.reader ≡ failures old.reader
+
+-- one reader was returned, which had this left
+abbrev pub OneLeft : Option Text → List (Option Text) → Type 0
+OneLeft rest left = left ≡ rest ∷ []

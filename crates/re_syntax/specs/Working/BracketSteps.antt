@@ -6,7 +6,8 @@ use Rattle.re_syntax.specs.{declared.bracket.ListPlace.ListPlace, declared.curso
 use Rattle.re_syntax.specs.declared.fault.FaultKind.{FaultKind}
 use Rattle.re_syntax.specs.{declared.fault.PatternFault.PatternFault, BracketFaults.ElementFault}
 use Rattle.re_syntax.specs.{Faults.IsAt, Working.Cursors.left, Working.Cursors.Passes}
-use Rattle.re_trees.specs.Bytes.{Text, Begins}
+use Rattle.re_trees.specs.{Bytes.Text, Bytes.Begins, Expression.Expression}
+use Rattle.re_syntax.specs.Brackets.{IsBracket}
 
 -- the cursor's text from a place on
 abbrev pub from_place : ℕ → Cursor → Text
@@ -44,3 +45,8 @@ pub record PassesHyphen (old new : Cursor) (at : ℕ) : Type 0 where
 abbrev pub IsStray : ℕ → Cursor → PatternFault → Type 0
 IsStray opening c fault = (p : ListPlace) → p ≢ First → ¬ Begins (codes "]") (left c) →
     Fails (ElementFault (from_place opening c) p (codes "--" ++ left c)) c fault
+
+-- a bracket expression of the text, from one place up to another, and what it means
+pub record IsBracketUpTo (text : Text) (from beyond : ℕ) (e : Expression) : Type 0 where
+  pub within : beyond ≤ length text
+  pub stands : IsBracket (drop from text) (drop beyond text) e

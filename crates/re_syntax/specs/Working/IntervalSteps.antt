@@ -1,9 +1,22 @@
 -- What each step of reading an interval says.
-use Rattle.std.specs.Prelude.{◌≡◌, ℕ, ◌≤◌, ◌∷◌, ◌++◌, length, take, drop, Option, Some, IsTrue}
+use Rattle.std.specs.Prelude.{◌≡◌, ◌≢◌, ℕ, ◌+◌, ◌≤◌, min, [], ◌∷◌, ◌++◌, length, take, drop, Option, Some}
+use Rattle.std.specs.Prelude.{IsTrue, codes}
 use Rattle.std.specs.{List.list_all, Option.option_map}
-use Rattle.re_trees.specs.{declared.class.Class.TheVariants.Digit, Bytes.Text, Bytes.in_class}
-use Rattle.re_syntax.specs.Intervals.{IsNumber, value, ClosedInterval, capped}
+use Rattle.re_trees.specs.{declared.class.Class.TheVariants.Digit, Bytes.Text, Bytes.Begins}
+use Rattle.re_trees.specs.Bytes.{in_class}
+use Rattle.re_syntax.specs.Profile.{most_repeats}
+use Rattle.re_syntax.specs.Intervals.{IsNumber, value, ClosedInterval}
 use Rattle.re_syntax.specs.declared.interval.Counts.{Counts}
+
+-- the text begins with a byte that no interval's form has
+pub record IsNoPart (t : Text) : Type 0 where
+  pub not_empty : t ≢ []
+  pub no_digit : (b : ℕ) (u : Text) → t ≡ b ∷ u → ¬ IsTrue (in_class Digit b)
+  pub no_comma : ¬ Begins (codes ",") t
+
+-- what a reader keeps of a number: all numbers above the limit are one
+abbrev pub capped : ℕ → ℕ
+capped n = min n (most_repeats + 1)
 
 abbrev pub AreDigits : Text → Type 0
 AreDigits t = IsTrue (list_all (in_class Digit) t)
