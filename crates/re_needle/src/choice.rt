@@ -150,10 +150,5 @@ pub fn mark_survey(mark: &OutlineItem, of: RunKind) -> Option<Survey> {
         RunKind::SmallSets => SMALL,
         RunKind::Sets => LARGE,
     };
-    let survey = Survey::of(set)?;
-    if survey.share <= most {
-        Some(survey)
-    } else {
-        None
-    }
+    Survey::of(set, most)
 }

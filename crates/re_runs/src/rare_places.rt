@@ -1,6 +1,6 @@
 //! Which sets of runs are tested for first. No contract depends on it.
 
-use crate::survey::Survey;
+use crate::survey::{ALL, Survey};
 use re_trees::ByteSet;
 use std::alloc::{AllocError, Global};
 
@@ -71,7 +71,7 @@ fn share_at(run: &[ByteSet], place: usize) -> u64 {
     let Some(set) = run.get(place) else {
         return 0;
     };
-    match Survey::of(set) {
+    match Survey::of(set, ALL) {
         Some(survey) => u64::from(survey.share),
         None => TEXT,
     }

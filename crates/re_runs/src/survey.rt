@@ -4,8 +4,8 @@ use crate::alike::Alike;
 use memchr::arch::all::packedpair::{DefaultFrequencyRank, HeuristicFrequencyRank};
 use re_trees::ByteSet;
 
-// As many bytes of most texts as shares speak of.
-const ALL: u32 = 65_536;
+/// As many bytes of most texts as shares speak of.
+pub const ALL: u32 = 65_536;
 
 // About how many of 65,536 bytes of most texts are the commonest byte.
 const COMMONEST: u32 = 8_192;
@@ -21,20 +21,19 @@ const OF_DIGITS: u8 = 225;
 pub struct Survey {
     /// How common the commonest is, from 0 for the rarest to 255.
     pub rank: u8,
-    /// About how many of 65,536 bytes of most texts are in the set; at least one. It isn't counted on
-    /// if it is more than all.
+    /// About how many of 65,536 bytes of most texts are in the set; at least one.
     pub share: u32,
 }
 
 impl Survey {
-    /// The survey of a set; `None` if it has no byte.
-    pub fn of(set: &ByteSet) -> Option<Survey> {
+    /// The survey of a set; `None` if it has no byte, or a share above `most`.
+    pub fn of(set: &ByteSet, most: u32) -> Option<Survey> {
         let mut survey = Survey { rank: 0, share: 0 };
         for byte in *set {
             survey.rank = survey.rank.max(rank_of(byte));
             survey.share = survey.share.saturating_add(share_of(byte));
-            if survey.share > ALL {
-                return Some(survey);
+            if survey.share > most {
+                return None;
             }
         }
         if survey.share == 0 {
