@@ -21,7 +21,6 @@ use Rattle.re_syntax.specs.declared.fault.FaultKind.TheVariants as f
 abbrev pub version : ℕ
 version = 1000000
 
--- the numbers of the syntaxes
 abbrev pub syntax_number : Syntax → ℕ
 syntax_number s.Basic = 0
 syntax_number s.Extended = 1
@@ -47,13 +46,11 @@ kind_number f.Memory = 0
 
 -- ---- what is held
 
--- the patterns that are held
 abbrev pub patterns_in : Option Held → Option Kept
 patterns_in None = None
 patterns_in (Some (Patterns kept)) = Some kept
 patterns_in (Some (Session live)) = None
 
--- the session that is held
 abbrev pub session_in : Option Held → Option LiveKept
 session_in None = None
 session_in (Some (Patterns kept)) = None
@@ -83,8 +80,7 @@ Puts {A} Are old new count =
 
 -- the work of one call, as a meter counts it
 abbrev pub steps_of : GaxtrelWork → Steps
-steps_of work =
-    record { built = work.built; reused = work.reused; passed = work.passed }
+steps_of work = record { built = work.built; reused = work.reused; passed = work.passed }
 
 -- nothing is held, and no work is shown
 abbrev pub IsEmpty : Option Held → GaxtrelWork → Type 0
@@ -134,8 +130,7 @@ Says answer count = (answer < 2) × ((answer ≡ 1) ↔ (1 ≤ count))
 
 -- the same of what was searched of so many bytes: 5 if that isn't all
 abbrev pub SaysOf : ℕ → ℕ → ℕ → ℕ → Type 0
-SaysOf answer count end bytes =
-    ((end < bytes) × (answer ≡ 5)) ⊎ ((bytes ≤ end) × Says answer count)
+SaysOf answer count end bytes = ((end < bytes) × (answer ≡ 5)) ⊎ ((bytes ≤ end) × Says answer count)
 
 -- 1 and the place that was found, or 0
 abbrev pub Tells : ℕ → GaxtrelPart → Option Span → Type 0

@@ -13,7 +13,6 @@ pub record Kept : Type 0 where
   pub apart : Bool
   pub limit : ℕ
 
--- the expressions that the matchers are for
 abbrev pub expressions_in : Kept → List Expression
 expressions_in kept = expressions_of kept.matchers
 

@@ -12,9 +12,6 @@ use Rattle.grep_cmd.specs.Script.{Step, does, reports, reports_changes, reports_
 use Rattle.grep_cmd.specs.Script.{text_after}
 use Rattle.grep_cmd.specs.Replies.{Replies, AnswersScript, ScriptState, new_state, status_line}
 
--- ---- where a reply ends
-
--- the line has the status
 abbrev pub has_status : Text → Bool
 has_status line = bytes_eq (take 7 line) (codes "status ")
 
@@ -31,8 +28,6 @@ IsOneReply reports_changes reply = EndsWithStatus reply
 IsOneReply (reports_page first count) reply = EndsWithStatus reply
 IsOneReply _ reply = length reply ≡ 1
 
--- ---- how rows are read
-
 -- a number that an editor can hold
 abbrev pub IsHeld : ℕ → Type 0
 IsHeld n = n < 2 ^ 64
@@ -40,12 +35,10 @@ IsHeld n = n < 2 ^ 64
 abbrev pub IsHeldPart : ℕ × ℕ → Type 0
 IsHeldPart part = IsHeld part.0 × IsHeld part.1
 
--- the numbers of a hit can be held
 pub record IsHeldHit (hit : Hit) : Type 0 where
   pub place : IsHeld hit.place
   pub parts : All IsHeldPart hit.parts
 
--- the numbers of a change can be held
 pub record IsHeldChange (change : Change) : Type 0 where
   pub front : IsHeld change.front
   pub removed : IsHeld change.removed
@@ -69,8 +62,6 @@ read_hit texts hit = record hit { text = if texts then hit.text else [] }
 abbrev pub read_change : Bool → Change → Change
 read_change texts change = record change { come = map (read_hit texts) change.come }
 
--- ---- the lists
-
 -- the lists that an editor has after the reply to a step, where rows have their texts or not. At an
 -- accepted edit it drops and adds lists. At the reply to `changes` it makes the changes that it
 -- reads in the rows. All else leaves its lists
@@ -89,8 +80,6 @@ ListsAfterAll texts (step ∷ steps) replies view new =
     (reply : List Text) × (between : View) × (rest : List Text) × (replies ≡ reply ++ rest) ×
     IsOneReply step reply × ListsAfter texts step reply view between ×
     ListsAfterAll (text_after step texts) steps rest between new
-
--- ---- the law
 
 -- the bytes of lines, each with its newline
 abbrev pub bytes_of : List Text → ℕ

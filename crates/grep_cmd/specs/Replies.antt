@@ -59,7 +59,6 @@ truncated = refused_for (codes "Truncated")
 abbrev pub version_line : Text
 version_line = codes "occur 1.0.0 script 2"
 
--- the line is a refusal
 abbrev pub is_refusal : Text → Bool
 is_refusal line = bytes_eq (take 8 line) (codes "refused ")
 
@@ -80,13 +79,11 @@ pub record IsAnswered (edit : Edit) (before after : Watched)
   pub same_states : after.states ≡ before.states
   pub named : NeedsNoMemory edit before.inputs → answer ≢ Err fault.Memory
 
--- the status as a line
 abbrev pub status_line : Status → Text
 status_line Selected = codes "status 0"
 status_line NoneSelected = codes "status 1"
 status_line Error = codes "status 2"
 
--- the lines, each after the margin
 abbrev pub with_margin : Text → List Text → List Text
 with_margin margin text = map (λ line. margin ++ line) text
 

@@ -14,7 +14,6 @@ cannot_open name = codes "grep: " ++ name ++ codes ": cannot open"
 abbrev pub read_error : Text → Text
 read_error name = codes "grep: " ++ name ++ codes ": read error"
 
--- the messages about a file that ended so
 abbrev pub message : Ending → Text → List Text
 message whole name = []
 message missing name = cannot_open name ∷ []
@@ -31,7 +30,6 @@ module _ (es : List Expression) (options : Options) where
   abbrev pub FaultMet : File → Type 0
   FaultMet file = FaultMetBy file.ending file
 
-  -- a run stops at the file
   abbrev pub Stops : File → Type 0
   Stops file = IsTrue options.quiet × HasSelected es options file
 

@@ -3,7 +3,6 @@ use Rattle.std.specs.Prelude.{Bool, false, None}
 use Rattle.grep_core.specs.{declared.options.Flag.Flag, declared.options.Options.Options}
 use Rattle.grep_core.specs.declared.options.Flag.TheVariants as flag
 
--- an option's value
 abbrev pub option_of : Flag → Options → Bool
 option_of flag.Count options = options.count
 option_of flag.IgnoreCase options = options.ignore_case
@@ -15,7 +14,6 @@ option_of flag.NoMessages options = options.no_messages
 option_of flag.InvertMatch options = options.invert_match
 option_of flag.LineRegexp options = options.line_regexp
 
--- the options with one of them set to this value
 abbrev pub with_option : Flag → Bool → Options → Options
 with_option flag.Count on options = record options { count = on }
 with_option flag.IgnoreCase on options = record options { ignore_case = on }
@@ -27,7 +25,6 @@ with_option flag.NoMessages on options = record options { no_messages = on }
 with_option flag.InvertMatch on options = record options { invert_match = on }
 with_option flag.LineRegexp on options = record options { line_regexp = on }
 
--- no option is set, and none has an argument
 abbrev pub no_options : Options
 no_options = record {
   count = false;

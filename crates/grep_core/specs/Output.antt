@@ -9,7 +9,6 @@ use Rattle.grep_core.specs.{Row.colon, Row.prefix, Row.head, Row.output_line, Ch
 use Rattle.grep_core.specs.{Choose.Chosen, Files.File, Files.Ending, Files.missing, Files.Selected}
 use Rattle.grep_core.specs.{Files.HasSelected, Around.Groups}
 
--- there are two files or more
 abbrev pub are_many : List File → Bool
 are_many files = nat_le 2 (length files)
 
@@ -17,7 +16,6 @@ are_many files = nat_le 2 (length files)
 abbrev pub shown_name : Bool → File → Option Text
 shown_name many file = if many then Some file.name else None
 
--- a line's number is shown under `-n`
 abbrev pub shown_number : Options → ℕ → Option ℕ
 shown_number options number = if options.line_number then Some number else None
 

@@ -65,7 +65,6 @@ files_of [] readings = []
 files_of (source ∷ sources) [] = []
 files_of (source ∷ sources) (r ∷ readings) = file_of source.name r ∷ files_of sources readings
 
--- each source may have done so
 abbrev pub AreReadings : List Source → List Reading → Type 0
 AreReadings sources readings = AllZip IsReadingOf sources readings
 
@@ -92,7 +91,6 @@ module _ (es : List Expression) (options : Options) where
       (LeftMet sources readings rest)
       × (left ≡ own ++ rest)
 
--- the file's first lines and nothing more
 abbrev pub first_lines : ℕ → File → File
 first_lines n file = record { name = file.name; lines = take n file.lines; ending = whole }
 

@@ -7,9 +7,6 @@ use Rattle.grep_core.specs.{declared.options.Options.Options, Files.File}
 use Rattle.line_marks.specs.{Stretches.Marked, declared.stretch.Stretch.Stretch}
 use Rattle.grep_live.specs.Hits.{Hit, View, HitsFrom}
 
--- ---- what an editor does
-
--- the hits before a place
 abbrev pub hits_before : ℕ → List Hit → List Hit
 hits_before place hits = filter (λ hit. nat_lt hit.place place) hits
 
@@ -25,8 +22,6 @@ hits_from from to hits = map (moved from to) (filter (λ hit. nat_le from hit.pl
 abbrev pub spliced_hits : ℕ → ℕ → ℕ → List Hit → List Hit → List Hit
 spliced_hits front removed added come old =
     hits_before front old ++ (come ++ hits_from (front + removed) (front + added) old)
-
--- ---- what is reported
 
 -- from line `front` on `removed` lines were replaced by `added` lines, and these are their hits
 pub record Change : Type 0 where
@@ -70,7 +65,6 @@ module _ (es : List Expression) (options : Options) where
       HitsFrom es options front (slice_range lines stretch.kept past) change.come ×
       AreChanges (first + past) (drop past lines) more changes
 
-  -- the changes of a file by its mark
   abbrev pub ChangesFile : File → Marked → List Change → Type 0
   ChangesFile file mark changes = AreChanges 0 file.lines mark.stretches changes
 

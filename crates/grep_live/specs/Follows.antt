@@ -9,7 +9,6 @@ use Rattle.grep_live.specs.Hits.{AllThree, Hit, View, HitOf}
 use Rattle.grep_live.specs.Changes.{AreWithin, moved}
 use Rattle.grep_session.specs.Marks.{Watched}
 
--- the hits at a place
 abbrev pub hits_at : ℕ → List Hit → List Hit
 hits_at place hits = filter (λ hit. nat_eq hit.place place) hits
 

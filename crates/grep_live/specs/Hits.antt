@@ -43,6 +43,5 @@ module _ (es : List Expression) (options : Options) where
   abbrev pub Hits : List Text → List Hit → Type 0
   Hits lines hits = HitsFrom 0 lines hits
 
-  -- the hits of each file
   abbrev pub AreHits : List File → View → Type 0
   AreHits files view = AllZip (λ file hits. Hits file.lines hits) files view

@@ -13,8 +13,6 @@ use Rattle.grep_live.specs.{Hits.AllThree, Hits.Hit, Hits.View, Follows.Follows,
 use Rattle.grep_live.specs.{Changes.Change, Changes.ChangesFile, Changes.AreWithin}
 use Rattle.grep_live.specs.{Rows.change_rows, Rows.changes_rows}
 
--- ---- what an edit leaves
-
 abbrev pub view_given : {T : Type 0} → Edit → Result T EditFault → View → View
 view_given edit (Ok done) view = view_after edit view
 view_given edit (Err fault) view = view
@@ -32,8 +30,6 @@ EditsCarry =
     AreFit old.inputs.files old.marks → EditGives edit old.inputs new.inputs answer →
     MarksGiven edit old new.marks answer → Carries edit old new answer
 
--- ---- what is reported
-
 -- of files whose changes were all reported no row is written
 abbrev pub NothingTwice : Type 0
 NothingTwice =
@@ -44,8 +40,6 @@ NothingTwice =
 -- the changes of file k
 abbrev pub changes_at : List (List Change) → ℕ → List Change
 changes_at changes k = get_or changes k []
-
--- ---- what is reported after one splice
 
 -- rows are written of file k alone: `count` lines from line `start` on were replaced by these, and
 -- each of these has at most one hit
@@ -69,13 +63,10 @@ OneSplice =
     AllThree (ChangesFile es new.inputs.options) new.inputs.files new.marks changes →
     ReportsSplice k start count lines changes
 
--- ---- what is reported after edits that leave lines of a file as they are
-
 -- an edit leaves all files, which of their lines are selected and which parts are listed
 abbrev pub LeavesAll : Edit → Inputs → Type 0
 LeavesAll (ChangePattern p text) old = text ≡ get_or old.patterns p []
-LeavesAll (SetFlag flag on) old =
-    (changes_hits flag ≡ false) ⊎ (option_of flag old.options ≡ on)
+LeavesAll (SetFlag flag on) old = (changes_hits flag ≡ false) ⊎ (option_of flag old.options ≡ on)
 LeavesAll (SetSyntax syntax) old = syntax ≡ old.syntax
 LeavesAll (SetContext context) old = ⊤
 LeavesAll _ old = ⊥
@@ -119,8 +110,6 @@ OnlyTouched =
     AllThree (ChangesFile es new.inputs.options) new.inputs.files new.marks changes →
     AreBetween front back (length (file_at old.inputs.files k).lines)
     (length (file_at new.inputs.files k).lines) (changes_at changes k)
-
--- ---- what is reported after edits that leave a line as it is
 
 -- an edit leaves line `line` of file k and whether it is selected and which parts are listed; it is
 -- line `now` of file `j` then

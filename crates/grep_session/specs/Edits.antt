@@ -21,7 +21,6 @@ pub data Edit : Type 0 where
   -- adds a file of this name and these lines at the end; adds a file that cannot be opened
   AddFile : Text → List Text → Edit
   AddMissing : Text → Edit
-  -- removes the file of this number
   DropFile : ℕ → Edit
   -- replaces lines of a file: its number, the first line, the number of lines, and the new lines
   Splice : ℕ → ℕ → ℕ → List Text → Edit

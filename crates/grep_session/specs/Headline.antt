@@ -10,8 +10,6 @@ use Rattle.grep_core.specs.Written.{Writes}
 use Rattle.grep_session.specs.{declared.fault.EditFault.EditFault, Edits.Edit, Edits.Applies}
 use Rattle.grep_session.specs.{Edits.EditGives, Edits.no_inputs}
 
--- ---- from scratch
-
 -- what grep writes to standard output and to standard error for these inputs, and its status (XCU
 -- grep, STDOUT, STDERR and EXIT STATUS)
 pub record GrepGives (inputs : Inputs) : Type 0 where
@@ -23,8 +21,6 @@ pub record GrepGives (inputs : Inputs) : Type 0 where
   pub is_output : Out es inputs.options inputs.files out
   pub are_messages : Messages es inputs.options inputs.files reported
   pub is_status : StatusOf es inputs.options inputs.files status
-
--- ---- what is written for inputs
 
 module _ {W : Type 0} (contents : W → Option Text) (failures : W → ℕ) (inputs : Inputs)
     (margin : Text) (old new : W) where
@@ -41,14 +37,10 @@ module _ {W : Type 0} (contents : W → Option Text) (failures : W → ℕ) (inp
     pub grep : GrepGives inputs
     pub wrote : Writes contents failures old new (written margin grep.reported) result
 
--- the status is the one for the inputs
 pub record IsStatusOfInputs (inputs : Inputs) (status : Status) : Type 0 where
   pub grep : GrepGives inputs
   pub answered : status ≡ grep.status
 
--- ---- lists of edits
-
--- an edit that was tried, and its answer
 pub record Attempt : Type 0 where
   pub edit : Edit
   pub answer : Result (Unit {0}) EditFault
@@ -60,7 +52,6 @@ ComesTo (attempt ∷ more) old new =
     (between : Inputs) × EditGives attempt.edit old between attempt.answer ×
     ComesTo more between new
 
--- the edits that were accepted
 abbrev pub with_accepted : Edit → Result (Unit {0}) EditFault → List Edit → List Edit
 with_accepted edit (Ok done) edits = edit ∷ edits
 with_accepted edit (Err fault) edits = edits

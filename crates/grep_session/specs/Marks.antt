@@ -35,8 +35,7 @@ mark_at marks k = get_or marks k (whole_mark 0)
 
 -- the marks are of files that have so many lines now, and their stretches are within these
 abbrev pub IsFit : File → Marked → Type 0
-IsFit file mark =
-    (mark.lines ≡ length file.lines) × Fits mark.known mark.lines mark.stretches
+IsFit file mark = (mark.lines ≡ length file.lines) × Fits mark.known mark.lines mark.stretches
 
 abbrev pub AreFit : List File → List Marked → Type 0
 AreFit files marks = AllZip IsFit files marks

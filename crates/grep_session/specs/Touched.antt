@@ -110,7 +110,6 @@ abbrev pub CostsAs : Edit → Inputs → Result Inputs EditFault → ℕ → Typ
 CostsAs edit old (Ok new) cost = CostsAccepted edit old new cost
 CostsAs edit old (Err fault) cost = cost ≡ 0
 
--- the cost of an edit of these inputs
 abbrev pub Costs : Edit → Inputs → ℕ → Type 0
 Costs edit old cost =
     (outcome : Result Inputs EditFault) × Applies edit old outcome × CostsAs edit old outcome cost

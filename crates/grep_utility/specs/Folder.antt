@@ -30,7 +30,6 @@ standard_input_name = codes "(standard input)"
 abbrev pub display_name : Text → Text
 display_name word = if is_standard word then standard_input_name else word
 
--- the source that a word names
 abbrev pub source_named : Folder → Text → Source
 source_named folder word = record {
   name = display_name word;
@@ -42,7 +41,6 @@ source_named folder word = record {
 abbrev pub after_use : Folder → Text → Folder
 after_use folder word = if is_standard word then input_used folder else folder
 
--- the sources that words name, in order
 abbrev pub sources_named : Folder → List Text → List Source
 sources_named folder [] = []
 sources_named folder (name ∷ names) =

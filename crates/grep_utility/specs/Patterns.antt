@@ -19,7 +19,6 @@ patterns_by whole f failures = Ok f.lines
 patterns_by missing f failures = Err (record { message = cannot_open f.name; failures = failures })
 patterns_by broken f failures = Err (record { message = read_error f.name; failures = failures })
 
--- what a pattern file gives
 abbrev pub FileGives : reading.Source → Result (List Text) Unread → Type 0
 FileGives source given =
     (did : Reading) × IsReadingOf source did

@@ -18,7 +18,6 @@ write_error = codes "grep: write error"
 abbrev pub too_many_patterns : Text
 too_many_patterns = codes "grep: too many patterns"
 
--- the name of a kind of refusal
 unfoldable pub kind_name : FaultKind → Text
 kind_name kind.UnclosedBracket = codes "UnclosedBracket"
 kind_name kind.BadClass = codes "BadClass"

@@ -31,7 +31,6 @@ pub data PatternsFrom : Type 0 where
   list : Text → PatternsFrom
   file : Text → PatternsFrom
 
--- what a request asks for
 pub record Asked : Type 0 where
   pub syntax : Syntax
   pub options : Options
@@ -102,8 +101,7 @@ with_lines Both count before = record before { both = Some count }
 -- no lines are shown on a side without a number where the other has one
 abbrev pub context_from : Option ℕ → Option ℕ → Option Context
 context_from None None = None
-context_from before after =
-    Some (record { before = unwrap_or before 0; after = unwrap_or after 0 })
+context_from before after = Some (record { before = unwrap_or before 0; after = unwrap_or after 0 })
 
 -- on each side its own option takes precedence over `-C`
 abbrev pub context_of : Around → Option Context

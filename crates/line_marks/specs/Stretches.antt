@@ -18,8 +18,6 @@ Fits known lines (stretch ∷ more) =
     (old : ℕ) × (new : ℕ) × (known ≡ stretch.kept + stretch.removed + old) ×
     (lines ≡ stretch.kept + stretch.added + new) × Fits old new more
 
--- ---- untouched lines
-
 -- line `old` of the reported lines is untouched, and is line `new` now
 abbrev pub Keeps : List Stretch → ℕ → ℕ → Type 0
 Keeps [] old new = new ≡ old
@@ -37,8 +35,6 @@ abbrev pub IsAfter : List Stretch → ℕ → Type 0
 IsAfter [] place = ⊤
 IsAfter (stretch ∷ more) place =
     (later : ℕ) × (place ≡ stretch.kept + stretch.added + later) × IsAfter more later
-
--- ---- marks
 
 -- a file whose changes were all reported; a file that was not reported yet
 abbrev pub whole_mark : ℕ → Marked
@@ -59,9 +55,6 @@ lost mark =
       stretches = record { kept = 0; removed = mark.known; added = mark.lines } ∷ [];
     }
 
--- ---- splices
-
--- the most stretches of a mark
 abbrev pub most_stretches : ℕ
 most_stretches = 64
 

@@ -30,8 +30,7 @@ pub data Element (p : ListPlace) : Text → Text → Bytes → ListPlace → Typ
       Element p (codes "[:" ++ class_name c ++ codes ":]" ++ t) t (in_class c) AfterRange
   equivalence : {t : Text} (b : ℕ) →
       Element p (codes "[=" ++ b ∷ codes "=]" ++ t) t (only b) AfterRange
-  alone : {t v : Text} {b : ℕ} → Point t v b → MayBeAlone p t v →
-      Element p t v (only b) AfterPoint
+  alone : {t v : Text} {b : ℕ} → Point t v b → MayBeAlone p t v → Element p t v (only b) AfterPoint
   -- a `]` and a `-` begin a range only as the first; a `]` ends none; and no range descends
   span : {t v w : Text} {a b : ℕ} → Point t (codes "-" ++ v) a →
       (Begins (codes "]") t ⊎ Begins (codes "-") t → p ≡ First) →

@@ -98,6 +98,5 @@ module _ (syntax : Syntax) where
 abbrev pub IsCut : Syntax → Text → List Token → Type 0
 IsCut syntax = Cut syntax start
 
--- the first fault of a text
 abbrev pub IsFirstFault : Syntax → Text → PatternFault → Type 0
 IsFirstFault syntax text = IsAt (FirstFault syntax start text) text

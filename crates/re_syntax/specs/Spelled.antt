@@ -18,8 +18,7 @@ mutual
   -- the items of a branch, one after another; a `^` that is an anchor takes no duplication
   pub data Items : List Token → List Expression → Type 0 where
     none : Items [] []
-    anchor : {ks : List Token} {es : List Expression} → Items ks es →
-        Items (lead ∷ ks) (begin ∷ es)
+    anchor : {ks : List Token} {es : List Expression} → Items ks es → Items (lead ∷ ks) (begin ∷ es)
     item : {ks ls : List Token} {es : List Expression} {e : Expression} → Item ks e → Items ls es →
         Items (ks ++ ls) (e ∷ es)
 

@@ -9,7 +9,6 @@ use Rattle.re_trees.specs.declared.class.Class.{Class}
 abbrev pub Text : Type 0
 Text = List ℕ
 
--- the text begins with these bytes
 abbrev pub Begins : Text → Text → Type 0
 Begins front t = (rest : Text) × (t ≡ front ++ rest)
 
@@ -49,7 +48,6 @@ class_name Graph = codes "graph"
 class_name Print = codes "print"
 class_name Xdigit = codes "xdigit"
 
--- the bytes of a class
 abbrev pub in_class : Class → Bytes
 in_class Upper = range 65 90
 in_class Lower = range 97 122

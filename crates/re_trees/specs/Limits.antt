@@ -5,7 +5,6 @@ use Rattle.std.specs.Prelude.{ℕ}
 abbrev pub most_positions : ℕ
 most_positions = 4096
 
--- the greatest number of patterns
 abbrev pub most_patterns : ℕ
 most_patterns = 65535
 

@@ -12,8 +12,6 @@ use Rattle.grep_utility.specs.{declared.words.tokens.Meaning.Meaning, Words.mean
 use Rattle.grep_utility.specs.Words.{number_of}
 use Rattle.grep_utility.specs.declared.words.tokens.Meaning.TheVariants as meaning
 
--- ---- words
-
 abbrev pub space : ℕ
 space = 32
 
@@ -46,8 +44,6 @@ syntax_of word =
     if bytes_eq word (codes "basic") then Some Basic else
     if bytes_eq word (codes "extended") then Some Extended else
     if bytes_eq word (codes "fixed") then Some Fixed else None
-
--- ---- commands
 
 -- an edit, an edit with the number of next lines that it counts, the report, what changed, a page
 -- with the number of its first hit and of its hits, the version, or whether rows have their text
@@ -167,7 +163,6 @@ command_of (word ∷ given) =
     if bytes_eq word (codes "file") then file_command given else
     if bytes_eq word (codes "missing") then missing_command given else unnamed_command word given
 
--- the command of a line
 abbrev pub line_command : Text → Option Command
 line_command line = command_of (words_of line)
 

@@ -38,7 +38,6 @@ module _ (es : List Expression) (options : Options) (many : Bool) where
   LineRowsOf (around context) file rows = GroupsOf es options many context file rows
   LineRowsOf _ file rows = rows ≡ []
 
-  -- the rows of a selected line
   abbrev pub RowsOfSelected : Form → Text → ℕ → Text → List Text → Type 0
   RowsOfSelected lines name number line rows =
       rows ≡ (head_of es options many (file_so_far name []) number ++ line) ∷ []
@@ -46,7 +45,6 @@ module _ (es : List Expression) (options : Options) (many : Bool) where
       PartsOfLine es options many (file_so_far name []) (number, line) rows
   RowsOfSelected _ name number line rows = rows ≡ []
 
-  -- the rows of a line
   abbrev pub RowsOfLine : Text → ℕ → Text → List Text → Type 0
   RowsOfLine name number line rows =
       IfHolds (Selected es options line) (RowsOfSelected (form options) name number line rows)
@@ -86,6 +84,5 @@ module _ (es : List Expression) (options : Options) (many : Bool) where
     StopsLine Write = BreaksLine
     StopsLine (Memory n) = (n + 1 ≡ number) × (new ≡ old)
 
--- what the parts of a line cost
 abbrev pub parts_cost : Options → ℕ → Text → ℕ
 parts_cost options matchers line = part_searches (form options) * search_cost matchers line

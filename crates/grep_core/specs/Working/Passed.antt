@@ -6,7 +6,6 @@ use Rattle.grep_core.specs.{declared.output.around.Progress.Progress, Files.Sele
 use Rattle.grep_core.specs.{Working.LastLines.LastLines, Working.LastLines.with_lines}
 use Rattle.grep_core.specs.Working.Progress.{with_waiting}
 
--- no line is selected
 abbrev pub AreUnselected : List Expression → Options → List Text → Type 0
 AreUnselected es options lines = All (λ line. ¬ Selected es options line) lines
 

@@ -27,10 +27,8 @@ with_waiting n p =
       waiting = min (p.waiting + n) p.context.before;
     }
 
--- after that line
 abbrev pub after_line : Progress → Bool → Progress
-after_line p true =
-    record p { shown = true; gap = false; waiting = 0; left = p.context.after }
+after_line p true = record p { shown = true; gap = false; waiting = 0; left = p.context.after }
 after_line p false = if nat_lt 0 p.left then record p { left = p.left - 1 } else with_waiting 1 p
 
 -- the last n of some lines
@@ -48,7 +46,6 @@ module _ (options : Options) (many : Bool) (name : Text) where
   rows_around number lines =
       map (λ line. row_with hyphen line.0 line.1) (enumerate_from number lines)
 
-  -- the row of a line
   abbrev pub row_by : Bool → ℕ → Text → Text
   row_by selected number line = row_with (if selected then colon else hyphen) number line
 

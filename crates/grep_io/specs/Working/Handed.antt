@@ -46,6 +46,5 @@ pub record BeginsWith (name : Text) (known : Option Text) (lines : List Text) : 
   pub has_lines : (file_of name reading).lines ≡ lines ++ more
   pub ends : ((file_of name reading).ending ≡ whole) ⊎ ((file_of name reading).ending ≡ broken)
 
--- a file that has these lines so far
 abbrev pub file_so_far : Text → List Text → File
 file_so_far name lines = record { name = name; lines = lines; ending = whole }

@@ -34,7 +34,6 @@ module _ {R : Type 0} (remaining : R → Option Text) (failures : R → ℕ) whe
       (new.ahead ≡ [])
   IsLineOf old new Failed = ⊥
 
-  -- a line was handed out
   pub record HandsOut (old new : LineReader R) : Type 0 where
     pub was_open : old.stage ≡ Open
     pub no_newline : HasNoNewline new.line

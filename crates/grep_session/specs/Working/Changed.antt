@@ -13,8 +13,7 @@ exchanged first gone come narrower =
 
 -- the first patterns went, so many came, and all parts are searched
 abbrev pub anew : ℕ → ℕ → Change
-anew gone come =
-    record { first = 0; gone = gone; come = come; narrower = false; all_parts = true }
+anew gone come = record { first = 0; gone = gone; come = come; narrower = false; all_parts = true }
 
 -- the expressions before a change, and the options under which lines were searched by them: `come`
 -- came in place of `gone`, and those after them have no greater number than before

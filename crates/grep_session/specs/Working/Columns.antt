@@ -33,7 +33,6 @@ pub record AddsColumn (sought : ℕ → Bool) (texts : List Text) (entire : Bool
       (sought k ≡ false → ¬ Any (λ e. Matches e (get_or texts k []) entire) es) →
       AddsMatching (get_or texts k []) entire first es (numbers_at k old) (numbers_at k new)
 
--- the expressions that came
 abbrev pub came : Change → List Expression → List Expression
 came change es = drop change.first (take (change.first + change.come) es)
 

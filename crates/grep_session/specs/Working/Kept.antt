@@ -85,6 +85,5 @@ chunks_of file = unwrap_or file.lines []
 abbrev pub chunks_of_files : List KeptFile → List (List KeptLine)
 chunks_of_files files = flat_map chunks_of files
 
--- the lines of all files
 abbrev pub lines_of_files : List File → List Text
 lines_of_files files = flat_map (λ file. file.lines) files

@@ -15,8 +15,7 @@ inputs_of s =
     record {
       syntax = s.syntax;
       options = s.options;
-      patterns = map (λ text. text.items)
-          s.texts.items;
+      patterns = map (λ text. text.items) s.texts.items;
       files = map kept_file s.files.items;
     }
 

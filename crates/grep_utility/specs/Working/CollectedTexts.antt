@@ -40,7 +40,6 @@ module _ (source : reading.Source) (failed_before failed : ℕ) (old new : Text)
       (n : ℕ) × FileGives source (refusal (read_error source.name) n) ×
       (failed ≡ count_more failed_before n)
 
--- the patterns of a source were added
 abbrev pub AddsSource : Folder → PatternsFrom → Text → Text → Type 0
 AddsSource folder source old new =
     (texts : List Text) × GivesPatterns folder source (Ok texts) × Adds old new texts

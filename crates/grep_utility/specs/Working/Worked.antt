@@ -7,8 +7,7 @@ use Rattle.grep_utility.specs.Working.Known.{WritesJust}
 
 -- `grep -n -B 2 a h missing`, where the file `h` has three lines and there is no file `missing`
 abbrev pub row_words : List Text
-row_words =
-    codes "-n" ∷ codes "-B" ∷ codes "2" ∷ codes "a" ∷ codes "h" ∷ codes "missing" ∷ []
+row_words = codes "-n" ∷ codes "-B" ∷ codes "2" ∷ codes "a" ∷ codes "h" ∷ codes "missing" ∷ []
 
 -- the bytes of the file `h`
 abbrev pub row_text : Text
@@ -18,7 +17,6 @@ row_text = codes "b\nc\na\n"
 abbrev pub row_output : List Text
 row_output = codes "h-1-b" ∷ codes "h-2-c" ∷ codes "h:3:a" ∷ []
 
--- the messages
 abbrev pub row_messages : List Text
 row_messages = codes "grep: missing: cannot open" ∷ []
 

@@ -50,7 +50,6 @@ abbrev pub all_of : List (List KeptLine) → List KeptLine
 all_of [] = []
 all_of (lines ∷ chunks) = lines ++ all_of chunks
 
--- each chunk has a line
 abbrev pub AreFilled : List (List KeptLine) → Type 0
 AreFilled chunks = All (λ lines. 1 ≤ length lines) chunks
 

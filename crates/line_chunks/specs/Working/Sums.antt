@@ -3,7 +3,6 @@ use Rattle.std.specs.Prelude.{◌≡◌, ℕ, ◌+◌, ◌≤◌, List, [], ◌�
 use Rattle.line_chunks.specs.Working.Chunks.{KeptLine, AreFilled, AreFull, all_of, matched_count}
 use Rattle.line_chunks.specs.declared.entries.Entry.{Entry}
 
--- the chunks of the entries
 abbrev pub chunks_of : List Entry → List (List KeptLine)
 chunks_of entries = map (λ entry. entry.chunk) entries
 

@@ -14,8 +14,7 @@ pub record Loses (old new : List Stretch) : Type 0 where
 pub record Covers (start end : ℕ) (old new : List Stretch) : Type 0 where
   pub fits : (known lines : ℕ) → end ≤ lines → Fits known lines old → Fits known lines new
   pub only : (line now : ℕ) → Keeps new line now → Keeps old line now
-  pub all : (line now : ℕ) → (now < start) ⊎ (end ≤ now) → Keeps old line now →
-      Keeps new line now
+  pub all : (line now : ℕ) → (now < start) ⊎ (end ≤ now) → Keeps old line now → Keeps new line now
   pub before : (place : ℕ) → place < start → IsBefore old place → IsBefore new place
   pub after : (place : ℕ) → end ≤ place → IsAfter old place → IsAfter new place
 

@@ -19,8 +19,7 @@ fresh_reader content =
 
 -- the bytes that reads of it will give: none once a read failed
 abbrev pub bytes_left : MemoryReader → Option Text
-bytes_left r =
-    if nat_eq r.failures 0 then limited r.step r.left (Some r.rest.now) else Some []
+bytes_left r = if nat_eq r.failures 0 then limited r.step r.left (Some r.rest.now) else Some []
 
 -- how many bytes a read moves
 abbrev pub next_count : ℕ → ℕ → ℕ → ℕ → ℕ

@@ -100,7 +100,6 @@ pub record IsBlank (width number : ℕ) (empty : Empty) (ends : Ends) : Type 0 w
   pub begins : ends.begins ≡ number
   pub shows : Shows (blank_part empty) width ends
 
--- the ends of one position
 pub record IsOne (width position : ℕ) (ends : Ends) : Type 0 where
   pub begins : ends.begins ≡ position
   pub shows : Shows (one_position position (λ c. ⊥)) width ends
@@ -112,7 +111,6 @@ Wanted set wanted c = members set c ≡ wanted
 abbrev pub wanted_position : ByteSet → Bool → ℕ → Part
 wanted_position set wanted n = one_position n (Wanted set wanted)
 
--- the expression was added
 abbrev pub IsAddedOf : Expression → ℕ → Rows → Rows → Ends → Type 0
 IsAddedOf e beyond old new ends = IsAdded (part_of e) (positions e) beyond old new ends
 

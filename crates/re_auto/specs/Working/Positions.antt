@@ -39,7 +39,6 @@ Reaches part line i (suc j) q =
     ByteAt (part.takes q) line j
     × ((i ≡ j) × part.first (is_begin j) q ⊎ ((p : ℕ) × Reaches part line i j p × part.follow p q))
 
--- the part holds from i to j
 abbrev pub PartHolds : Part → Text → ℕ → ℕ → Type 0
 PartHolds part line i j =
     (i ≡ j) × part.empty (is_begin i) (is_end line i)
@@ -62,7 +61,6 @@ nothing_more = without_positions (λ b z. ⊤)
 abbrev pub never : Part
 never = without_positions (λ b z. ⊥)
 
--- the one position n
 abbrev pub one_position : ℕ → (ℕ → Type 0) → Part
 one_position n P = record {
   empty = λ b z. ⊥;

@@ -19,8 +19,7 @@ LeadsPast part line p q m = (n : ℕ) × (m ≤ p + n) × Leads part line p n q
 
 -- a matched stretch that is not empty begins at i and ends after m
 abbrev pub MatchesPast : Expression → Text → ℕ → ℕ → Type 0
-MatchesPast e line i m =
-    (j : ℕ) × (m < j) × (i < j) × (j ≤ length line) × Holds line e i j
+MatchesPast e line i m = (j : ℕ) × (m < j) × (i < j) × (j ≤ length line) × Holds line e i j
 
 -- some expression has a part that begins at i, wherever the search began, and ends after m
 abbrev pub FoundPast : List Expression → Text → Bool → ℕ → ℕ → Type 0

@@ -33,7 +33,6 @@ Fits kept list =
     (length list.ends < list.most) × Grow kept ×
     ((k : ℕ) → k < length kept → slice_index kept k ≤ length list.ends)
 
--- the numbers of runs
 abbrev pub numbers : Run → List ℕ
 numbers r = range_with_len r.first (suc r.more)
 

@@ -14,7 +14,6 @@ use Rattle.re_ends.specs.declared.list.Run.{Run}
 abbrev pub Lists : Type 0
 Lists = List (Vec ℕ Global)
 
--- lists of runs
 abbrev pub AllRuns : Type 0
 AllRuns = List (Vec Run Global)
 

@@ -29,8 +29,7 @@ past line end = min (end + 1) (length line)
 -- each byte up to the part's end, or up to the line's end, is at most a step, and passed at most once;
 -- those of a stretch aren't steps yet
 abbrev pub CountsUpTo : Text → ℕ → Steps → Steps → Ahead → Type 0
-CountsUpTo line from before after (Part part) =
-    AddsAtMost (part.end - from) before after
+CountsUpTo line from before after (Part part) = AddsAtMost (part.end - from) before after
 CountsUpTo line from before after (In window) =
     AddsUpTo (window.start - from) (past line window.end - from) before after
 CountsUpTo line from before after Nothing = AddsAtMost (length line - from) before after

@@ -50,7 +50,6 @@ pub record StopsIn (e : Expression) (whole : Bool) (block : Text) (sweep : Sweep
       ↔ Matches e (slice_range block sweep.start end) whole
   pub right : Says sweep.stop (Matches e (slice_range block sweep.start end) whole)
 
--- where a sweep stopped in the block
 pub record StopsAt (e : Expression) (whole : Bool) (block : Text) (sweep : Sweep) : Type 0 where
   pub within : sweep.reached ≤ length block
   pub low : sweep.start ≤ sweep.first

@@ -23,7 +23,6 @@ abbrev pub Fits : Text → List (Option Bytes) → ℕ → ℕ → Type 0
 Fits line [] i j = i ≡ j
 Fits line (mark ∷ marks) i j = (k : ℕ) × MarkFits line mark i k × Fits line marks k j
 
--- each mark is a set
 abbrev pub IsSetMark : Option Bytes → Type 0
 IsSetMark (Some set) = ⊤
 IsSetMark None = ⊥

@@ -17,7 +17,6 @@ set_at run j = get_or run j nothing
 abbrev pub Runs : Type 0
 Runs = List (List Bytes)
 
--- one run
 abbrev pub one_run : List Bytes → Runs
 one_run run = run ∷ []
 

@@ -7,7 +7,6 @@ use Rattle.re_search.specs.{declared.pattern.Pattern.Pattern, Reading.IsSmallFor
 use Rattle.re_search.specs.Working.Strings.{string_expression}
 use Rattle.re_search.specs.declared.pattern.Pattern.TheVariants as p
 
--- its expression
 abbrev pub pattern_expression : Pattern → Expression
 pattern_expression (p.String text) = string_expression text.now
 pattern_expression (p.Tree tree count) = expression_of tree

@@ -15,7 +15,6 @@ pub record Sought : Type 0 where
 abbrev pub sought_of : Bool → List Matcher → Sought
 sought_of whole matchers = record { expressions = expressions_of matchers; whole = whole }
 
--- some expression matches the line
 abbrev pub IsSought : Sought → Text → Type 0
 IsSought sought line = SomeMatches sought.expressions line sought.whole
 

@@ -51,7 +51,6 @@ pub record IsRowOf (sets : List StateSet) (stride r : ℕ) (set : StateSet) : Ty
   pub row : r ≡ number * stride
   pub is : slice_get sets number ≡ Some set
 
--- row r is that of some set
 abbrev pub IsRow : StepTable → ℕ → Type 0
 IsRow t r = (set : StateSet) × IsRowOf t.sets.keys t.stride r set
 
@@ -72,7 +71,6 @@ pub record StopsAt (e : Expression) (mode : Mode) (sets : List StateSet) (stride
   pub search : mode ≡ Search
   pub accepting : IsAccepting e Search into false
 
--- what a cell says of the set and the byte that it is for
 pub record SaysNext (e : Expression) (mode : Mode) (sets : List StateSet) (stride : ℕ)
     (from : StateSet) (byte cell : ℕ) : Type 0 where
   pub plain : cell < limit → GoesOnTo e mode sets stride from byte cell
@@ -179,8 +177,7 @@ cache_of t =
       classes = t.classes.items;
       stride = t.stride;
       sets = t.sets.keys;
-      entries =
-          t.pairs.entries;
+      entries = t.pairs.entries;
     }
 
 -- a search that came from a first stage is at place j in this row, with this cache and these steps

@@ -24,7 +24,6 @@ abbrev pub IsAtOf : LineSearch → Text → Stage → StepTable → Steps → �
 IsAtOf asked line first t steps j r =
     ComesTo (expression_in asked) asked.mode line first (cache_of t) steps j r
 
--- it has its answer
 abbrev pub IsReported : LineSearch → Stage → StepTable → Steps → Bool → Type 0
 IsReported asked first t steps answer =
     Finishes (expression_in asked) asked.mode asked.line.now first (cache_of t) steps answer
@@ -87,8 +86,7 @@ pub record ComesAlone (asked : LineSearch) (old : StepTable) (before : Steps) (s
       (record { set = set; cache = cache; steps = after })
 
 abbrev pub Arrives : LineSearch → StepTable → Steps → Spot → StepTable → Steps → Went → Type 0
-Arrives asked old before spot new after (w.To next) =
-    ArrivesAt asked old before spot new after next
+Arrives asked old before spot new after (w.To next) = ArrivesAt asked old before spot new after next
 Arrives asked old before spot new after (w.Reported answer) =
     ComesToSay asked old before spot new after answer
 Arrives asked old before spot new after (w.Alone k) =

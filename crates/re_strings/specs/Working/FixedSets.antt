@@ -11,7 +11,6 @@ use Rattle.re_strings.specs.declared.aho_corasick.AhoCorasick.{AhoCorasick}
 abbrev pub IsFront : List Text → Text → Type 0
 IsFront strings w = Any (λ s. Begins w s) strings
 
--- the text is one of the strings
 abbrev pub IsString : List Text → Text → Type 0
 IsString strings w = Any (λ s. s ≡ w) strings
 

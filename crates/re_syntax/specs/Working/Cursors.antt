@@ -3,7 +3,6 @@ use Rattle.std.specs.Prelude.{◌≡◌, ℕ, ◌+◌, ◌++◌, length, drop}
 use Rattle.re_trees.specs.Bytes.{Text}
 use Rattle.re_syntax.specs.declared.cursor.Cursor.{Cursor}
 
--- what is left of the text
 abbrev pub left : Cursor → Text
 left c = drop c.at c.text.now
 
