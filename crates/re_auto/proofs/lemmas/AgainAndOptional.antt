@@ -1,5 +1,5 @@
 -- A part again and again, and a part that may be left out.
-use Rattle.re_auto.proofs.Prelude.{◌≡◌, ℕ, zero, suc, ◌⊎◌, inl, inr, refl, subst, arith, Text, Turns, Part, Reaches, PartHolds, again, optional}
+use Rattle.re_auto.proofs.Prelude.{◌≡◌, ℕ, zero, suc, ◌⊎◌, inl, inr, refl, arith, Text, Turns, Part, Reaches, PartHolds, again, optional}
 use Rattle.re_auto.proofs.lemmas.Chains.{not_at_begin, not_at_end, reaches_bounds, graft, widen}
 
 -- one turn more after some turns
@@ -25,8 +25,8 @@ module _ (f : Part) (line : Text) where
       let bounds = reaches_bounds f line k j p s in (
         suc turns,
         j,
-        last_added (PartHolds f line) turns i k j before (inr (p, s, rw (not_at_end line j (t.0)) w.0)),
-        (t, inl (refl, rw (not_at_begin j (omega (arith, bounds.0))) w.1)),
+        last_added (PartHolds f line) _ i k j before (inr (p, s, rw (not_at_end line j (t.0)) w.0)),
+        (t, inl (refl, rw (not_at_begin j (omega arith)) w.1)),
       )
 
   -- where a part holds again and again, there is at least one turn of it
@@ -35,32 +35,31 @@ module _ (f : Part) (line : Text) where
   turns_of i j (inl (e, a)) = (0, (j, inl (e, a), refl))
   turns_of i j (inr (q, r, l)) =
       let (turns, k, before, s) = last_turn i j q r in
-      (turns, last_added (PartHolds f line) turns i k j before (inr (q, s, l)))
+      (turns, last_added (PartHolds f line) _ i k j before (inr (q, s, l)))
 
   -- a part that holds once holds again and again
   once : (i j : ℕ) → PartHolds f line i j → PartHolds (again f) line i j
   once i j (inl h) = inl h
-  once i j (inr (q, s, l)) = inr (q, widen f (again f) line (λ b q w. w) (λ p q w. inl w) (λ q c t. t) i j q s, l)
+  once i j (inr (q, s, l)) = inr (q, widen f (again f) line (λ b q w. w) (λ p q. inl) (λ q c t. t) i j q s, l)
 
   -- one turn, and then the part again and again
   one_more : (i k j : ℕ) → PartHolds f line i k → PartHolds (again f) line k j → PartHolds (again f) line i j
   one_more i k j (inl (e, a)) rest = rw e rest
-  one_more i k j (inr h) (inl (e, b)) = subst (λ j. PartHolds (again f) line i j) e (once i k (inr h))
+  one_more i k j (inr h) (inl (e, b)) = rw e at (once i k (inr h))
   one_more i k j (inr (p, r, m)) (inr (q, s, l)) =
       let bounds = reaches_bounds (again f) line k j q s in
       let start = reaches_bounds f line i k p r in
-      let before : Reaches (again f) line i k p = widen f (again f) line (λ b q w. w) (λ p q w. inl w) (λ q c t. t) i k p r in
+      let before = widen f (again f) line (λ b q w. w) (λ p q. inl) (λ q c t. t) i k p r in
       inr (
         q,
         graft (again f) (again f) line i k (λ p q w. w) (λ q c t. t)
-            (λ q first t. (t, inr (p, before, inr (rw (not_at_end line k (omega (arith, bounds.0, bounds.1))) at m, rw (not_at_begin k (omega (arith, start.0))) at first))))
-            j q s,
+            (λ q first t. (t, inr (p, before, inr (rw (not_at_end line k (omega arith)) at m, rw (not_at_begin k (omega arith)) at first)))) j q s,
         l,
       )
 
   -- where there is at least one turn of a part, it holds again and again
   pub of_turns : (turns i j : ℕ) → Turns (PartHolds f line) (suc turns) i j → PartHolds (again f) line i j
-  of_turns zero i j (k, h, e) = subst (λ j. PartHolds (again f) line i j) e (once i k h)
+  of_turns zero i j (k, h, e) = rw e at (once i k h)
   of_turns (suc turns) i j (k, h, rest) = one_more i k j h (of_turns turns k j rest)
 
   -- a part that may be left out holds on the empty stretch, and where the part does

@@ -1,7 +1,6 @@
 -- Two parts in turn, and one of two.
-use Rattle.re_auto.proofs.Prelude.{ℕ, false, ◌⊎◌, inl, inr, refl, ◌∙◌, subst, arith, ⊤, Text, Part, is_begin, is_end, Reaches, PartHolds, in_turn, either}
-use Rattle.re_auto.proofs.lemmas.Numbered.{IsNumbered}
-use Rattle.re_auto.proofs.lemmas.Chains.{not_at_begin, not_at_end, reaches_bounds, graft, widen}
+use Rattle.re_auto.proofs.Prelude.{ℕ, false, ◌⊎◌, inl, inr, refl, ◌∙◌, subst, arith, ⊤, Text, Part, is_end, Reaches, PartHolds, in_turn, either}
+use Rattle.re_auto.proofs.lemmas.{Numbered.IsNumbered, Chains.not_at_begin, Chains.not_at_end, Chains.reaches_bounds, Chains.graft, Chains.widen}
 use Rattle.re_auto.proofs.lemmas.JoinedChains.{Run, of_first, of_second, of_both, run}
 
 module _ (f g : Part) (line : Text) where
@@ -10,8 +9,8 @@ module _ (f g : Part) (line : Text) where
   follow_on i k j p q r l s =
       let bounds = reaches_bounds g line k j q s in
       let start = reaches_bounds f line i k p r in
-      graft g (in_turn f g) line i k (λ p q w. inr (inl w)) (λ q c t. inr t)
-      (λ q first t. (t, inr (p, widen f (in_turn f g) line (λ b q w. inl w) (λ p q w. inl w) (λ q c t. inl t) i k p r, inr (inr (tt, rw (not_at_end line k (omega (arith, bounds.0, bounds.1))) at l, rw (not_at_begin k (omega (arith, start.0))) at first)))))
+      graft g (in_turn f g) line i k (λ p q w. inr (inl w)) (λ q c. inr)
+      (λ q first t. (t, inr (p, widen f (in_turn f g) line (λ b q. inl) (λ p q. inl) (λ q c. inl) i k p r, inr (inr (tt, rw (not_at_end line k (omega arith)) at l, rw (not_at_begin k (omega arith)) at first)))))
       j q s
 
   -- two parts that hold one after the other hold in turn
@@ -19,23 +18,20 @@ module _ (f g : Part) (line : Text) where
   joint i k j (inl (e, a)) (inl (d, b)) = inl (e ∙ d, (a, rw e b))
   joint i k j (inl (e, a)) (inr (q, s, l)) =
       let bounds = reaches_bounds g line k j q s in
-      let skip : f.empty (is_begin i) false = rw (not_at_end line i (omega (arith, bounds.0, bounds.1, e))) at a in
+      let skip = rw (not_at_end line i (omega arith)) at a in
       let same : Reaches g line i j q = rw e s in
-      inr (q, graft g (in_turn f g) line i i (λ p q w. inr (inl w)) (λ q c t. inr t) (λ q first t. (t, inl (refl, inr (skip, first)))) j q same, inl l)
+      inr (q, graft g (in_turn f g) line i i (λ p q w. inr (inl w)) (λ q c. inr) (λ q first t. (t, inl (refl, inr (skip, first)))) j q same, inl l)
   joint i k j (inr (p, r, m)) (inl (e, b)) =
       let start = reaches_bounds f line i k p r in
-      subst (λ j. PartHolds (in_turn f g) line i j) e
-      (inr (p, widen f (in_turn f g) line (λ b q w. inl w) (λ p q w. inl w) (λ q c t. inl t) i k p r, inr (rw (not_at_begin k (omega (arith, start.0))) at b, m)))
+      subst (λ j. PartHolds (in_turn f g) line i j) e (inr (p, widen f (in_turn f g) line (λ b q. inl) (λ p q. inl) (λ q c. inl) i k p r, inr (rw (not_at_begin k (omega arith)) at b, m)))
   joint i k j (inr (p, r, m)) (inr (q, s, l)) = inr (q, follow_on i k j p q r m s, inl l)
 
   -- where one of two parts holds, their choice holds
   pub chosen : (i j : ℕ) → PartHolds f line i j ⊎ PartHolds g line i j → PartHolds (either f g) line i j
   chosen i j (inl (inl (e, a))) = inl (e, inl a)
   chosen i j (inr (inl (e, a))) = inl (e, inr a)
-  chosen i j (inl (inr (q, r, l))) =
-      inr (q, widen f (either f g) line (λ b q w. inl w) (λ p q w. inl w) (λ q c t. inl t) i j q r, inl l)
-  chosen i j (inr (inr (q, r, l))) =
-      inr (q, widen g (either f g) line (λ b q w. inr (tt, w)) (λ p q w. inr (inl w)) (λ q c t. inr t) i j q r, inr l)
+  chosen i j (inl (inr (q, r, l))) = inr (q, widen f (either f g) line (λ b q. inl) (λ p q. inl) (λ q c. inl) i j q r, inl l)
+  chosen i j (inr (inr (q, r, l))) = inr (q, widen g (either f g) line (λ b q w. inr (tt, w)) (λ p q w. inr (inl w)) (λ q c. inr) i j q r, inr l)
 
 module _ (f g : Part) (from mid to : ℕ) (nf : IsNumbered f from mid) (ng : IsNumbered g mid to) (line : Text) where
   abbrev TurnRun : ℕ → ℕ → ℕ → Type 0
@@ -45,15 +41,14 @@ module _ (f g : Part) (from mid to : ℕ) (nf : IsNumbered f from mid) (ng : IsN
   cut_run : (i j q : ℕ) → TurnRun i j q → (g.last (is_end line j) q ⊎ g.empty false (is_end line j) × f.last (is_end line j) q) →
       (k : ℕ) × PartHolds f line i k × PartHolds g line k j
   cut_run i j q (of_first b r) (inl l) = absurd (omega (arith, ng.last _ q l))
-  cut_run i j q (of_first b r) (inr l) =
-      (j, inr (q, r, l.1), inl (refl, rw (not_at_begin j (omega (arith, reaches_bounds f line i j q r))) l.0))
+  cut_run i j q (of_first b r) (inr l) = (j, inr (q, r, l.1), inl (refl, rw (not_at_begin j (omega (arith, reaches_bounds f line i j q r))) l.0))
   cut_run i j q (of_second b s r) (inl l) =
       let bounds = reaches_bounds g line i j q r in
-      (i, inl (refl, rw (not_at_end line i (omega (arith, bounds.0, bounds.1))) s), inr (q, r, l))
+      (i, inl (refl, rw (not_at_end line i (omega arith)) s), inr (q, r, l))
   cut_run i j q (of_second b s r) (inr l) = absurd (omega (arith, nf.last _ q l.1))
   cut_run i j q (of_both b x k p r l s) (inl m) =
       let bounds = reaches_bounds g line k j q s in
-      (k, inr (p, r, rw (not_at_end line k (omega (arith, bounds.0, bounds.1))) l), inr (q, s, m))
+      (k, inr (p, r, rw (not_at_end line k (omega arith)) l), inr (q, s, m))
   cut_run i j q (of_both b x k p r l s) (inr m) = absurd (omega (arith, nf.last _ q m.1))
 
   -- where two parts hold in turn, the one holds and then the other

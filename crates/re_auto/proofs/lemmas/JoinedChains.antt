@@ -1,8 +1,7 @@
 -- How a chain of two joined parts runs: in the one, in the other, or across from the first to the
 -- second.
-use Rattle.re_auto.proofs.Prelude.{◌≡◌, ℕ, zero, suc, ◌<◌, ◌≤◌, Bool, false, inl, inr, length, slice_index, refl, arith, Text, Part, is_begin, Reaches, joined}
-use Rattle.re_auto.proofs.lemmas.Numbered.{IsNumbered}
-use Rattle.re_auto.proofs.lemmas.Chains.{not_at_begin, reaches_bounds}
+use Rattle.re_auto.proofs.Prelude.{ℕ, zero, suc, ◌<◌, ◌≤◌, Bool, false, inl, inr, length, slice_index, refl, arith, Text, Part, is_begin, Reaches, joined}
+use Rattle.re_auto.proofs.lemmas.{Numbered.IsNumbered, Chains.not_at_begin, Chains.reaches_bounds}
 
 module _ (f g : Part) (Skip : Bool → Type 0) (Cross : Type 0) (E : Bool → Bool → Type 0) (L : Bool → ℕ → Type 0) (from mid to : ℕ) (nf : IsNumbered f from mid) (ng : IsNumbered g mid to) where
   abbrev both : Part
@@ -36,10 +35,9 @@ module _ (f g : Part) (Skip : Bool → Type 0) (Cross : Type 0) (E : Bool → Bo
   on line i j p q lt (in_first w t m) (of_both b x k e r l s) = absurd (omega arith)
   on line i j p q lt (in_second w t m) (of_first b r) = absurd (omega arith)
   on line i j p q lt (in_second w t m) (of_second b s r) = of_second (ng.takes q _ t).0 s ((lt, t), inr (p, r, w))
-  on line i j p q lt (in_second w t m) (of_both b x k e r l s) =
-      of_both (ng.takes q _ t).0 x k e r l ((lt, t), inr (p, s, w))
+  on line i j p q lt (in_second w t m) (of_both b x k e r l s) = of_both (ng.takes q _ t).0 x k e r l ((lt, t), inr (p, s, w))
   on line i j p q lt (across x l w t m) (of_first b r) =
-      let begin : is_begin j ≡ false = not_at_begin j (omega (arith, reaches_bounds f line i j p r)) in
+      let begin = not_at_begin j (omega (arith, reaches_bounds f line i j p r)) in
       of_both (ng.takes q _ t).0 x j p r l ((lt, t), inl (refl, rw begin w))
   on line i j p q lt (across x l w t m) (of_second b s r) = absurd (omega arith)
   on line i j p q lt (across x l w t m) (of_both b y k e r v s) = absurd (omega arith)
@@ -50,6 +48,5 @@ module _ (f g : Part) (Skip : Bool → Type 0) (Cross : Type 0) (E : Bool → Bo
   run line i (suc j) q ((lt, inl t), inl (e, inl w)) = of_first (nf.takes q _ t).1 ((lt, t), inl (e, w))
   run line i (suc j) q ((lt, inr t), inl (e, inl w)) = absurd (omega (arith, nf.first _ q w, ng.takes q _ t))
   run line i (suc j) q ((lt, inl t), inl (e, inr w)) = absurd (omega (arith, ng.first _ q w.1, nf.takes q _ t))
-  run line i (suc j) q ((lt, inr t), inl (e, inr w)) =
-      of_second (ng.takes q _ t).0 (rw e w.0) ((lt, t), inl (e, w.1))
+  run line i (suc j) q ((lt, inr t), inl (e, inr w)) = of_second (ng.takes q _ t).0 (rw e w.0) ((lt, t), inl (e, w.1))
   run line i (suc j) q ((lt, t), inr (p, r, w)) = on line i j p q lt (move p q _ w t) (run line i j p r)

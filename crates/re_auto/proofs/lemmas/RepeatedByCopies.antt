@@ -1,6 +1,6 @@
 -- A part repeated by copies.
-use Rattle.re_auto.proofs.Prelude.{◌≡◌, ℕ, zero, suc, ◌+◌, ◌-◌, ◌*◌, ◌≤◌, Bool, true, false, nat_le, inl, inr, ◌↔◌, Option, Some, None, refl, sym, subst, arith, leb-true, le-leb, Text, Turns, IsWithin, Part, PartHolds, in_turn, again, copies_before, up_to, only_if, repeated}
-use Rattle.re_auto.proofs.lemmas.Numbered.{IsNumbered, copies_before_numbered, up_to_numbered, again_copy_numbered}
+use Rattle.re_auto.proofs.Prelude.{◌≡◌, ℕ, zero, suc, ◌+◌, ◌-◌, ◌*◌, ◌≤◌, Bool, true, false, nat_le, inl, inr, ◌↔◌, Option, Some, None, refl, arith, leb-true, le-leb, Text, Turns, IsWithin, Part, PartHolds, in_turn, again, copies_before, up_to, only_if, repeated}
+use Rattle.re_auto.proofs.lemmas.Numbered.{IsNumbered, copies_before_numbered, up_to_numbered, again_numbered}
 use Rattle.re_auto.proofs.lemmas.InTurnAndEither.{cut, joint}
 use Rattle.re_auto.proofs.lemmas.AgainAndOptional.{turns_of, of_turns, optional_of, of_optional}
 
@@ -30,9 +30,7 @@ module _ (R : ℕ → ℕ → Type 0) (part : ℕ → Part) (size : ℕ) (line :
     copies_give : ((n i j : ℕ) → S i j → PartHolds (rest n) line i j) → (turns from i k j : ℕ) → Turns R turns i k → S k j →
         PartHolds (copies_before part size turns rest from) line i j
     copies_give give zero from i k j e s = rw e (give from k j s)
-    copies_give give (suc turns) from i k j (l, r, t) s =
-        joint (part from) (copies_before part size turns rest (from + size)) line i l j
-        ((reported_too from i l).0 r) (copies_give give turns (from + size) l k j t s)
+    copies_give give (suc turns) from i k j (l, r, t) s = joint (part from) (copies_before part size turns rest (from + size)) line i l j ((reported_too from i l).0 r) (copies_give give turns (from + size) l k j t s)
 
     -- copies before a rest hold nowhere else
     copies_need : ((n i j : ℕ) → PartHolds (rest n) line i j → S i j) → (turns from i j : ℕ) → PartHolds (copies_before part size turns rest from) line i j →
@@ -40,7 +38,7 @@ module _ (R : ℕ → ℕ → Type 0) (part : ℕ → Part) (size : ℕ) (line :
     copies_need need zero from i j h = (i, refl, need from i j h)
     copies_need need (suc turns) from i j h =
         let (l, r, t) = cut (part from) (copies_before part size turns rest (from + size)) from (from + size) (from + size + (turns * size + more))
-        (numbered from) (copies_before_numbered part size numbered rest more beyond turns (from + size)) line i j h in
+        (numbered from) (copies_before_numbered part _ numbered rest _ beyond _ _) line i j h in
         let (k, u, s) = copies_need need turns (from + size) l j t in
         (k, (l, (reported_too from i l).1 r, u), s)
 
@@ -54,8 +52,7 @@ module _ (R : ℕ → ℕ → Type 0) (part : ℕ → Part) (size : ℕ) (line :
   up_to_give zero from i j (suc turns, le, e) = absurd (omega arith)
   up_to_give (suc most) from i j (zero, le, e) = optional_of (in_turn (part from) (up_to part size most (from + size))) line i j (inl e)
   up_to_give (suc most) from i j (suc turns, le, (k, r, t)) =
-      optional_of (in_turn (part from) (up_to part size most (from + size))) line i j
-      (inr (joint (part from) (up_to part size most (from + size)) line i k j ((reported_too from i k).0 r)
+      optional_of (in_turn (part from) (up_to part size most (from + size))) line i j (inr (joint (part from) (up_to part size most (from + size)) line i k j ((reported_too from i k).0 r)
       (up_to_give most (from + size) k j (turns, omega arith, t))))
 
   -- up to n copies hold nowhere else
@@ -66,10 +63,9 @@ module _ (R : ℕ → ℕ → Type 0) (part : ℕ → Part) (size : ℕ) (line :
       elim (of_optional (in_turn (part from) (up_to part size most (from + size))) line i j h) [
         | inl e ↦ (0, omega arith, e)
         | inr w ↦
-            let (k, r, rest) = cut (part from) (up_to part size most (from + size)) from (from + size) (from + size + most * size)
-            (numbered from) (up_to_numbered part size numbered most (from + size)) line i j w in
+            let (k, r, rest) = cut (part from) (up_to part size most (from + size)) from (from + size) (from + size + most * size) (numbered from) (up_to_numbered part _ numbered _ _) line i j w in
             let (turns, le, more) = up_to_need most (from + size) k j rest in
-            (suc turns, omega (arith, le), (k, (reported_too from i k).1 r, more))
+            (suc turns, omega arith, (k, (reported_too from i k).1 r, more))
       ]
 
   -- one turn or more
@@ -78,8 +74,7 @@ module _ (R : ℕ → ℕ → Type 0) (part : ℕ → Part) (size : ℕ) (line :
 
   -- where there is one turn or more, a copy again and again holds
   again_give : (from i j : ℕ) → OneOrMore i j → PartHolds (again (part from)) line i j
-  again_give from i j (turns, t) =
-      of_turns (part from) line turns i j (turns_map R (PartHolds (part from) line) (λ i j. (reported_too from i j).0) (suc turns) i j t)
+  again_give from i j (turns, t) = of_turns (part from) line turns i j (turns_map R (PartHolds (part from) line) (λ i j. (reported_too from i j).0) (suc turns) i j t)
 
   -- a copy again and again holds nowhere else
   again_need : (from i j : ℕ) → PartHolds (again (part from)) line i j → OneOrMore i j
@@ -95,16 +90,16 @@ module _ (R : ℕ → ℕ → Type 0) (part : ℕ → Part) (size : ℕ) (line :
   repeated_give zero None from i j (zero, w, t) = optional_of (again (part from)) line i j (inl t)
   repeated_give zero None from i j (suc turns, w, t) = optional_of (again (part from)) line i j (inr (again_give from i j (turns, t)))
   repeated_give (suc least) None from i j (turns, w, t) =
-      let e : turns ≡ least + suc (turns - suc least) = omega (arith, w.0) in
+      let e : turns ≡ least + suc (turns - suc least) = omega arith in
       let (k, front, back) = turns_cut R least (suc (turns - suc least)) i j (rw e at t) in
-      copies_give (λ m. again (part m)) size (again_copy_numbered part size numbered) OneOrMore again_give least from i k j front (turns - suc least, back)
+      copies_give (λ m. again (part m)) size (λ m. again_numbered (numbered m)) OneOrMore again_give _ _ i k j front (turns - suc least, back)
   repeated_give least (Some most) from i j (turns, w, t) =
-      let bound : least ≤ most = omega (arith, w.0, w.1) in
-      let e : turns ≡ least + (turns - least) = omega (arith, w.0) in
+      let bound : least ≤ most = omega arith in
+      let e : turns ≡ least + (turns - least) = omega arith in
       let (k, front, back) = turns_cut R least (turns - least) i j (rw e at t) in
-      subst (λ b. PartHolds (only_if b (copies_before part size least (up_to part size (most - least)) from)) line i j) (sym (le-leb least most bound))
+      rw (le-leb least most bound)
       (copies_give (up_to part size (most - least)) ((most - least) * size) (up_to_numbered part size numbered (most - least)) (UpTo (most - least)) (up_to_give (most - least))
-      least from i k j front (turns - least, omega (arith, w.1), back))
+      _ _ i k j front (turns - least, omega arith, back))
 
   -- copies between two bounds hold only where there are turns within the bounds
   between_need : (b : Bool) (least most from i j : ℕ) → nat_le least most ≡ b →
@@ -115,16 +110,12 @@ module _ (R : ℕ → ℕ → Type 0) (part : ℕ → Part) (size : ℕ) (line :
       let bound = leb-true least most is in
       let (k, front, (turns, le, back)) = copies_need (up_to part size (most - least)) ((most - least) * size) (up_to_numbered part size numbered (most - least))
       (UpTo (most - least)) (up_to_need (most - least)) least from i j h in
-      (least + turns, (omega arith, omega (arith, le, bound)), turns_add R least turns i k j front back)
+      (least + turns, (omega arith, omega arith), turns_add R _ _ i k j front back)
 
   -- a repeated part holds nowhere else
   pub repeated_need : (least : ℕ) (most : Option ℕ) (from i j : ℕ) → PartHolds (repeated part size least most from) line i j → Repeated least most i j
-  repeated_need zero None from i j h =
-      elim (of_optional (again (part from)) line i j h) [
-        | inl e ↦ (0, (omega arith, tt), e)
-        | inr w ↦ let (turns, t) = again_need from i j w in (suc turns, (omega arith, tt), t)
-      ]
+  repeated_need zero None from i j h = elim (of_optional (again (part from)) line i j h) [ inl e ↦ (0, (omega arith, tt), e) | inr w ↦ let (turns, t) = again_need from i j w in (suc turns, (omega arith, tt), t) ]
   repeated_need (suc least) None from i j h =
-      let (k, front, (turns, back)) = copies_need (λ m. again (part m)) size (again_copy_numbered part size numbered) OneOrMore again_need least from i j h in
+      let (k, front, (turns, back)) = copies_need (λ m. again (part m)) size (λ m. again_numbered (numbered m)) OneOrMore again_need least from i j h in
       (least + suc turns, (omega arith, tt), turns_add R least (suc turns) i k j front back)
   repeated_need least (Some most) from i j h = between_need (nat_le least most) least most from i j refl h

@@ -1,8 +1,6 @@
 -- What sets of positions mean, by what their words are.
-use Rattle.re_auto.proofs.Prelude.{◌≡◌, ℕ, suc, ◌<◌, Bool, true, false, IsTrue, List, length, ◌||◌, ◌&&◌, inl, inr, refl, sym, ◌∙◌, subst, arith, true≢false, Some, slice_get, ◌↔◌, slice_index, Text, Expression, Holds, positions, Mode, Search, StateSet, Has, Part, part_of, is_begin, is_end, MayBegin, IsNext, Accepts, IsNowhere, StandsAt, IsNextSet, IsAccepting, CanBegin, slice_get_within, get_or_from_slice_get}
-use Rattle.re_auto.proofs.lemmas.Chains.{not_at_begin}
-use Rattle.re_auto.proofs.lemmas.Numbered.{part_numbered}
-use Rattle.re_auto.proofs.lemmas.SetsByChains.{none_is_right, step_is_right, accept_is_right}
+use Rattle.re_auto.proofs.Prelude.{trans, ◌≡◌, ℕ, suc, ◌<◌, Bool, true, false, IsTrue, List, ◌||◌, ◌&&◌, inl, inr, refl, sym, ◌∙◌, arith, true≢false, Some, slice_get, ◌↔◌, Text, Expression, Holds, positions, Mode, Search, StateSet, Has, Part, part_of, is_begin, is_end, MayBegin, IsNext, Accepts, IsNowhere, StandsAt, IsNextSet, IsAccepting, CanBegin, slice_get_within, get_or_from_slice_get}
+use Rattle.re_auto.proofs.lemmas.{Chains.not_at_begin, Numbered.part_numbered, SetsByChains.none_is_right, SetsByChains.step_is_right, SetsByChains.accept_is_right}
 
 -- a set without positions is right at a line's first place
 pub starts_at : (e : Expression) (mode : Mode) (line : Text) (set : StateSet) → set.at_begin ≡ true → ((q : ℕ) → Has set.words.items q → ⊥) → StandsAt e mode line 0 set
@@ -14,9 +12,9 @@ pub stands_next : (e : Expression) (mode : Mode) (from into : StateSet) (byte : 
     (line : Text) (j : ℕ) → slice_get line j ≡ Some byte → StandsAt e mode line j from → StandsAt e mode line (suc j) into
 unfolding StandsAt IsNextSet
 stands_next e mode from into byte next line j is stands =
-    let lt : j < length line = slice_get_within line j byte is in
-    let byte_is : slice_index line j ≡ byte = get_or_from_slice_get line j byte 0 is in
-    let here : IsNext (part_of e 0) mode (is_begin j) (Has from.words.items) (slice_index line j) (Has into.words.items) = rw (stands.0, ← byte_is) at next.1 in
+    let lt = slice_get_within line j byte is in
+    let byte_is = get_or_from_slice_get line j byte 0 is in
+    let here = rw (stands.0, ← byte_is) at next.1 in
     (next.0 ∙ sym (not_at_begin (suc j) (omega arith)), step_is_right (part_of e 0) mode line j _ _ stands.1 lt here)
 
 -- the next set has only the expression's positions
@@ -30,31 +28,24 @@ pub accepted : (part : Part) (mode : Mode) (begin end longer may empty : Bool) (
     IsTrue (longer || (may && empty)) ↔ Accepts part mode begin end (Has words)
 accepted part mode begin end true may empty words l m e = (λ h. inr (l.0 refl), λ h. refl)
 accepted part mode begin end false true true words l m e = (λ h. inl (m.0 refl, e.0 refl), λ h. refl)
-accepted part mode begin end false true false words l m e =
-    (λ h. absurd (true≢false (sym h)), λ h. elim h [ inl a ↦ e.1 a.1 | inr b ↦ l.1 b ])
-accepted part mode begin end false false empty words l m e =
-    (λ h. absurd (true≢false (sym h)), λ h. elim h [ inl a ↦ m.1 a.0 | inr b ↦ l.1 b ])
+accepted part mode begin end false true false words l m e = (λ h. absurd (true≢false (sym h)), elim [ inl a ↦ e.1 a.1 | inr b ↦ l.1 b ])
+accepted part mode begin end false false empty words l m e = (λ h. absurd (true≢false (sym h)), elim [ inl a ↦ m.1 a.0 | inr b ↦ l.1 b ])
 
 -- what a right set accepts is matched
 pub matched_by : (e : Expression) (mode : Mode) (result at_end : Bool) (set : StateSet) → (IsTrue result ↔ IsAccepting e mode set at_end) →
     (line : Text) (j : ℕ) → StandsAt e mode line j set → at_end ≡ is_end line j → IsTrue result ↔ ((i : ℕ) × MayBegin mode (is_begin i) × Holds line e i j)
 unfolding StandsAt IsAccepting
-matched_by e mode result at_end set reported line j stands ends =
-    let here : IsTrue result ↔ Accepts (part_of e 0) mode (is_begin j) (is_end line j) (Has set.words.items) = rw (stands.0, ends) at reported in
-    let right = accept_is_right e 0 mode line j (Has set.words.items) stands.1 in
-    (λ h. right.0 (here.0 h), λ h. here.1 (right.1 h))
+matched_by e mode result at_end set reported line j stands ends = trans (rw (stands.0, ends) at reported) (accept_is_right e 0 mode line j (Has set.words.items) stands.1)
 
 -- a set that is nowhere stays so over a byte that no stretch can begin with
 pub nowhere_stays : (e : Expression) (byte : ℕ) → (CanBegin (part_of e 0) byte → ⊥) → (set : StateSet) (line : Text) (j : ℕ) → IsNowhere set →
     slice_get line j ≡ Some byte → StandsAt e Search line j set → StandsAt e Search line (suc j) set
 unfolding IsNextSet
-nowhere_stays e byte never set line j nowhere is stands = stands_next e Search set set byte (nowhere.0, next) line j is stands
-  where
-    next : IsNext (part_of e 0) Search set.at_begin (Has set.words.items) byte (Has set.words.items)
-    next q = (
-      λ h. absurd (nowhere.1 q h),
-      λ w. absurd (elim w.1 [
-        | inl first ↦ never (q, subst (λ b. (part_of e 0).first b q) nowhere.0 first.1, w.0)
-        | inr after ↦ nowhere.1 after.0 after.1
-      ]),
-    )
+nowhere_stays e byte never set line j nowhere is stands =
+    stands_next e Search set set byte (
+      nowhere.0,
+      λ q. (
+        λ h. absurd (nowhere.1 q h),
+        λ w. absurd (elim w.1 [ inl first ↦ never (q, rw nowhere.0 at first.1, w.0) | inr after ↦ nowhere.1 after.0 after.1 ]),
+      ),
+    ) line j is stands

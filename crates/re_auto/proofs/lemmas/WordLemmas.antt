@@ -1,10 +1,10 @@
 -- Sets of numbers that are one word of bits.
-use Rattle.re_auto.proofs.Prelude.{Bool, ◌≡◌, ℕ, ◌/◌, ◌%◌, ◌^◌, ◌<◌, ◌≤◌, List, length, length-set, get_or, set, ◌⊎◌, inl, inr, sym, ◌∙◌, subst, arith, bit_and, bit_or, ◌↔◌, bit_at, Mode, Has, InWord, Part, MayBegin, IsNext, cases_lt, get_or-set_same, bit_at_or, bit_at_and, bit_at-lt, bit_at_above}
-use Rattle.re_auto.proofs.lemmas.BitLemmas.{one_of_max, within}
+use Rattle.re_auto.proofs.Prelude.{rfl, symm, Bool, ◌≡◌, ℕ, ◌/◌, ◌%◌, ◌^◌, ◌<◌, ◌≤◌, List, length, length-set, get_or, set, ◌⊎◌, inl, inr, ◌∙◌, arith, bit_and, ◌↔◌, bit_at, Mode, Has, InWord, Part, MayBegin, IsNext, cases_lt, get_or-set_same, bit_at_above}
+use Rattle.re_auto.proofs.lemmas.BitLemmas.{in_both, within}
 
 -- a word has no number above its last bit
 none_above : (word e : ℕ) → word < 2 ^ 64 → 64 ≤ e → InWord word e → ⊥
-none_above word e fits le h = omega (arith, h, bit_at_above word 64 e fits le)
+none_above word e fits le h = omega (arith, bit_at_above word 64 e fits le)
 
 -- the members of a one-word list are those of its word
 pub word_has : (xs : List ℕ) → length xs ≡ 1 → get_or xs 0 0 < 2 ^ 64 → (q : ℕ) → InWord (get_or xs 0 0) q ↔ Has xs q
@@ -14,46 +14,19 @@ word_has xs one fits q =
       | inl lt ↦
           let word : q / 64 ≡ 0 = omega arith in
           let bit : q % 64 ≡ q = omega arith in
-          (λ h. rw (word, bit) h, λ h. rw (word, bit) at h)
-      | inr le ↦ (λ h. absurd (none_above (get_or xs 0 0) q fits le h), λ h. absurd (let lt = within xs q h in omega (arith, lt)))
+          rw (word, bit) rfl
+      | inr le ↦ (λ h. absurd (none_above _ q fits le h), λ h. absurd (let lt = within xs q h in omega arith))
     ]
 
 -- the members of a one-word list after its word is written
 pub written_has : (xs : List ℕ) (word : ℕ) → length xs ≡ 1 → word < 2 ^ 64 → (q : ℕ) → Has (set xs 0 word) q ↔ InWord word q
 written_has xs word one fits q =
-    let is : get_or (set xs 0 word) 0 0 ≡ word = get_or-set_same xs 0 word 0 (omega arith) in
-    let long : length (set xs 0 word) ≡ 1 = length-set xs 0 word ∙ one in
-    let (to, back) = word_has (set xs 0 word) long (rw is fits) q in
-    (λ h. subst (λ w. InWord w q) is (back h), λ h. to (subst (λ w. InWord w q) (sym is) h))
-
-pub in_either : (a b q : ℕ) → InWord (bit_or a b) q ↔ (InWord a q ⊎ InWord b q)
-in_either a b q = (
-  λ h. one_of_max _ _ (bit_at-lt a q) (bit_at-lt b q) (sym (bit_at_or a b q) ∙ h),
-  λ h. elim h [ inl x ↦ omega (arith, bit_at_or a b q, x, bit_at-lt b q) | inr y ↦ omega (arith, bit_at_or a b q, y, bit_at-lt a q) ],
-)
-
-pub in_both : (a b q : ℕ) → InWord (bit_and a b) q ↔ (InWord a q × InWord b q)
-in_both a b q = (
-  λ h. (omega (arith, bit_at_and a b q, h, bit_at-lt a q, bit_at-lt b q), omega (arith, bit_at_and a b q, h, bit_at-lt a q, bit_at-lt b q)),
-  λ (x, y). omega (arith, bit_at_and a b q, x, y),
-)
+    let is = get_or-set_same xs 0 word 0 (omega arith) in
+    rw is at (symm (word_has (set xs 0 word) (length-set xs 0 word ∙ one) (rw is fits) q))
 
 -- the members of a word are below 64
 pub bounded : (word : ℕ) (R : ℕ → Type 0) → word < 2 ^ 64 → ((b : ℕ) × (b < 64) × (bit_at word b ≡ 1) × R b) ↔ ((p : ℕ) × InWord word p × R p)
-bounded word R fits = (λ (b, lt, h, r). (b, h, r), λ (p, h, r). (p, below p h, h, r))
-  where
-    below : (p : ℕ) → InWord word p → p < 64
-    below p h = elim (cases_lt p 64) [ inl lt ↦ lt | inr le ↦ absurd (none_above word p fits le h) ]
-
-pub turned : {A B : Type 0} → A ↔ B → B ↔ A
-turned f = (f.1, f.0)
-
--- where the second choice is equivalent to another, so is the choice
-pub second_as : (A B C : Type 0) → B ↔ C → (A ⊎ B) ↔ (A ⊎ C)
-second_as A B C f = (
-  λ h. elim h [ inl a ↦ inl a | inr b ↦ inr (f.0 b) ],
-  λ h. elim h [ inl a ↦ inl a | inr k ↦ inr (f.1 k) ],
-)
+bounded word R fits = (λ (b, lt, h, r). (b, h, r), λ (p, h, r). (p, elim (cases_lt p 64) [ inl lt ↦ lt | inr le ↦ absurd (none_above word p fits le h) ], h, r))
 
 module _ (part : Part) (mode : Mode) (begin : Bool) (byte : ℕ) where
   -- a step of a set that is one word
@@ -61,9 +34,9 @@ module _ (part : Part) (mode : Mode) (begin : Bool) (byte : ℕ) where
       ((q : ℕ) → InWord after q ↔ (InWord first q ⊎ ((p : ℕ) × InWord from p × part.follow p q))) → ((q : ℕ) → InWord taking q ↔ part.takes q byte) →
       IsNext part mode begin (InWord from) byte (InWord (bit_and after taking))
   next_word from first after taking begins follows takes q = (
-    λ h. let both = (in_both after taking q).0 h in
+    λ h. let both = (in_both _ _ q).0 h in
         ((takes q).0 both.1, elim ((follows q).0 both.0) [ inl f ↦ inl ((begins q).0 f) | inr p ↦ inr p ]),
-    λ w. (in_both after taking q).1 ((follows q).1 (elim w.1 [ inl f ↦ inl ((begins q).1 f) | inr p ↦ inr p ]), (takes q).1 w.0),
+    λ w. (in_both _ _ q).1 ((follows q).1 (elim w.1 [ inl f ↦ inl ((begins q).1 f) | inr p ↦ inr p ]), (takes q).1 w.0),
   )
 
   -- the step of a one-word set is a step of the set itself

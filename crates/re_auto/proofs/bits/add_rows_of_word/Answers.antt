@@ -10,14 +10,11 @@ row-requires c =
 pub bits-preserved : goal.bits-preserved
 bits-preserved c =
     let low = c.take_lowest-bit.ensures in (
-      omega (arith, c.add_within.ensures.len, c.bits.invariant.0),
+      omega arith,
       refl,
       (λ b lt h. c.bits.invariant.2 b lt ((low.rest b lt).1 (inl h))),
-      λ q. chained
-          (one_added (Has c.bits.into q) (Has c.add_within.new.into q) (λ b. Has (row_of c.args.table.now (length c.args.into.now) (c.args.k * 64 + b)) q)
-          c.bits.left _ c.take_lowest-bit.result low.small
-          (rw c.row.ensures.is at (c.add_within.ensures.added q)) low.rest)
-          (c.bits.invariant.3 q),
+      λ q. chained (one_added (Has c.bits.into q) (Has c.add_within.new.into q) (λ b. Has (row_of c.args.table.now (length c.args.into.now) (c.args.k * 64 + b)) q)
+          c.bits.left _ c.take_lowest-bit.result low.small (rw c.row.ensures.is at (c.add_within.ensures.added q)) low.rest) (c.bits.invariant.3 q),
     )
 
 pub bounds-ranges-p : goal.bounds-ranges-p
@@ -26,7 +23,7 @@ bounds-ranges-p c =
     c.requires.named _ low.small (c.bits.invariant.2 _ low.small low.held)
 
 pub add_within-requires-clause-same : goal.add_within-requires-clause-same
-add_within-requires-clause-same c = omega (arith, c.bits.invariant.0, c.bits.invariant.1, c.row.ensures.len)
+add_within-requires-clause-same c = omega arith
 
 pub add_within-requires-clause-covers : goal.add_within-requires-clause-covers
 add_within-requires-clause-covers c =
@@ -34,5 +31,4 @@ add_within-requires-clause-covers c =
     rw c.row.ensures.is (c.requires.covered.1 _ _ (slice_get-get_or c.args.ranges.now _ _ (c.requires.named _ low.small (c.bits.invariant.2 _ low.small low.held))))
 
 pub returns-clause-added : goal.returns-clause-added
-returns-clause-added c = λ q.
-    none_left (Has c.bits.into q) _ (λ b. Has (row_of c.args.table.now (length c.args.into.now) (c.args.k * 64 + b)) q) c.bits.left (omega arith) (c.bits.invariant.3 q)
+returns-clause-added c = λ q. none_left (Has c.bits.into q) _ (λ b. Has (row_of c.args.table.now (length c.args.into.now) (c.args.k * 64 + b)) q) c.bits.left (omega arith) (c.bits.invariant.3 q)

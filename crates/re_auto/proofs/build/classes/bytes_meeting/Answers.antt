@@ -6,7 +6,7 @@ pub bytes-preserved : goal.bytes-preserved
 bytes-preserved c = (
   length-set c.bytes.marks c.bytes.c c.meets.result ∙ c.bytes.invariant.0,
   one_marked c.bytes.marks c.bytes.c c.meets.result (λ k. (q : ℕ) × Has c.args.set.now q × Has (row_of c.args.rows.now c.args.width k) q)
-      (omega (arith, c.bytes.invariant.0)) c.bytes.invariant.1 (rw c.row.ensures.is at c.meets.ensures),
+      (omega arith) c.bytes.invariant.1 (rw c.row.ensures.is at c.meets.ensures),
 )
 
 pub returns : goal.returns

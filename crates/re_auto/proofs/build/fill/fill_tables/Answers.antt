@@ -1,12 +1,8 @@
-use Rattle.re_auto.proofs.Prelude.{subst, sym, expression_of, AreClasses, IsAddedOf}
 use Rattle.re_auto.proofs.lemmas.FillingLemmas.{reported_too}
 use Rattle.re_auto.proofs.build.fill.fill_tables.Goals as goal
 
 pub returns : goal.returns
 returns c =
-    reported_too (expression_of c.args.tree.now) c.args.count c.in_ok-rows.rows c.add.new.self c.into_inner-ends.result c.in_ok-classes.classes c.of.result c.in_ok-ranges.ranges
-    c.requires.is c.requires.few c.in_ok-rows.ensures
-    (subst (IsAddedOf (expression_of c.args.tree.now) c.args.count c.in_ok-rows.rows c.add.new.self) (sym c.into_inner-ends.ensures) c.in_ok-ends.ensures)
-    (subst (λ rows. AreClasses rows c.add.new.self.width c.in_ok-classes.classes) c.deref-3.ensures.value c.in_ok-classes.ensures)
+    reported_too _ _ _ c.add.new.self c.into_inner-ends.result _ _ _ c.requires.is c.requires.few c.in_ok-rows.ensures (rw c.into_inner-ends.ensures c.in_ok-ends.ensures) (rw c.deref-3.ensures.value at c.in_ok-classes.ensures)
     (rw c.of.ensures (c.bytes_meeting-marks.ensures.0, λ b lt. rw (c.deref.ensures.value, c.deref-2.ensures.value) at (c.bytes_meeting-marks.ensures.1 b lt)))
     (rw c.deref-4.ensures.value at c.in_ok-ranges.ensures)

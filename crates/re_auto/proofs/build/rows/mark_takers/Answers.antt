@@ -1,7 +1,6 @@
 use Rattle.re_auto.proofs.Prelude.{arith, ◌∙◌, members}
-use Rattle.re_auto.proofs.lemmas.BitLemmas.{chained}
-use Rattle.re_auto.proofs.lemmas.RowLemmas.{row_within, marked, all_marked}
 use Rattle.re_auto.proofs.build.rows.mark_takers.Goals as goal
+use Rattle.re_auto.proofs.lemmas.{BitLemmas.chained, RowLemmas.row_within, RowLemmas.marked, RowLemmas.all_marked}
 
 pub loop-c-preserved : goal.loop-c-preserved
 loop-c-preserved c = (
@@ -11,7 +10,7 @@ loop-c-preserved c = (
   λ x q lt.
       let (held, left) = c.in-Some.ensures.steps in
       let room = row_within x 256 c.args.width lt in
-      chained (marked (members c.loop-c.c-iterator) (members c.next.new.self) c.in-Some.c x held left (c.insert_in_row.ensures.added x q (omega (arith, room, c.requires.room, c.loop-c.invariant.2)))) (c.loop-c.invariant.3 x q lt),
+      chained (marked _ _ _ x held left (c.insert_in_row.ensures.added x q (omega arith))) (c.loop-c.invariant.3 x q lt),
 )
 
 pub returns-clause-added : goal.returns-clause-added

@@ -1,8 +1,8 @@
-use Rattle.re_auto.proofs.Prelude.{sym, ap, ◌∙◌, not, not-true}
+use Rattle.re_auto.proofs.Prelude.{rfl, sym, ap, ◌∙◌, not, not-true}
 use Rattle.re_auto.proofs.build.rows.takers_of.Goals as goal
 
 pub returns-then-wanted : goal.returns-then-wanted
-returns-then-wanted c = λ x lt. (λ h. h ∙ sym c.if-wanted.true, λ h. h ∙ c.if-wanted.true)
+returns-then-wanted c = λ x lt. rw c.if-wanted.true rfl
 
 pub returns : goal.returns
 returns c = λ x lt.

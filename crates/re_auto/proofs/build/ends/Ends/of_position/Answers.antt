@@ -1,5 +1,5 @@
-use Rattle.re_auto.proofs.Prelude.{true, false, refl}
-use Rattle.re_auto.proofs.lemmas.PartLemmas.{never_holds}
+use Rattle.re_auto.proofs.Prelude.{refl}
+use Rattle.re_auto.proofs.lemmas.PartLemmas.{never_holds, says_empty}
 use Rattle.re_auto.proofs.build.ends.Ends.of_position.Goals as goal
 
 pub returns : goal.returns
@@ -10,11 +10,6 @@ returns c = record {
     first_inside = c.in_ok-one_member-2.ensures;
     last_at_end = c.in_ok-one_member-3.ensures;
     last_inside = c.in_ok-one_member-4.ensures;
-    empty = record {
-      on_empty_line = never_holds (c.nowhere.ensures true true);
-      at_begin = never_holds (c.nowhere.ensures true false);
-      at_end = never_holds (c.nowhere.ensures false true);
-      inside = never_holds (c.nowhere.ensures false false);
-    };
+    empty = says_empty (λ b z. never_holds (c.nowhere.ensures b z));
   };
 }

@@ -4,10 +4,7 @@ use Rattle.re_auto.proofs.step.automaton.Automaton.accepts.Goals as goal
 
 pub returns-clause-reported : goal.returns-clause-reported
 unfolding IsAccepting
-returns-clause-reported c =
-    accepted (part_of (expression_of c.args.self.now) 0) c.args.mode c.args.set.now.at_begin c.args.at_end
-    c.has_last-longer.result c.may_begin-may_begin.result c.is_empty-empty.result c.args.set.now.words.items
-    (rw c.deref.ensures.value at c.has_last-longer.ensures) c.may_begin-may_begin.ensures c.is_empty-empty.ensures
+returns-clause-reported c = accepted (part_of (expression_of c.args.self.now) 0) c.args.mode _ _ _ _ _ _ (rw c.deref.ensures.value at c.has_last-longer.ensures) c.may_begin-may_begin.ensures c.is_empty-empty.ensures
 
 pub returns-clause-matched : goal.returns-clause-matched
 returns-clause-matched c = matched_by (expression_of c.args.self.now) c.args.mode _ c.args.at_end c.args.set.now (returns-clause-reported c)

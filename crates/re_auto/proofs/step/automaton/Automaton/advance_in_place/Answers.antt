@@ -1,15 +1,12 @@
-use Rattle.re_auto.proofs.Prelude.{refl, ◌≡◌, ◌∙◌, ap, length, with_items, expression_of, part_of, IsNext, Has, IsNextSet, with_items_is}
-use Rattle.re_auto.proofs.lemmas.SetsByWords.{stands_next, next_small}
-use Rattle.re_auto.proofs.lemmas.WordLemmas.{next_of_word, turned}
+use Rattle.re_auto.proofs.Prelude.{refl, symm, ◌≡◌, ◌∙◌, ap, length, with_items, expression_of, part_of, IsNext, Has, IsNextSet, with_items_is}
 use Rattle.re_auto.proofs.step.automaton.Automaton.advance_in_place.Goals as goal
+use Rattle.re_auto.proofs.lemmas.{SetsByWords.stands_next, SetsByWords.next_small, WordLemmas.next_of_word}
 
 is_written : (c : goal.After-add_built) → (with_items c.args.set.now.words c.put_word.new.into).items ≡ c.put_word.new.into
 is_written c = with_items_is c.args.set.now.words c.put_word.new.into (c.put_word.ensures.len ∙ c.deref_mut.ensures.len)
 
 next : (c : goal.After-add_built) → IsNext (part_of (expression_of c.args.self.now) 0) c.args.mode c.args.set.now.at_begin (Has c.args.set.now.words.items) c.args.byte (Has c.put_word.new.into)
-next c =
-    next_of_word (part_of (expression_of c.args.self.now) 0) c.args.mode c.args.set.now.at_begin c.args.byte _ _ c.only_word.result c.step_word-word.result
-    (rw c.deref.ensures.value at c.only_word.ensures) (λ q. turned (c.put_word.ensures.put q)) c.step_word-word.ensures
+next c = next_of_word (part_of (expression_of c.args.self.now) 0) c.args.mode _ _ _ _ _ _ (rw c.deref.ensures.value at c.only_word.ensures) (λ q. symm (c.put_word.ensures.put q)) c.step_word-word.ensures
 
 pub returns-clause-next : goal.returns-clause-next
 unfolding IsNextSet

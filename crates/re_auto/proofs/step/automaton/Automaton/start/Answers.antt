@@ -1,8 +1,6 @@
-use Rattle.re_auto.proofs.Prelude.{refl, ◌∙◌, with_items_is, expression_of}
+use Rattle.re_auto.proofs.Prelude.{refl, ◌∙◌, with_items_is}
 use Rattle.re_auto.proofs.lemmas.SetsByWords.{starts_at}
 use Rattle.re_auto.proofs.step.automaton.Automaton.start.Goals as goal
 
 pub returns-clause-stands : goal.returns-clause-stands
-returns-clause-stands c = λ mode line.
-    let is = with_items_is c.args.into.now.words c.clear.new.into (c.clear.ensures.len ∙ c.deref_mut.ensures.len) in
-    starts_at (expression_of c.args.self.now) mode line _ refl (rw is c.clear.ensures.none)
+returns-clause-stands c = λ mode line. starts_at _ _ _ _ refl (rw (with_items_is c.args.into.now.words c.clear.new.into (c.clear.ensures.len ∙ c.deref_mut.ensures.len)) c.clear.ensures.none)

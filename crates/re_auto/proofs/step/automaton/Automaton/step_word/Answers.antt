@@ -1,9 +1,6 @@
 use Rattle.re_auto.proofs.Prelude.{expression_of, part_of}
-use Rattle.re_auto.proofs.lemmas.BitLemmas.{chained}
-use Rattle.re_auto.proofs.lemmas.WordLemmas.{next_word}
 use Rattle.re_auto.proofs.step.automaton.Automaton.step_word.Goals as goal
+use Rattle.re_auto.proofs.lemmas.{BitLemmas.chained, WordLemmas.next_word}
 
 pub returns : goal.returns
-returns c =
-    next_word (part_of (expression_of c.args.self.now) 0) c.args.mode c.args.at_begin c.args.byte c.args.from c.first_word-first.result c.with_followers.result c.only_word.result
-    c.first_word-first.ensures c.with_followers.ensures (λ q. chained (c.only_word.ensures q) (c.taking.ensures.1 q))
+returns c = next_word (part_of (expression_of c.args.self.now) 0) c.args.mode _ _ _ _ _ _ c.first_word-first.ensures c.with_followers.ensures (λ q. chained (c.only_word.ensures q) (c.taking.ensures.1 q))
