@@ -7,4 +7,4 @@ pub use Rattle.line_marks.specs.declared.stretch.Stretch.{Stretch}
 pub use Rattle.line_marks.specs.declared.touched.Touched.{Touched}
 pub use Rattle.std.proofs.Common.{List, None, Option, Some, [], ap, arith, drop, drop_at, get_or, inl, inr, length, length-append, length-drop, length-take-le, refl, rules, slice_get, suc, sym, take, take_all, zero, ℕ, ◌++◌, ◌+◌, ◌-◌, ◌<◌, ◌≡◌, ◌≤◌, ◌∙◌, ◌∷◌, ◌^◌, subst}
 pub use Rattle.std.proofs.lemmas.Bool.{cases_lt}
-pub use Rattle.std.proofs.lemmas.List.{drop-drop, drop_all, drop_more, take-append-drop, take_more, take_rest}
+pub use Rattle.std.proofs.lemmas.List.{drop-drop, drop_all, drop_more, length-take, take-append-drop, take_more, take_rest}

@@ -1,5 +1,5 @@
 -- A loop that replaces each element of a list by f of it.
-use Rattle.line_finds.proofs.Prelude.{◌≡◌, ℕ, ◌+◌, ◌<◌, ◌≤◌, List, [], ◌∷◌, ◌++◌, length, map, take, drop, get_or, sym, ap, ◌∙◌, arith, append_assoc, append-nil, set, drop_more, take_more, map-append, length-map, length-take-le, get_or_at, set_at, take_all, drop_all}
+use Rattle.line_finds.proofs.Prelude.{◌≡◌, ℕ, ◌+◌, ◌<◌, ◌≤◌, List, [], ◌∷◌, ◌++◌, length, map, take, drop, get_or, ◌∙◌, arith, append_assoc, append-nil, set, drop_more, take_more, map-append, length-map, length-take-le, get_or_at, set_at, take_all, drop_all}
 
 module _ {A : Type 0} (f : A → A) (xs : List A) where
   -- the first of them mapped, and the others as they are
@@ -11,14 +11,14 @@ module _ {A : Type 0} (f : A → A) (xs : List A) where
       let front = map f (take i xs) in
       let next = get_or xs i d in
       let rest = drop (i + 1) xs in
-      let cut : mapped_to i ≡ front ++ next ∷ rest = ap (λ l. front ++ l) (drop_more xs i d h) in
+      let cut : mapped_to i ≡ front ++ next ∷ rest = rw (drop_more xs i d h) in
       let long : length front ≡ i = length-map (take i xs) f ∙ length-take-le i xs (omega arith) in
-      let there : get_or (mapped_to i) i d ≡ next = ap (λ l. get_or l i d) cut ∙ get_or_at front next rest d i long in
-      let more : map f (take (i + 1) xs) ≡ front ++ f next ∷ [] = ap (map f) (take_more xs i d h) ∙ map-append f (take i xs) (next ∷ []) in
-      (λ j. set (cut j) i (f (there j))) ∙ set_at front next rest (f next) i long ∙ sym (append_assoc front (f next ∷ []) rest) ∙ ap (λ l. l ++ rest) (sym more)
+      let there : get_or (mapped_to i) i d ≡ next = cc (get_or_at front next rest d i long) in
+      let more : map f (take (i + 1) xs) ≡ front ++ f next ∷ [] = cc (take_more xs i d h, map-append f (take i xs) (next ∷ [])) in
+      cc (set_at front next rest (f next) i long, append_assoc front (f next ∷ []) rest)
 
   pub mapped_next : (ys : List A) (i : ℕ) (y d : A) → i < length xs → ys ≡ mapped_to i → y ≡ f (get_or ys i d) → set ys i y ≡ mapped_to (i + 1)
-  mapped_next ys i y d h is made = ap (set ys i) made ∙ (λ n. set (is n) i (f (get_or (is n) i d))) ∙ mapped_more i d h
+  mapped_next ys i y d h is made = cc (mapped_more i d h)
 
   pub mapped_all : (i : ℕ) → length xs ≤ i → mapped_to i ≡ map f xs
-  mapped_all i h = (λ j. map f (take_all i xs h j) ++ drop_all i xs h j) ∙ append-nil (map f xs)
+  mapped_all i h = cc (take_all i xs h, drop_all i xs h, append-nil (map f xs))

@@ -28,18 +28,16 @@ covers_more start end old mid new first then = record {
 pub led_none : (stretches : List Stretch) → led 0 stretches ≡ stretches
 led_none [] = refl
 led_none (stretch ∷ more) =
-    let same : stretch.kept - 0 ≡ stretch.kept = omega arith in
-    ap (λ kept. at kept stretch.removed stretch.added ∷ more) same
+    ap (λ kept. at kept stretch.removed stretch.added ∷ more) (omega arith)
 
 pub led_more : (lead more : ℕ) (stretches : List Stretch) → led (lead + more) stretches ≡ led more (led lead stretches)
 led_more lead more [] = refl
 led_more lead more (stretch ∷ rest) =
-    let same : stretch.kept - (lead + more) ≡ stretch.kept - lead - more = omega arith in
-    ap (λ kept. at kept stretch.removed stretch.added ∷ rest) same
+    ap (λ kept. at kept stretch.removed stretch.added ∷ rest) (omega arith)
 
 pub lead_more : (lead more : ℕ) (stretches : List Stretch) → HasLead lead stretches → HasLead more (led lead stretches) → HasLead (lead + more) stretches
 lead_more lead more [] first then = tt
-lead_more lead more (stretch ∷ rest) first then = omega (arith, first, then)
+lead_more lead more (stretch ∷ rest) first then = omega arith
 
 pub lead_none : (stretches : List Stretch) → HasLead 0 stretches
 lead_none [] = tt
@@ -49,36 +47,36 @@ lead_none (stretch ∷ rest) = omega arith
 
 pub idle_covers : (start : ℕ) (stretches : List Stretch) → HasLead start stretches → (end : ℕ) → start ≤ end → Covers start end stretches (at start 0 0 ∷ led start stretches)
 idle_covers start [] lead end low = record {
-  fits = λ known lines within fit. (known - start, lines - start, omega (arith, within, fit, low), omega (arith, within, low), omega (arith, fit));
+  fits = λ known lines within fit. (known - start, lines - start, omega arith, omega arith, omega arith);
   only = λ line now keeps. elim keeps [
     | inl h ↦ h.1
-    | inr h ↦ omega (arith, h.2, h.3, h.4)
+    | inr h ↦ omega arith
   ];
   all = λ line now out keeps. elim (cases_lt line start) [
     | inl h ↦ inl (h, keeps)
-    | inr h ↦ inr (line - start, now - start, omega (arith, h), omega (arith, h, keeps), omega (arith, keeps))
+    | inr h ↦ inr (line - start, now - start, omega arith, omega arith, omega arith)
   ];
   before = λ place less before. less;
-  after = λ place high after. (place - start, omega (arith, high, low), tt);
+  after = λ place high after. (place - start, omega arith, tt);
 }
 idle_covers start (s ∷ more) lead end low = record {
-  fits = λ known lines within fit. (s.kept - start + s.removed + fit.0, s.kept - start + s.added + fit.1, omega (arith, lead, fit.2), omega (arith, lead, fit.3), (fit.0, fit.1, refl, refl, fit.4));
+  fits = λ known lines within fit. (s.kept - start + s.removed + fit.0, s.kept - start + s.added + fit.1, omega arith, omega arith, (fit.0, fit.1, refl, refl, fit.4));
   only = λ line now keeps. elim keeps [
-    | inl h ↦ inl (omega (arith, h.0, lead), h.1)
+    | inl h ↦ inl (omega arith, h.1)
     | inr h ↦ elim h.4 [
-      | inl k ↦ inl (omega (arith, h.2, k.0, lead), omega (arith, h.2, h.3, k.1))
-      | inr k ↦ inr (k.0, k.1, omega (arith, h.2, k.2, lead), omega (arith, h.3, k.3, lead), k.4)
+      | inl k ↦ inl (omega arith)
+      | inr k ↦ inr (k.0, k.1, omega arith, omega arith, k.4)
     ]
   ];
   all = λ line now out keeps. elim keeps [
     | inl h ↦ elim (cases_lt line start) [
       | inl l ↦ inl (l, h.1)
-      | inr l ↦ inr (line - start, now - start, omega (arith, l), omega (arith, l, h.1), inl (omega (arith, l, h.0, lead), omega (arith, h.1)))
+      | inr l ↦ inr (line - start, now - start, omega arith, omega arith, inl (omega arith))
     ]
-    | inr h ↦ inr (s.kept - start + s.removed + h.0, s.kept - start + s.added + h.1, omega (arith, h.2, lead), omega (arith, h.3, lead), inr (h.0, h.1, refl, refl, h.4))
+    | inr h ↦ inr (s.kept - start + s.removed + h.0, s.kept - start + s.added + h.1, omega arith, omega arith, inr (h.0, h.1, refl, refl, h.4))
   ];
   before = λ place less before. less;
-  after = λ place high after. (s.kept - start + s.added + after.0, omega (arith, after.1, lead), (after.0, refl, after.2));
+  after = λ place high after. (s.kept - start + s.added + after.0, omega arith, (after.0, refl, after.2));
 }
 
 -- ---- two stretches become one
@@ -88,12 +86,12 @@ both one next = at one.kept (one.removed + (next.kept + next.removed)) (one.adde
 
 module _ (one next : Stretch) (more : List Stretch) where
   fits_both : (known lines : ℕ) → Fits known lines (one ∷ next ∷ more) → Fits known lines (both one next ∷ more)
-  fits_both known lines fit = (fit.4.0, fit.4.1, omega (arith, fit.2, fit.4.2), omega (arith, fit.3, fit.4.3), fit.4.4)
+  fits_both known lines fit = (fit.4.0, fit.4.1, omega arith, omega arith, fit.4.4)
 
   only_both : (line now : ℕ) → Keeps (both one next ∷ more) line now → Keeps (one ∷ next ∷ more) line now
   only_both line now keeps = elim keeps [
     | inl h ↦ inl h
-    | inr h ↦ inr (next.kept + next.removed + h.0, next.kept + next.added + h.1, omega (arith, h.2), omega (arith, h.3), inr (h.0, h.1, refl, refl, h.4))
+    | inr h ↦ inr (next.kept + next.removed + h.0, next.kept + next.added + h.1, omega arith, omega arith, inr (h.0, h.1, refl, refl, h.4))
   ]
 
   pub both_lose : Loses (one ∷ next ∷ more) (both one next ∷ more)
@@ -101,7 +99,7 @@ module _ (one next : Stretch) (more : List Stretch) where
     fits = fits_both;
     only = only_both;
     before = λ place before. before;
-    after = λ place after. (after.2.0, omega (arith, after.1, after.2.1), after.2.2);
+    after = λ place after. (after.2.0, omega arith, after.2.2);
   }
 
   pub both_cover : (start end : ℕ) → start ≤ one.kept + one.added → next.kept ≤ end - (one.kept + one.added) → Covers start end (one ∷ next ∷ more) (both one next ∷ more)
@@ -111,15 +109,12 @@ module _ (one next : Stretch) (more : List Stretch) where
     all = λ line now out keeps. elim keeps [
       | inl h ↦ inl h
       | inr h ↦ elim h.4 [
-        | inl k ↦ absurd (elim out [
-          | inl o ↦ (let no : ⊥ = omega (arith, o, h.3, low) in no)
-          | inr o ↦ (let no : ⊥ = omega (arith, o, h.3, k.0, k.1, near) in no)
-        ])
-        | inr k ↦ inr (k.0, k.1, omega (arith, h.2, k.2), omega (arith, h.3, k.3), k.4)
+        | inl k ↦ absurd (omega arith)
+        | inr k ↦ inr (k.0, k.1, omega arith, omega arith, k.4)
       ]
     ];
     before = λ place less before. before;
-    after = λ place high after. (after.2.0, omega (arith, after.1, after.2.1), after.2.2);
+    after = λ place high after. (after.2.0, omega arith, after.2.2);
   }
 
 -- ---- a stretch takes the lines after it
@@ -129,46 +124,40 @@ wide one more = at one.kept (one.removed + more) (one.added + more)
 
 pub wide_covers : (start end more : ℕ) (one : Stretch) (rest : List Stretch) → start ≤ one.kept + one.added → more ≡ end - (one.kept + one.added) → HasLead more rest → Covers start end (one ∷ rest) (wide one more ∷ led more rest)
 wide_covers start end more one [] low is lead = record {
-  fits = λ known lines within fit. (fit.0 - more, fit.1 - more, omega (arith, within, is, fit.2, fit.3, fit.4), omega (arith, within, is, fit.3), omega (arith, fit.4));
+  fits = λ known lines within fit. (fit.0 - more, fit.1 - more, omega arith, omega arith, omega arith);
   only = λ line now keeps. elim keeps [
     | inl h ↦ inl h
-    | inr h ↦ inr (more + h.0, more + h.1, omega (arith, h.2), omega (arith, h.3), omega (arith, h.4))
+    | inr h ↦ inr (more + h.0, more + h.1, omega arith, omega arith, omega arith)
   ];
   all = λ line now out keeps. elim keeps [
     | inl h ↦ inl h
     | inr h ↦ elim (cases_lt h.1 more) [
-      | inl l ↦ absurd (elim out [
-        | inl o ↦ (let no : ⊥ = omega (arith, o, h.3, low) in no)
-        | inr o ↦ (let no : ⊥ = omega (arith, o, h.3, l, is) in no)
-      ])
-      | inr l ↦ inr (h.0 - more, h.1 - more, omega (arith, h.2, h.4, l), omega (arith, h.3, l), omega (arith, h.4))
+      | inl l ↦ absurd (omega arith)
+      | inr l ↦ inr (h.0 - more, h.1 - more, omega arith, omega arith, omega arith)
     ]
   ];
   before = λ place less before. before;
-  after = λ place high after. (after.0 - more, omega (arith, high, is, after.1), tt);
+  after = λ place high after. (after.0 - more, omega arith, tt);
 }
 wide_covers start end more one (s ∷ rest) low is lead = record {
-  fits = λ known lines within fit. (fit.0 - more, fit.1 - more, omega (arith, lead, fit.2, fit.4.2), omega (arith, lead, fit.3, fit.4.3), (fit.4.0, fit.4.1, omega (arith, lead, fit.4.2), omega (arith, lead, fit.4.3), fit.4.4));
+  fits = λ known lines within fit. (fit.0 - more, fit.1 - more, omega arith, omega arith, (fit.4.0, fit.4.1, omega arith, omega arith, fit.4.4));
   only = λ line now keeps. elim keeps [
     | inl h ↦ inl h
     | inr h ↦ elim h.4 [
-      | inl k ↦ inr (more + h.0, more + h.1, omega (arith, h.2), omega (arith, h.3), inl (omega (arith, k.0), omega (arith, k.1)))
-      | inr k ↦ inr (more + h.0, more + h.1, omega (arith, h.2), omega (arith, h.3), inr (k.0, k.1, omega (arith, k.2, lead), omega (arith, k.3, lead), k.4))
+      | inl k ↦ inr (more + h.0, more + h.1, omega arith, omega arith, inl (omega arith))
+      | inr k ↦ inr (more + h.0, more + h.1, omega arith, omega arith, inr (k.0, k.1, omega arith, omega arith, k.4))
     ]
   ];
   all = λ line now out keeps. elim keeps [
     | inl h ↦ inl h
     | inr h ↦ elim h.4 [
       | inl k ↦ elim (cases_lt h.1 more) [
-        | inl l ↦ absurd (elim out [
-          | inl o ↦ (let no : ⊥ = omega (arith, o, h.3, low) in no)
-          | inr o ↦ (let no : ⊥ = omega (arith, o, h.3, l, is) in no)
-        ])
-        | inr l ↦ inr (h.0 - more, h.1 - more, omega (arith, h.2, k.1, l), omega (arith, h.3, l), inl (omega (arith, k.0, k.1, l), omega (arith, k.1)))
+        | inl l ↦ absurd (omega arith)
+        | inr l ↦ inr (h.0 - more, h.1 - more, omega arith, omega arith, inl (omega arith))
       ]
-      | inr k ↦ inr (h.0 - more, h.1 - more, omega (arith, h.2, k.2, lead), omega (arith, h.3, k.3, lead), inr (k.0, k.1, omega (arith, k.2, lead), omega (arith, k.3, lead), k.4))
+      | inr k ↦ inr (h.0 - more, h.1 - more, omega arith, omega arith, inr (k.0, k.1, omega arith, omega arith, k.4))
     ]
   ];
   before = λ place less before. before;
-  after = λ place high after. (after.0 - more, omega (arith, after.1, after.2.1, lead), (after.2.0, omega (arith, after.2.1, lead), after.2.2));
+  after = λ place high after. (after.0 - more, omega arith, (after.2.0, omega arith, after.2.2));
 }

@@ -1,6 +1,5 @@
-use Rattle.line_finds.proofs.Prelude.{length}
 use Rattle.line_finds.proofs.lemmas.FoundLaws.{counted}
 use Rattle.line_finds.proofs.found.renew.Goals as goal
 
 pub returns-clause-hits : goal.returns-clause-hits
-returns-clause-hits c = counted c.args.matches.now c.deref.result.now c.renew_marks.new.marks.items c.count_set.result (length c.args.marks.now.items) c.deref.ensures.value c.count_set.ensures c.renew_marks.ensures.size c.renew_marks.ensures.marks
+returns-clause-hits c = counted c.args.matches.now _ _ _ _ c.deref.ensures.value c.count_set.ensures c.renew_marks.ensures.size c.renew_marks.ensures.marks

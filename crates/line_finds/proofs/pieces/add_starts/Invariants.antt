@@ -2,5 +2,4 @@ use Rattle.line_finds.proofs.Prelude.{◌≡◌, ◌+◌, ◌-◌, ◌++◌, map
 use Rattle.line_finds.proofs.pieces.add_starts.Given as goal
 
 abbrev pub invariant-loop-other : goal.invariant-loop-other
-invariant-loop-other l =
-    l.starts.items ≡ l.fn.starts.items ++ map (λ other. other - l.start + l.at) (take l.other-index l.others)
+invariant-loop-other l = l.starts.items ≡ l.fn.starts.items ++ map (λ other. other - l.start + l.at) (take l.other-index l.others)

@@ -1,17 +1,10 @@
-use Rattle.line_marks.proofs.Prelude.{◌+◌, ◌≤◌, rules, arith}
-use Rattle.line_marks.proofs.lemmas.RoomLemmas.{put_list, put_room}
+use Rattle.line_marks.proofs.Prelude.{◌+◌, length, ap, rules, arith, length-append, length-drop, length-take, Stretch}
+use Rattle.line_marks.proofs.lemmas.RoomLemmas.{led_length, put_at}
 use Rattle.line_marks.proofs.room.put.Goals as goal
 
 pub insert-requires : goal.insert-requires
-insert-requires c =
-    let past = c.args.first + c.args.all.many in
-    let order : c.args.first ≤ past = omega arith in
-    let room = put_room c.args.stretches.now.items c.lower.new.stretches.items c.take_out.new.stretches.items c.args.first past c.args.all.lead order c.requires.within c.lower.ensures c.take_out.ensures in
-    (search rules, (room.0, omega (arith, room.1, c.requires.room)))
+insert-requires c = (search rules, omega (arith, length-append {A = Stretch}, length-take {A = Stretch}, length-drop {A = Stretch}, led_length, ap length c.take_out.ensures, ap length c.lower.ensures))
 
 pub returns : goal.returns
 returns c =
-    let past = c.args.first + c.args.all.many in
-    let order : c.args.first ≤ past = omega arith in
-    put_list c.args.stretches.now.items c.lower.new.stretches.items c.take_out.new.stretches.items c.insert.new.self.items c.args.first past c.args.all.lead c.args.all.one order c.requires.within
-    c.lower.ensures c.take_out.ensures c.insert.ensures.items
+    rw (c.insert.ensures.items, c.take_out.ensures, c.lower.ensures) (put_at c.args.first (c.args.first + c.args.all.many) c.args.stretches.now.items _ _ (omega arith) c.requires.within)

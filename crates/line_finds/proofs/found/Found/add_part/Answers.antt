@@ -1,61 +1,49 @@
-use Rattle.line_finds.proofs.Prelude.{◌≡◌, ◌+◌, ◌-◌, false, ◌∙◌, length, replicate, sym, ap, subst, arith, AreBelow, numbers_at, finds_at, paired_before, AreMarks}
+use Rattle.line_finds.proofs.Prelude.{◌≡◌, ◌+◌, ◌-◌, false, ◌∙◌, length, replicate, sym, ap, arith, numbers_at, finds_at, paired_before}
 use Rattle.line_finds.proofs.lemmas.FoundLaws.{found_same, grown, cut_off}
 use Rattle.line_finds.proofs.found.Found.add_part.Goals as goal
 
 pub renew-self-inside-requires : goal.renew-self-inside-requires
 renew-self-inside-requires c =
-    let end = c.in-Some.end in
-    let marks = c.self.inside.marks.items in
-    let end_is : end ≡ c.len-size.result + (c.args.to - c.args.from) = omega (arith, c.in-Some.ensures) in
-    let many : length c.add_marks.new.marks.items ≡ end = grown marks c.add_marks.new.marks.items end c.in_ok-add_marks.ensures.ok (omega (arith, end_is, c.len-size.ensures)) in
-    subst (λ n. AreBelow n c.add_all.new.matches) (sym (many ∙ end_is)) c.in_default-add_all.ensures.within
+    let end_is : c.in-Some.end ≡ c.len-size.result + (c.args.to - c.args.from) = omega arith in
+    let many = grown c.self.inside.marks.items c.add_marks.new.marks.items c.in-Some.end c.in_ok-add_marks.ensures.ok (omega arith) in
+    rw (many, end_is) c.in_default-add_all.ensures.within
 
 pub invariant_of-self-2 : goal.invariant_of-self-2
 invariant_of-self-2 c =
-    let end = c.in-Some.end in
-    let marks = c.self.inside.marks.items in
-    let end_is : end ≡ c.len-size.result + (c.args.to - c.args.from) = omega (arith, c.in-Some.ensures) in
-    let many : length c.add_marks.new.marks.items ≡ end = grown marks c.add_marks.new.marks.items end c.in_ok-add_marks.ensures.ok (omega (arith, end_is, c.len-size.ensures)) in
-    let now : length c.renew-self-inside.new.marks.items ≡ c.len-size.result + (c.args.to - c.args.from) = c.renew-self-inside.ensures.size ∙ many ∙ end_is in
+    let end_is : c.in-Some.end ≡ c.len-size.result + (c.args.to - c.args.from) = omega arith in
+    let many = grown c.self.inside.marks.items c.add_marks.new.marks.items c.in-Some.end c.in_ok-add_marks.ensures.ok (omega arith) in
+    let now = c.renew-self-inside.ensures.size ∙ many ∙ end_is in
     record {
-      below = subst (λ n. AreBelow n c.add_all.new.matches) (sym now) c.in_default-add_all.ensures.within;
+      below = rw now c.in_default-add_all.ensures.within;
       marked = c.renew-self-inside.ensures.marks;
       hits_are = c.renew-self-inside.ensures.hits;
-      few = omega (arith, now, c.in_default-add_all.ensures.parts.few);
+      few = omega (arith, c.in_default-add_all.ensures.parts.few);
     }
 
 pub invariant_of-self-in-Err : goal.invariant_of-self-in-Err
 invariant_of-self-in-Err c =
-    let old = c.self.inside in
-    let marks = old.marks.items in
-    let new = c.truncate.new.self.items in
-    let same : new ≡ marks = cut_off marks (replicate (c.in-Some.end - length marks) false) c.add_marks.new.marks.items new c.len-size.result c.in_ok-add_marks.ensures.ok (omega (arith, c.len-size.ensures)) c.truncate.ensures.items in
+    let same = cut_off c.self.inside.marks.items (replicate (c.in-Some.end - length c.self.inside.marks.items) false) c.add_marks.new.marks.items c.truncate.new.self.items c.len-size.result c.in_ok-add_marks.ensures.ok (omega arith) c.truncate.ensures.items in
     let pairs = c.in-Err.ensures.matches in
     record {
-      below = subst (λ m. AreBelow (length m) c.add_all.new.matches) (sym same) (subst (AreBelow (length marks)) (sym pairs) c.self.invariant.below);
-      marked = subst (AreMarks c.add_all.new.matches) (sym same) (subst (λ l. AreMarks l marks) (sym pairs) c.self.invariant.marked);
+      below = rw same (rw pairs c.self.invariant.below);
+      marked = rw same (rw pairs c.self.invariant.marked);
       hits_are = c.self.invariant.hits_are ∙ (λ i. paired_before (length (sym same i)) (sym pairs i));
       few = omega (arith, c.in-Err.ensures.same.few, ap length same, c.len-size.ensures);
     }
 
 pub returns-in-Err-clause-err : goal.returns-in-Err-clause-err
 returns-in-Err-clause-err c =
-    let old = c.self.inside in
-    let marks = old.marks.items in
-    let new = c.truncate.new.self.items in
-    let same : new ≡ marks = cut_off marks (replicate (c.in-Some.end - length marks) false) c.add_marks.new.marks.items new c.len-size.result c.in_ok-add_marks.ensures.ok (omega (arith, c.len-size.ensures)) c.truncate.ensures.items in
+    let same = cut_off c.self.inside.marks.items (replicate (c.in-Some.end - length c.self.inside.marks.items) false) c.add_marks.new.marks.items c.truncate.new.self.items c.len-size.result c.in_ok-add_marks.ensures.ok (omega arith) c.truncate.ensures.items in
     ap length same ∙ (λ i. (c.self.view_is i).size)
 
 pub returns-in-Err-clause-old : goal.returns-in-Err-clause-old
 returns-in-Err-clause-old c =
     let size : length c.self.inside.marks.items ≡ c.args.self.now.size = λ i. (c.self.view_is i).size in
-    λ k low. found_same (ap (numbers_at k) c.in-Err.ensures.matches) (c.in-Err.ensures.same.old_stay k (omega (arith, low, size, c.len-size.ensures))) ∙ ap (λ f. finds_at f k) c.self.view_is
+    λ k low. found_same (ap (numbers_at k) c.in-Err.ensures.matches) (c.in-Err.ensures.same.old_stay k (omega (arith, c.len-size.ensures))) ∙ ap (λ f. finds_at f k) c.self.view_is
 
 pub returns-clause-size : goal.returns-clause-size
 returns-clause-size c =
-    let end = c.in-Some.end in
-    let marks = c.self.inside.marks.items in
-    let end_is : end ≡ c.len-size.result + (c.args.to - c.args.from) = omega (arith, c.in-Some.ensures) in
-    let many : length c.add_marks.new.marks.items ≡ end = grown marks c.add_marks.new.marks.items end c.in_ok-add_marks.ensures.ok (omega (arith, end_is, c.len-size.ensures)) in
-    let size : length marks ≡ c.args.self.now.size = λ i. (c.self.view_is i).size in
-    omega (arith, c.renew-self-inside.ensures.size, many, end_is, size, c.len-size.ensures)
+    let end_is : c.in-Some.end ≡ c.len-size.result + (c.args.to - c.args.from) = omega arith in
+    let many = grown c.self.inside.marks.items c.add_marks.new.marks.items c.in-Some.end c.in_ok-add_marks.ensures.ok (omega arith) in
+    let size : length c.self.inside.marks.items ≡ c.args.self.now.size = λ i. (c.self.view_is i).size in
+    omega arith

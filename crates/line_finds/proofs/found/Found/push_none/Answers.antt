@@ -1,4 +1,4 @@
-use Rattle.line_finds.proofs.Prelude.{◌≡◌, ◌+◌, ◌∷◌, [], false, ◌∙◌, length, sym, ap, subst, arith, length-append, AreBelow, finds_at, no_finds, paired_before}
+use Rattle.line_finds.proofs.Prelude.{◌≡◌, ◌+◌, ◌∷◌, [], false, ◌∙◌, length, ap, subst, arith, length-append, finds_at, no_finds}
 use Rattle.line_finds.proofs.lemmas.FoundLaws.{marks_next, paired_next, below_next, found_none}
 use Rattle.line_finds.proofs.found.Found.push_none.Goals as goal
 
@@ -9,10 +9,10 @@ invariant_of-self-2 c =
     let is = c.in_ok-add_mark.ensures.ok in
     let many : length c.add_mark.new.marks.items ≡ size + 1 = ap length is ∙ length-append old.marks.items (false ∷ []) in
     record {
-      below = subst (λ n. AreBelow n old.matches) (sym many) (below_next size old.matches c.self.invariant.below);
-      marked = marks_next old.matches old.marks.items c.add_mark.new.marks.items is c.self.invariant.below c.self.invariant.marked;
-      hits_are = c.self.invariant.hits_are ∙ sym (paired_next size old.matches c.self.invariant.below) ∙ ap (λ n. paired_before n old.matches) (sym many);
-      few = omega (arith, many, c.self.invariant.few);
+      below = rw many (below_next size old.matches c.self.invariant.below);
+      marked = marks_next old.matches old.marks.items _ is c.self.invariant.below c.self.invariant.marked;
+      hits_are = cc (c.self.invariant.hits_are, paired_next size old.matches c.self.invariant.below);
+      few = omega arith;
     }
 
 pub returns-clause-new : goal.returns-clause-new

@@ -1,4 +1,4 @@
-use Rattle.line_finds.proofs.Prelude.{◌<◌, ℕ, All, ◌∙◌, ap, sym, subst, numbers_at, AreBelow, is_other, left_numbers, lowered, pairs_of}
+use Rattle.line_finds.proofs.Prelude.{◌∙◌, ap, numbers_at, is_other, left_numbers, lowered, pairs_of}
 use Rattle.line_finds.proofs.lemmas.PairLaws.{left_numbers_are, left_below_too, all_left}
 use Rattle.line_finds.proofs.matches.Matches.drop_numbers.Goals as goal
 
@@ -8,8 +8,8 @@ returns-clause-numbers c = λ k.
 
 pub returns-clause-within : goal.returns-clause-within
 returns-clause-within c = λ size h.
-    subst (λ l. AreBelow size (pairs_of l)) (sym c.drop_patterns.ensures) (left_below_too (is_other c.args.first c.args.count) (lowered c.args.first c.args.by) size c.self.inside.pairs.items (subst (AreBelow size) (sym c.self.view_is) h))
+    rw c.drop_patterns.ensures (left_below_too (is_other c.args.first c.args.count) (lowered c.args.first c.args.by) size c.self.inside.pairs.items (rw c.self.view_is h))
 
 pub returns-clause-same : goal.returns-clause-same
 returns-clause-same c = λ h.
-    ap pairs_of (c.drop_patterns.ensures ∙ all_left c.args.first c.args.count c.args.by c.self.inside.pairs.items (subst (All (λ (x : ℕ × ℕ). x.1 < c.args.first)) (sym c.self.view_is) h)) ∙ c.self.view_is
+    ap pairs_of (c.drop_patterns.ensures ∙ all_left c.args.first c.args.count c.args.by c.self.inside.pairs.items (rw c.self.view_is h)) ∙ c.self.view_is

@@ -3,13 +3,7 @@ use Rattle.line_finds.proofs.lemmas.PieceLemmas.{are_of, start_of, end_of}
 use Rattle.line_finds.proofs.pieces.Pieces.start.Goals as goal
 
 pub returns-then-k-len-clause-start : goal.returns-then-k-len-clause-start
-returns-then-k-len-clause-start g c =
-    c.index.ensures ∙
-    start_of (are_of c.self.view_is c.self.invariant) c.args.k c.index.result.now
-    (omega (arith, c.if-k-len.true, c.len.ensures, c.self.inside.starts.ok.0))
+returns-then-k-len-clause-start g c = c.index.ensures ∙ start_of (are_of c.self.view_is c.self.invariant) c.args.k c.index.result.now (omega arith)
 
 pub returns-clause-start : goal.returns-clause-start
-returns-clause-start g c =
-    c.len-2.ensures ∙ c.self.inside.items.ok.0 ∙
-    end_of (are_of c.self.view_is c.self.invariant) c.args.k
-    (omega (arith, c.if-k-len.false, c.len.ensures, c.self.inside.starts.ok.0))
+returns-clause-start g c = c.len-2.ensures ∙ c.self.inside.items.ok.0 ∙ end_of (are_of c.self.view_is c.self.invariant) c.args.k (omega arith)
