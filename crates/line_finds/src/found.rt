@@ -1,6 +1,8 @@
 //! What is found in the lines of a chunk.
-ghost use Rattle.std.specs.Prelude.{◌≡◌, ℕ, ◌+◌, ◌-◌, ◌^◌, ◌<◌, ◌≤◌, [], ◌∷◌, ◌++◌, false, length, replicate, get_or, IfOk, OnErr};
-ghost use Rattle.line_finds.specs.Working.Finds.{no_finds, finds_at, is_paired, AreBelow, paired_before, without, numbers_at};
+ghost use Rattle.std.specs.Prelude.{◌≡◌, ℕ, ◌+◌, ◌-◌, ◌^◌, ◌<◌, ◌≤◌, [], ◌∷◌, ◌++◌, false, length};
+ghost use Rattle.std.specs.Prelude.{replicate, get_or, IfOk, OnErr};
+ghost use Rattle.line_finds.specs.Working.Finds.{no_finds, finds_at, is_paired, AreBelow};
+ghost use Rattle.line_finds.specs.Working.Finds.{paired_before, without, numbers_at};
 ghost use Rattle.line_finds.specs.Working.Marked.{AreMarks, set_before, AreAdded};
 
 use crate::matches::Matches;

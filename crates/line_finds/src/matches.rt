@@ -1,9 +1,10 @@
 //! Which patterns match which lines of a chunk.
-ghost use Rattle.std.specs.Prelude.{◌≡◌, ℕ, ◌+◌, ◌-◌, ◌<◌, ◌≤◌, [], ◌∷◌, ◌++◌, false, length, map, take, get_or};
-ghost use Rattle.std.specs.Prelude.{All, IfOk, IsTrue, OnErr, not, ◌||◌, replicate};
-ghost use Rattle.std.specs.List.{filter};
-ghost use Rattle.line_finds.specs.Working.Finds.{numbers_at, is_paired, AreBelow, is_other, has_own, left_numbers};
-ghost use Rattle.line_finds.specs.Working.Pairs.{pairs_of, lowered_pair, is_outside, moved_pair, marked, marked_of, moved_to};
+ghost use Rattle.std.specs.Prelude.{◌≡◌, ℕ, ◌+◌, ◌-◌, ◌<◌, ◌≤◌, [], ◌∷◌, ◌++◌, false, length, map};
+ghost use Rattle.std.specs.Prelude.{take, get_or, All, IfOk, IsTrue, OnErr, not, ◌||◌, replicate};
+ghost use Rattle.{std.specs.List.filter, line_finds.specs.Working.Finds.{numbers_at, is_paired}};
+ghost use Rattle.line_finds.specs.Working.Finds.{AreBelow, is_other, has_own, left_numbers};
+ghost use Rattle.line_finds.specs.Working.Pairs.{pairs_of, lowered_pair, is_outside, moved_pair};
+ghost use Rattle.line_finds.specs.Working.Pairs.{marked, marked_of, moved_to};
 
 use std::alloc::{AllocError, Global};
 use std::marker::Model;

@@ -1,7 +1,7 @@
 //! Lists in one list.
-ghost use Rattle.std.specs.Prelude.{◌≡◌, ℕ, ◌+◌, ◌-◌, ◌^◌, ◌<◌, ◌≤◌, [], ◌∷◌, ◌++◌, length, map, take, drop, get_or, replicate};
-ghost use Rattle.std.specs.Prelude.{IfOk, OnErr, slice_range, nat_eq, if◌then◌else◌};
-ghost use Rattle.line_finds.specs.Working.Pieces.{all_items};
+ghost use Rattle.std.specs.Prelude.{[], replicate, ◌∷◌, ◌<◌, get_or, ◌+◌, ◌-◌, IfOk, ◌++◌, OnErr};
+ghost use Rattle.std.specs.Prelude.{nat_eq, take, length, ◌^◌, ◌≤◌, slice_range, map, ℕ, drop, ◌≡◌};
+ghost use Rattle.{std.specs.Prelude.if◌then◌else◌, line_finds.specs.Working.Pieces.all_items};
 
 use re_trees::Span;
 use std::alloc::{AllocError, Global};

@@ -1,8 +1,7 @@
 //! Room in the list of stretches of a mark.
-ghost use Rattle.std.specs.Prelude.{◌≡◌, ◌+◌, ◌<◌, ◌≤◌, ◌∷◌, ◌++◌, length, take, drop};
+ghost use Rattle.std.specs.Prelude.{◌<◌, ◌≡◌, drop, length, ◌≤◌, ◌∷◌, take, ◌+◌, ◌++◌};
+ghost use Rattle.line_marks.specs.Working.{Places.{led, HasLead, AreCounted}, Covers.Loses};
 ghost use Rattle.line_marks.specs.Stretches.{most_stretches};
-ghost use Rattle.line_marks.specs.Working.Covers.{Loses};
-ghost use Rattle.line_marks.specs.Working.Places.{AreCounted, HasLead, led};
 
 use crate::stretch::Stretch;
 use crate::touched::{Touched, joined, led_by};

@@ -1,7 +1,6 @@
 //! Lines that are replaced by others.
 ghost use Rattle.std.specs.Prelude.{◌≡◌, ℕ, ◌+◌, ◌-◌, ◌^◌, ◌<◌, ◌≤◌};
-ghost use Rattle.line_marks.specs.Stretches.{Fits};
-ghost use Rattle.line_marks.specs.Working.Covers.{SplicesList};
+ghost use Rattle.line_marks.specs.{Stretches.Fits, Working.Covers.SplicesList};
 
 use crate::room::{Stretches, make_room, put};
 use crate::touched::{place_of, touched_at};

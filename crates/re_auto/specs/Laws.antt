@@ -1,8 +1,8 @@
 -- What the positions of an expression say, and what stepping over a line keeps.
 use Rattle.std.specs.Prelude.{ℕ, ◌↔◌, ◌++◌, Bool, IsTrue, length}
-use Rattle.re_trees.specs.{Bytes.Text, Expression.Expression, Holds.Holds}
-use Rattle.re_auto.specs.{declared.mode.Mode.Mode, Working.Positions.PartHolds}
-use Rattle.re_auto.specs.{Working.Positions.part_of, Working.SteppedSets.IsAfter}
+use Rattle.re_trees.specs.{Expression.Expression, Bytes.Text, Holds.Holds}
+use Rattle.re_auto.specs.Working.{Positions.{PartHolds, part_of}, SteppedSets.IsAfter}
+use Rattle.re_auto.specs.declared.mode.Mode.{Mode}
 
 -- An expression holds on a stretch exactly where a chain of its positions reads the stretch's
 -- bytes, or where the stretch is empty and the expression may be.

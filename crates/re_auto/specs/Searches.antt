@@ -1,7 +1,7 @@
 -- What a search of a line finds, and how much work it takes.
 use Rattle.std.specs.Prelude.{ℕ, Bool, List, Option, MatchOption, Any}
-use Rattle.re_trees.specs.{Bytes.Text, Expression.Expression, Holds.Matches, Parts.IsFound}
-use Rattle.re_trees.specs.{Parts.IsPart, declared.span.Span.Span}
+use Rattle.re_trees.specs.{Parts.{IsFound, IsPart}, declared.span.Span.Span, Expression.Expression}
+use Rattle.re_trees.specs.{Holds.Matches, Bytes.Text}
 pub use Rattle.re_meter.specs.Meters.{AddsAtMost}
 
 -- the span is the next part of the line for these expressions (XBD 9.1); None says that there is

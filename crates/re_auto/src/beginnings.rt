@@ -1,7 +1,7 @@
 //! Sets of bytes, the next of which in a line is found quickly.
-ghost use Rattle.std.specs.Prelude.{◌≡◌, ℕ, ◌+◌, false, ◌<◌, ◌≤◌, IsTrue, length, slice_index};
-ghost use Rattle.std.specs.Prelude.{slice_index_or};
-ghost use Rattle.re_auto.specs.Working.Beginnings.{IsMarked, IsFirstMarked};
+ghost use Rattle.std.specs.Prelude.{IsTrue, false, ℕ, ◌≤◌, slice_index_or, length, ◌<◌, ◌≡◌};
+ghost use Rattle.std.specs.Prelude.{slice_index, ◌+◌};
+ghost use Rattle.re_auto.specs.Working.Beginnings.{IsFirstMarked, IsMarked};
 
 use std::marker::Model;
 

@@ -1,9 +1,7 @@
 //! Sets of numbers, as words of 64 bits.
 ghost use Rattle.std.specs.Prelude.{◌≡◌, ℕ, ◌+◌, ◌*◌, ◌^◌, ◌<◌, ◌≤◌, ◌↔◌, ◌⊎◌, length, IsTrue};
-ghost use Rattle.std.specs.Int.{bit_at};
-ghost use Rattle.re_auto.specs.Working.Bits.{Has, InWord, row_of};
-ghost use Rattle.re_auto.specs.Working.Ranges.{Covers, CoverRows};
-ghost use Rattle.re_auto.specs.Working.Tables.{most_words};
+ghost use Rattle.{std.specs.Int.bit_at, re_auto.specs.Working.Bits.{Has, InWord, row_of}};
+ghost use Rattle.re_auto.specs.Working.{Ranges.{Covers, CoverRows}, Tables.most_words};
 
 use crate::ranges::WordRange;
 

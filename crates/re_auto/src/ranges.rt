@@ -1,8 +1,6 @@
 //! The words of a row that contain its members: usually few of them in a wide automaton.
 ghost use Rattle.std.specs.Prelude.{◌≡◌, ℕ, ◌*◌, ◌/◌, ◌<◌, ◌≤◌, IfOk, length};
-ghost use Rattle.re_auto.specs.Working.Bits.{Has};
-ghost use Rattle.re_auto.specs.Working.Ranges.{Covers, CoverRows};
-ghost use Rattle.re_auto.specs.Working.Tables.{most_words};
+ghost use Rattle.re_auto.specs.Working.{Bits.Has, Ranges.{Covers, CoverRows}, Tables.most_words};
 
 use crate::bits;
 use std::alloc::{AllocError, Global};

@@ -1,17 +1,13 @@
 //! Groups of positions by their greatest ends at a place of a line, and a step back on them.
-ghost use Rattle.std.specs.Prelude.{◌≡◌, ℕ, suc, Bool, List, ◌+◌, ◌-◌, ◌*◌, ◌/◌, ◌^◌, ◌<◌, ◌≤◌, ◌↔◌, ◌⊎◌, [], ◌∷◌, ◌++◌};
-ghost use Rattle.std.specs.Prelude.{IfOk, IsTrue, length, slice_index, vec_capacity};
-ghost use Rattle.std.specs.Int.{bit_at};
-ghost use Rattle.re_trees.specs.Expression.{Expression};
-ghost use Rattle.re_trees.specs.Holds.{positions};
-ghost use Rattle.re_trees.specs.Working.Trees.{expression_of};
-ghost use Rattle.re_auto.specs.Working.Bits.{Has};
-ghost use Rattle.re_auto.specs.Working.Positions.{part_of};
-ghost use Rattle.re_auto.specs.Working.Ranges.{Covers};
-ghost use Rattle.re_auto.specs.Working.Tables.{most_words};
-ghost use Rattle.re_ends.specs.Working.Closing.{AreClosed, AreMembers, AreMet, AreNoneMet, Byte, CanEnd};
-ghost use Rattle.re_ends.specs.Working.Groups.{group_of, half_of, AreGroupsFor, HasGroups, In, IsFirstIn};
-ghost use Rattle.re_ends.specs.Working.Groups.{IsRow, IsStep, Names, numbers_of};
+ghost use Rattle.std.specs.Prelude.{List, slice_index, ◌++◌, IfOk, ◌^◌, ◌<◌, ◌*◌, ◌≤◌, ◌∷◌, IsTrue};
+ghost use Rattle.std.specs.Prelude.{length, ◌-◌, [], vec_capacity, ◌/◌, ℕ, ◌⊎◌, suc, ◌≡◌, ◌+◌, ◌↔◌};
+ghost use Rattle.{std.specs.{Prelude.Bool, Int.bit_at}, re_trees.specs.Expression.Expression};
+ghost use Rattle.re_trees.specs.{Holds.positions, Working.Trees.expression_of};
+ghost use Rattle.re_auto.specs.Working.{Ranges.Covers, Bits.Has, Positions.part_of};
+ghost use Rattle.{re_auto.specs.Working.Tables.most_words, re_ends.specs.Working.Closing.AreClosed};
+ghost use Rattle.re_ends.specs.Working.Closing.{CanEnd, AreMembers, Byte, AreMet, AreNoneMet};
+ghost use Rattle.re_ends.specs.Working.Groups.{HasGroups, IsRow, IsFirstIn, half_of, Names, In};
+ghost use Rattle.re_ends.specs.Working.Groups.{group_of, AreGroupsFor, IsStep, numbers_of};
 
 use crate::list::Run;
 use crate::preceding::Preceding;

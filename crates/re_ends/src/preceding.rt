@@ -1,15 +1,10 @@
 //! For each position of an automaton, the positions that can come directly before it.
-ghost use Rattle.std.specs.Prelude.{◌≡◌, ℕ, suc, ◌+◌, ◌*◌, ◌/◌, ◌<◌, ◌≤◌, ◌↔◌, ◌⊎◌};
-ghost use Rattle.std.specs.Prelude.{IfOk, IsTrue, List, length};
-ghost use Rattle.std.specs.Int.{bit_at};
-ghost use Rattle.re_trees.specs.Expression.{Expression};
-ghost use Rattle.re_trees.specs.Holds.{positions};
-ghost use Rattle.re_trees.specs.Limits.{most_positions};
-ghost use Rattle.re_trees.specs.Working.Trees.{expression_of};
-ghost use Rattle.re_auto.specs.Working.Bits.{Has, row_of};
-ghost use Rattle.re_auto.specs.Working.Positions.{part_of};
-ghost use Rattle.re_auto.specs.Working.Ranges.{Covers, CoverRows};
-ghost use Rattle.re_auto.specs.Working.Tables.{most_words, words_for};
+ghost use Rattle.std.specs.Prelude.{◌≡◌, ℕ, suc, ◌+◌, ◌*◌, ◌/◌, ◌<◌, ◌≤◌, ◌↔◌, ◌⊎◌, IfOk, IsTrue};
+ghost use Rattle.std.specs.{Prelude.{List, length}, Int.bit_at};
+ghost use Rattle.re_trees.specs.{Limits.most_positions, Working.Trees.expression_of};
+ghost use Rattle.re_trees.specs.{Holds.positions, Expression.Expression};
+ghost use Rattle.re_auto.specs.Working.{Ranges.{Covers, CoverRows}, Positions.part_of};
+ghost use Rattle.re_auto.specs.Working.{Tables.{words_for, most_words}, Bits.{Has, row_of}};
 ghost use Rattle.re_ends.specs.Working.Preceding.{ArePrecedingFor};
 
 use re_auto::{Automaton, WordRange, bits, blank_set, cross_rows, ranges_of};

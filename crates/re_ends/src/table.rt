@@ -1,9 +1,8 @@
 //! Greatest ends, found by passes back over a line.
-ghost use Rattle.std.specs.Prelude.{◌≡◌, ℕ, ◌+◌, ◌-◌, ◌^◌, ◌<◌, ◌≤◌, ◌⊎◌, IfOk, length};
-ghost use Rattle.std.specs.Prelude.{slice_index, slice_range};
-ghost use Rattle.re_trees.specs.Working.Trees.{expression_of};
+ghost use Rattle.std.specs.Prelude.{IfOk, slice_index, ℕ, slice_range, ◌^◌, ◌<◌, ◌≤◌, ◌+◌, ◌⊎◌};
+ghost use Rattle.{std.specs.Prelude.{◌-◌, length, ◌≡◌}, re_trees.specs.Working.Trees.expression_of};
 ghost use Rattle.re_auto.specs.Meters.{many_built, many_reused};
-ghost use Rattle.re_ends.specs.Working.GreatestEnds.{MatchesPast, AddsEnds, IsBorder, FindsIn};
+ghost use Rattle.re_ends.specs.Working.GreatestEnds.{FindsIn, IsBorder, MatchesPast, AddsEnds};
 ghost use Rattle.re_ends.specs.Working.EndTables.{piece, IsAt, AreEndsFor, IsFirstFrom};
 
 use crate::pass::{Asked, Pass, Spot};

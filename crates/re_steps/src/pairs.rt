@@ -1,7 +1,6 @@
 //! Cells that show what a bounded cache holds.
 ghost use Rattle.std.specs.Prelude.{◌≡◌, ℕ, ◌+◌, ◌<◌, ◌≤◌, ◌⊎◌, [], ◌++◌, IfOk, OnOk, OnErr};
-ghost use Rattle.std.specs.Prelude.{length, replicate, slice_index};
-ghost use Rattle.std.specs.NonZero.{non_zero_usize_get};
+ghost use Rattle.std.specs.{Prelude.{length, replicate, slice_index}, NonZero.non_zero_usize_get};
 ghost use Rattle.re_steps.specs.Working.Pairs.{unknown, IsKeptOrLost, Mirrors};
 
 use lru::LruCache;

@@ -3,9 +3,8 @@ ghost use Rattle.std.specs.Prelude.{◌≡◌, ◌<◌, ◌≤◌, [], IfOk, IfE
 ghost use Rattle.re_trees.specs.Working.Trees.{expression_of};
 ghost use Rattle.re_auto.specs.declared.build.BuildFault.TheVariants.{Memory};
 ghost use Rattle.re_auto.specs.declared.mode.Mode.TheVariants.{Search, Whole};
-ghost use Rattle.re_meter.specs.Meters.{many_built};
 ghost use Rattle.re_auto.specs.Working.StateSets.{IsMadeFor, IsNextSet};
-ghost use Rattle.re_steps.specs.Working.Simulations.{AreSetsFor};
+ghost use Rattle.{re_meter.specs.Meters.many_built, re_steps.specs.Working.Simulations.AreSetsFor};
 ghost use Rattle.re_steps.specs.Working.Stages.{Cache, Searches, FinishesFrom, GoesFrom};
 
 use re_auto::{Automaton, BuildFault, Meter, Mode, StateSet};

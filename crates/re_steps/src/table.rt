@@ -1,15 +1,12 @@
 //! Numbered sets of positions, and the set that each becomes over a byte, as far as that is held.
-ghost use Rattle.std.specs.Prelude.{◌≡◌, ℕ, ◌+◌, ◌-◌, ◌*◌, ◌<◌, ◌≤◌, ◌↔◌, [], ◌∷◌, ◌++◌, false};
-ghost use Rattle.std.specs.Prelude.{Some, IsTrue, IfOk, OnOk, IfSome, length, slice_get};
-ghost use Rattle.std.specs.Prelude.{slice_index};
-ghost use Rattle.std.specs.NonZero.{non_zero_usize_get};
-ghost use Rattle.re_trees.specs.Working.Trees.{expression_of};
+ghost use Rattle.std.specs.Prelude.{◌↔◌, length, false, ◌++◌, OnOk, ◌-◌, ℕ, IfOk, ◌≤◌, slice_index};
+ghost use Rattle.std.specs.Prelude.{IfSome, ◌≡◌, ◌∷◌, slice_get, IsTrue, ◌+◌, ◌<◌, [], Some, ◌*◌};
+ghost use Rattle.{std.specs.NonZero.non_zero_usize_get, re_trees.specs.Working.Trees.expression_of};
+ghost use Rattle.re_auto.specs.Working.StateSets.{IsNowhere, IsSame, IsMadeFor, IsNextSet};
+ghost use Rattle.re_steps.specs.Working.Rows.{IsMarkOf, IsCellOf, IsKnownFor, IsRightFor, IsBlank};
+ghost use Rattle.re_steps.specs.Working.Rows.{limit, IsSoundFor, cache_of, Extends, Keeps};
+ghost use Rattle.re_steps.specs.Working.{Rows.IsKnownCell, Stages.IsReadied};
 ghost use Rattle.re_auto.specs.declared.step.state_set.StateSet.{StateSet as Set};
-ghost use Rattle.re_auto.specs.Working.StateSets.{IsMadeFor, IsSame, IsNowhere, IsNextSet};
-ghost use Rattle.re_steps.specs.Working.Rows.{IsKnownFor};
-ghost use Rattle.re_steps.specs.Working.Rows.{limit, IsBlank, IsMarkOf, IsCellOf, Extends, Keeps};
-ghost use Rattle.re_steps.specs.Working.Rows.{IsSoundFor, IsRightFor, IsKnownCell, cache_of};
-ghost use Rattle.re_steps.specs.Working.Stages.{IsReadied};
 
 use crate::pace::Pace;
 use crate::pairs::Pairs;

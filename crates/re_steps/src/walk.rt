@@ -1,18 +1,15 @@
 //! Searches by the pairs that are held.
 ghost use Rattle.std.specs.Prelude.{◌≡◌, ℕ, ◌+◌, ◌-◌, ◌*◌, ◌<◌, ◌≤◌, true, false, Some, IsTrue};
 ghost use Rattle.std.specs.Prelude.{IfSome, IfNone, length, slice_get, slice_index};
-ghost use Rattle.re_auto.specs.declared.mode.Mode.TheVariants.{Search};
-ghost use Rattle.re_auto.specs.declared.step.state_set.StateSet.{StateSet as Set};
+ghost use Rattle.re_auto.specs.{Working.StateSets.IsNextSet, declared.mode.Mode.TheVariants.Search};
 ghost use Rattle.re_meter.specs.Meters.{Steps, many_built, many_reused};
-ghost use Rattle.re_auto.specs.Working.StateSets.{IsNextSet};
-ghost use Rattle.re_steps.specs.Working.Pairs.{unknown};
 ghost use Rattle.re_steps.specs.Working.Stages.{Stage, EndsInside, HoldsNoOther, IsPlain};
-ghost use Rattle.re_steps.specs.Working.Rows.{limit, expression_in, IsRightFor, IsReady, Lasts};
-ghost use Rattle.re_steps.specs.Working.Rows.{Keeps, IsRowOf, IsRow, IsKnownCell, cell_at};
-ghost use Rattle.re_steps.specs.Working.Rows.{cache_of, row_under, rows_of, walked};
-ghost use Rattle.re_steps.specs.Working.Walks.{IsAt, LandsBy, LandsUnkept, LeadsOn, Arrives};
-ghost use Rattle.re_steps.specs.Working.Walks.{Ends, GoesOverLines};
-ghost use Rattle.re_runs.specs.Working.Blocks.{IsBlock};
+ghost use Rattle.re_steps.specs.Working.{Pairs.unknown, Rows.{limit, cache_of, rows_of, IsRow}};
+ghost use Rattle.re_steps.specs.Working.Rows.{IsRightFor, expression_in, Keeps, walked, row_under};
+ghost use Rattle.re_steps.specs.Working.Rows.{IsReady, IsRowOf, Lasts, cell_at, IsKnownCell};
+ghost use Rattle.re_steps.specs.Working.Walks.{Ends, LandsUnkept, Arrives, LeadsOn, LandsBy, IsAt};
+ghost use Rattle.{re_steps.specs.Working.Walks.GoesOverLines, re_runs.specs.Working.Blocks.IsBlock};
+ghost use Rattle.re_auto.specs.declared.step.state_set.StateSet.{StateSet as Set};
 
 use crate::pairs::UNKNOWN;
 use crate::table::{LIMIT, LineSearch, StepTable};

@@ -1,16 +1,14 @@
 //! The steps over a line for many fixed strings.
-ghost use Rattle.std.specs.Prelude.{◌≡◌, ℕ, ◌+◌, ◌^◌, ◌<◌, ◌≤◌, ◌↔◌, [], ◌∷◌, ◌++◌, IsTrue, Some};
-ghost use Rattle.std.specs.Prelude.{IfSome, length, slice_index};
-ghost use Rattle.re_trees.specs.Bytes.{Text};
-ghost use Rattle.re_strings.specs.Working.FixedSets.{IsTrie, IsTrieOf, IsTable, IsTableOf, IsString};
-ghost use Rattle.re_strings.specs.Working.FixedSets.{AreFallbacks, AreFallbacksOf, AreSteps};
-ghost use Rattle.re_strings.specs.Working.FixedSets.{Labels, AreStepsOf, StepsOn, Occurs, NoneBetween, EndsIn};
-ghost use Rattle.re_strings.specs.Working.FixedSets.{StandsSince, StandsAtNode, IsBestOccurrence};
-ghost use Rattle.re_strings.specs.Working.FixedSets.{better_ending};
-ghost use Rattle.re_strings.specs.Working.Reached.{Reaches, IsNear, IsSettled, EndsFirst, end_cost};
+ghost use Rattle.std.specs.Prelude.{IsTrue, IfSome, [], ◌↔◌, Some, length, slice_index, ◌≡◌, ◌<◌};
+ghost use Rattle.std.specs.Prelude.{◌^◌, ℕ, ◌∷◌, ◌+◌, ◌≤◌, ◌++◌};
+ghost use Rattle.re_trees.specs.{declared.span.Span.Span, Bytes.Text};
+ghost use Rattle.re_strings.specs.Working.FixedSets.{Labels, StandsSince, IsString, AreFallbacksOf};
+ghost use Rattle.re_strings.specs.Working.FixedSets.{IsBestOccurrence, StandsAtNode, IsTrieOf};
+ghost use Rattle.re_strings.specs.Working.FixedSets.{IsTable, AreSteps, better_ending, AreStepsOf};
+ghost use Rattle.re_strings.specs.Working.FixedSets.{IsTrie, IsTableOf, NoneBetween, AreFallbacks};
+ghost use Rattle.re_strings.specs.Working.{FixedSets.{EndsIn, Occurs, StepsOn}, Keys.keys};
+ghost use Rattle.re_strings.specs.Working.Reached.{IsSettled, Reaches, EndsFirst, IsNear, end_cost};
 ghost use Rattle.re_meter.specs.Meters.{many_passed};
-ghost use Rattle.re_strings.specs.Working.Keys.{keys};
-ghost use Rattle.re_trees.specs.declared.span.Span.{Span};
 
 use crate::keys::key_of;
 use crate::leaps::Leaps;

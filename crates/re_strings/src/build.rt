@@ -1,9 +1,8 @@
 //! The table of the steps for many fixed strings.
 ghost use Rattle.std.specs.Prelude.{◌≡◌, ℕ, ◌^◌, ◌<◌, ◌≤◌, List, IfOk, length, map, slice_index};
-ghost use Rattle.re_trees.specs.Bytes.{Text};
+ghost use Rattle.{re_trees.specs.Bytes.Text, re_strings.specs.Working.FixedSets.IsTable};
+ghost use Rattle.re_strings.specs.Working.FixedSets.{IsTableOf, IsTrie, IsTrieOf, AreOwn, Labels};
 ghost use Rattle.re_strings.specs.Working.Branches.{AreAscending, branch_at, own_length, HaveSame};
-ghost use Rattle.re_strings.specs.Working.FixedSets.{IsTable, IsTableOf, IsTrie, IsTrieOf, AreOwn};
-ghost use Rattle.re_strings.specs.Working.FixedSets.{Labels};
 
 use crate::aho_corasick::AhoCorasick;
 use crate::growth::{Branch, grow};

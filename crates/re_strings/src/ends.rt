@@ -1,8 +1,7 @@
 //! The ends of all strings at the places of a line.
 ghost use Rattle.std.specs.Prelude.{◌≡◌, ℕ, ◌+◌, ◌^◌, ◌<◌, ◌≤◌, length};
-ghost use Rattle.re_trees.specs.Working.PutEnds.{AddsEnds};
-ghost use Rattle.re_strings.specs.Working.FixedSets.{IsTable, IsTableOf, Labels, Occurs, EndsWith};
-ghost use Rattle.re_strings.specs.Working.Keys.{keys};
+ghost use Rattle.{re_trees.specs.Working.PutEnds.AddsEnds, re_strings.specs.Working.Keys.keys};
+ghost use Rattle.re_strings.specs.Working.FixedSets.{IsTable, Labels, Occurs, IsTableOf, EndsWith};
 
 use crate::aho_corasick::{AhoCorasick, step};
 use crate::keys::key_of;

@@ -1,9 +1,8 @@
 //! The tree of the beginnings of sorted strings.
 ghost use Rattle.std.specs.Prelude.{◌≡◌, ℕ, ◌+◌, ◌^◌, ◌<◌, ◌≤◌, ◌++◌, [], ◌∷◌, List, All, IfOk};
 ghost use Rattle.std.specs.Prelude.{IfSome, length, map, slice_get};
-ghost use Rattle.re_strings.specs.declared.growth.Branch.{Branch};
-ghost use Rattle.re_strings.specs.Working.Branches.{AreAscending, IsBranch, IsRow, AreRows};
-ghost use Rattle.re_strings.specs.Working.Branches.{branch_at, text_at};
+ghost use Rattle.re_strings.specs.{declared.growth.Branch.Branch, Working.Branches.AreAscending};
+ghost use Rattle.re_strings.specs.Working.Branches.{IsBranch, IsRow, AreRows, branch_at, text_at};
 
 use std::alloc::{AllocError, Global};
 

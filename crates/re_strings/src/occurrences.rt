@@ -1,8 +1,7 @@
 //! All places of a line where one text stands, also where two of them overlap.
 ghost use Rattle.std.specs.Prelude.{◌≡◌, ℕ, ◌+◌, ◌-◌, ◌^◌, ◌<◌, ◌≤◌, ◌⊎◌, length, slice_index};
 ghost use Rattle.std.specs.Prelude.{MatchOption, vec_capacity};
-ghost use Rattle.re_trees.specs.Working.PutEnds.{AddsEnds};
-ghost use Rattle.memchr.specs.Find.{OccursAt};
+ghost use Rattle.{re_trees.specs.Working.PutEnds.AddsEnds, memchr.specs.Find.OccursAt};
 ghost use Rattle.re_strings.specs.Working.Overlaps.{AgreesUpTo, CommonLength};
 
 use crate::ends::put_end;

@@ -3,18 +3,15 @@
 -- text from its place on. The truth value says whether a group is open there.
 use Rattle.std.specs.Prelude.{◌≡◌, ◌≢◌, ℕ, Bool, not, ◌&&◌, [], ◌∷◌, ◌++◌, Option, Some, None}
 use Rattle.std.specs.Prelude.{IsTrue, codes}
+use Rattle.re_syntax.specs.declared.fault.FaultKind.TheVariants.{BadInterval, UnopenedGroup}
+use Rattle.re_syntax.specs.declared.fault.FaultKind.{TheVariants.NothingToRepeat, FaultKind}
 use Rattle.re_syntax.specs.declared.tokens.ItemPlace.TheVariants.{First, AfterAnchor, Later}
-use Rattle.re_syntax.specs.declared.fault.FaultKind.TheVariants.{UnopenedGroup, BadInterval}
-use Rattle.re_syntax.specs.declared.fault.FaultKind.TheVariants.{NothingToRepeat}
-use Rattle.re_syntax.specs.Intervals.{Interval, IsAllowed, ClosedInterval, HasNoInterval}
-use Rattle.re_syntax.specs.Tokens.{Token, opening, closing, bar, lead, atom, times}
-use Rattle.re_syntax.specs.{declared.tokens.ItemPlace.ItemPlace, declared.fault.FaultKind.FaultKind}
-use Rattle.re_syntax.specs.{BracketFaults.BracketFault, Brackets.IsBracket}
-use Rattle.re_syntax.specs.{EscapeFaults.EscapeFault, Escapes.is_in, Escapes.is_undefined}
-use Rattle.re_syntax.specs.{IntervalFaults.IsDisallowed, Profile.basic_escaped}
-use Rattle.re_syntax.specs.Profile.{basic_refused}
-use Rattle.re_trees.specs.Expression.{Expression, one_of, end, byte}
-use Rattle.re_trees.specs.Bytes.{Text, any_but_nul}
+use Rattle.re_syntax.specs.{declared.tokens.ItemPlace.ItemPlace, IntervalFaults.IsDisallowed}
+use Rattle.re_syntax.specs.{Profile.{basic_refused, basic_escaped}, EscapeFaults.EscapeFault}
+use Rattle.re_syntax.specs.Intervals.{HasNoInterval, Interval, IsAllowed, ClosedInterval}
+use Rattle.re_syntax.specs.{BracketFaults.BracketFault, Escapes.{is_in, is_undefined}, Tokens.times}
+use Rattle.re_syntax.specs.{Tokens.{atom, bar, Token, lead, closing, opening}, Brackets.IsBracket}
+use Rattle.re_trees.specs.{Bytes.{Text, any_but_nul}, Expression.{Expression, one_of, end, byte}}
 
 -- `*`, or an interval in `\{` and `\}` (XBD 9.3.6); `\+` and `\?` as GNU grep has them
 pub data Duplication : Text → ℕ → Option ℕ → Type 0 where

@@ -1,13 +1,11 @@
 -- The one fault of a text that a bracket expression opens and that begins none (XBD 9.3.5): its
 -- kind, and the text from its place on. An unclosed bracket's place is its opening.
-use Rattle.std.specs.Prelude.{◌≡◌, ◌≢◌, ℕ, ◌<◌, ◌⊎◌, [], ◌∷◌, ◌++◌, codes}
-use Rattle.re_syntax.specs.declared.fault.FaultKind.TheVariants.{UnclosedBracket, BadClass}
-use Rattle.re_syntax.specs.declared.fault.FaultKind.TheVariants.{BadCollatingSymbol, BadRange}
-use Rattle.re_syntax.specs.declared.bracket.ListPlace.{ListPlace}
-use Rattle.re_syntax.specs.declared.bracket.ListPlace.TheVariants.{First}
-use Rattle.re_syntax.specs.{declared.fault.FaultKind.FaultKind, Brackets.Point, Brackets.Element}
-use Rattle.re_trees.specs.{declared.class.Class.Class, Bytes.Text, Bytes.Begins, Bytes.Bytes}
-use Rattle.re_trees.specs.Bytes.{class_name}
+use Rattle.std.specs.Prelude.{◌<◌, codes, ℕ, ◌∷◌, ◌≢◌, ◌≡◌, ◌⊎◌, ◌++◌, []}
+use Rattle.re_syntax.specs.declared.bracket.ListPlace.{ListPlace, TheVariants.First}
+use Rattle.re_syntax.specs.declared.fault.FaultKind.TheVariants.{UnclosedBracket, BadRange}
+use Rattle.re_syntax.specs.declared.fault.FaultKind.TheVariants.{BadClass, BadCollatingSymbol}
+use Rattle.re_syntax.specs.{declared.fault.FaultKind.FaultKind, Brackets.{Element, Point}}
+use Rattle.re_trees.specs.{declared.class.Class.Class, Bytes.{Text, Begins, Bytes, class_name}}
 
 module _ (opening : Text) where
   -- no point is here: a `[.` without one byte and `.]`, or the text's end

@@ -1,12 +1,10 @@
 -- Bracket expressions (XBD 9.3.5). Each relation is between a text that begins with a part, the
 -- text after the part, and what the part means.
-use Rattle.std.specs.Prelude.{◌≡◌, ◌≢◌, ℕ, ◌≤◌, ◌⊎◌, ◌∷◌, ◌++◌, length, drop, codes}
-use Rattle.re_syntax.specs.declared.bracket.ListPlace.{ListPlace}
-use Rattle.re_syntax.specs.declared.bracket.ListPlace.TheVariants.{First, AfterPoint, AfterRange}
-use Rattle.re_trees.specs.declared.class.Class.{Class}
-use Rattle.re_trees.specs.Bytes.{Text, Begins, Bytes, nothing, only, range, union, class_name}
-use Rattle.re_trees.specs.Bytes.{in_class}
-use Rattle.re_trees.specs.Expression.{Expression, one_of, none_of}
+use Rattle.std.specs.Prelude.{codes, ℕ, drop, ◌≤◌, ◌≢◌, ◌++◌, ◌⊎◌, ◌∷◌, length, ◌≡◌}
+use Rattle.re_syntax.specs.declared.bracket.ListPlace.TheVariants.{AfterRange, AfterPoint, First}
+use Rattle.{re_syntax.specs.declared.bracket.ListPlace.ListPlace, re_trees.specs.Bytes.Text}
+use Rattle.re_trees.specs.Bytes.{Begins, only, nothing, union, class_name, range, Bytes, in_class}
+use Rattle.re_trees.specs.{Expression.{Expression, one_of, none_of}, declared.class.Class.Class}
 
 -- a `[` before one of these bytes opens an element that has a name
 abbrev pub OpensNamed : Text → Type 0

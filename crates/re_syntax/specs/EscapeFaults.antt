@@ -2,9 +2,8 @@
 -- place on. Beside letters and digits, each syntax has its own bytes that may not follow it.
 use Rattle.std.specs.Prelude.{ℕ, ◌∷◌, ◌++◌, IsTrue, codes}
 use Rattle.re_syntax.specs.declared.fault.FaultKind.TheVariants.{TrailingBackslash, UndefinedEscape}
-use Rattle.re_syntax.specs.declared.fault.FaultKind.TheVariants.{BackReference}
-use Rattle.re_syntax.specs.{declared.fault.FaultKind.FaultKind, Escapes.is_undefined}
-use Rattle.re_trees.specs.Bytes.{Text, Bytes, range}
+use Rattle.re_syntax.specs.declared.fault.FaultKind.{TheVariants.BackReference, FaultKind}
+use Rattle.{re_syntax.specs.Escapes.is_undefined, re_trees.specs.Bytes.{Text, Bytes, range}}
 
 -- the digits 1 to 9, which would refer back to a group
 abbrev pub one_to_nine : Bytes

@@ -1,9 +1,7 @@
 -- A fault of a pattern's text, at its place.
 use Rattle.std.specs.Prelude.{◌≡◌, ◌≤◌, length, drop}
-use Rattle.re_syntax.specs.declared.fault.FaultKind.{FaultKind}
-use Rattle.re_syntax.specs.declared.fault.FaultKind.TheVariants.{Memory}
-use Rattle.re_syntax.specs.declared.fault.PatternFault.{PatternFault}
-use Rattle.re_trees.specs.Bytes.{Text}
+use Rattle.re_syntax.specs.declared.fault.FaultKind.{FaultKind, TheVariants.Memory}
+use Rattle.{re_syntax.specs.declared.fault.PatternFault.PatternFault, re_trees.specs.Bytes.Text}
 
 -- what is said of the fault's kind, and of the text from its place on, holds
 pub record IsAt (IsFault : FaultKind → Text → Type 0) (text : Text)

@@ -1,16 +1,14 @@
 -- The one cut of a text into tokens, or its one fault: the first from the left that has no token or
 -- goes too deep, or a group that is open at the text's end.
-use Rattle.std.specs.Prelude.{◌≡◌, ℕ, suc, max, ◌+◌, ◌≤◌, Bool, true, false, List, [], ◌∷◌, length}
+use Rattle.std.specs.Prelude.{false, ◌∷◌, ◌+◌, ℕ, max, Bool, ◌≤◌, true, length, List, [], suc, ◌≡◌}
+use Rattle.re_syntax.specs.Tokens.{Token, bar, FixedToken, atom, opening, times, closing, lead}
+use Rattle.re_syntax.specs.declared.syntax.Syntax.{Syntax, TheVariants.{Basic, Fixed, Extended}}
+use Rattle.re_syntax.specs.declared.fault.FaultKind.TheVariants.{TooDeep, UnclosedGroup}
+use Rattle.re_syntax.specs.declared.fault.{FaultKind.FaultKind, PatternFault.PatternFault}
 use Rattle.re_syntax.specs.declared.tokens.ItemPlace.TheVariants.{First, AfterAnchor, Later}
-use Rattle.re_syntax.specs.declared.fault.FaultKind.TheVariants.{UnclosedGroup, TooDeep}
-use Rattle.re_syntax.specs.declared.syntax.Syntax.TheVariants.{Basic, Extended, Fixed}
-use Rattle.re_syntax.specs.Tokens.{Token, opening, closing, bar, lead, atom, times, FixedToken}
-use Rattle.re_syntax.specs.{declared.tokens.ItemPlace.ItemPlace, declared.fault.FaultKind.FaultKind}
-use Rattle.re_syntax.specs.{declared.fault.PatternFault.PatternFault, declared.syntax.Syntax.Syntax}
-use Rattle.re_syntax.specs.{Profile.most_levels, ExtendedTokens.ExtendedToken}
-use Rattle.re_syntax.specs.{ExtendedTokens.ExtendedTokenFault, BasicTokens.BasicToken}
-use Rattle.re_syntax.specs.{BasicTokens.BasicTokenFault, Faults.IsAt}
-use Rattle.re_trees.specs.Bytes.{Text}
+use Rattle.re_syntax.specs.{declared.tokens.ItemPlace.ItemPlace, Faults.IsAt, Profile.most_levels}
+use Rattle.re_syntax.specs.ExtendedTokens.{ExtendedToken, ExtendedTokenFault}
+use Rattle.{re_syntax.specs.BasicTokens.{BasicTokenFault, BasicToken}, re_trees.specs.Bytes.Text}
 
 -- a group that is open: the text from its opening on, and the greatest height of the items before
 -- it in the expression around it

@@ -1,11 +1,9 @@
 -- Interval expressions (XBD 9.3.6 item 5, 9.4.6 item 5): what is between the braces, and its two
 -- numbers. The form without a least number is not the standard's but GNU grep's.
 use Rattle.std.specs.Prelude.{◌≡◌, ◌≢◌, ℕ, ◌+◌, ◌-◌, ◌*◌, ◌≤◌, min, [], ◌∷◌, ◌++◌, Option, Some}
-use Rattle.std.specs.Prelude.{None, IsTrue, IfSome, codes}
-use Rattle.std.specs.List.{list_all}
-use Rattle.re_trees.specs.declared.class.Class.TheVariants.{Digit}
+use Rattle.std.specs.{Prelude.{None, IsTrue, IfSome, codes}, List.list_all}
+use Rattle.re_trees.specs.{declared.class.Class.TheVariants.Digit, Bytes.{Text, Begins, in_class}}
 use Rattle.re_syntax.specs.Profile.{most_repeats}
-use Rattle.re_trees.specs.Bytes.{Text, Begins, in_class}
 
 abbrev pub value_after : ℕ → Text → ℕ
 value_after n [] = n

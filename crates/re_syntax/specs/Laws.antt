@@ -1,13 +1,12 @@
 -- What the definitions promise.
 use Rattle.std.specs.Prelude.{◌≡◌, ◌≢◌, ℕ, Bool, List, ◌++◌, codes}
-use Rattle.re_syntax.specs.declared.syntax.Syntax.TheVariants.{Basic, Extended}
-use Rattle.re_syntax.specs.{declared.syntax.Syntax.Syntax, declared.fault.PatternFault.PatternFault}
-use Rattle.re_syntax.specs.{Brackets.IsBracket, FirstFaults.IsCut, FirstFaults.IsFirstFault}
-use Rattle.re_syntax.specs.{Tokens.Token, Spelled.IsSpelled, Working.StandardBasic.IsStandardBasic}
+use Rattle.re_syntax.specs.declared.syntax.Syntax.{TheVariants.{Basic, Extended}, Syntax}
+use Rattle.re_syntax.specs.{declared.fault.PatternFault.PatternFault, Brackets.IsBracket}
+use Rattle.re_syntax.specs.{FirstFaults.{IsCut, IsFirstFault}, Tokens.Token, Spelled.IsSpelled}
+use Rattle.re_syntax.specs.Working.StandardBasic.{IsStandardBasic}
 use Rattle.re_syntax.specs.Working.StandardExtended.{IsStandardExtended}
 use Rattle.re_trees.specs.Lines.{lines_of, ended_lines_of, list_of, AreLines, AreEndedLines}
-use Rattle.re_trees.specs.Lines.{AreListed}
-use Rattle.re_trees.specs.{Bytes.Text, Expression.Expression, Parts.AreParts}
+use Rattle.re_trees.specs.{Lines.AreListed, Bytes.Text, Expression.Expression, Parts.AreParts}
 
 -- a text spells at most one expression
 abbrev pub SpellsOne : Text → Type 0

@@ -1,12 +1,11 @@
 -- The expression that the text of a pattern spells, and the one that it means (XCU grep, OPTIONS
 -- -E, -F, -i). The text is cut into tokens, and these are read by one grammar for all syntaxes (XBD
 -- 9.5.2, 9.5.3).
-use Rattle.std.specs.Prelude.{◌≡◌, ℕ, Bool, true, List, [], ◌∷◌, ◌++◌, Option, if◌then◌else◌}
-use Rattle.re_syntax.specs.declared.syntax.Syntax.TheVariants.{Basic, Extended, Fixed}
-use Rattle.re_syntax.specs.Tokens.{Token, opening, closing, bar, lead, atom, times}
-use Rattle.re_syntax.specs.{declared.syntax.Syntax.Syntax, FirstFaults.IsCut}
+use Rattle.std.specs.Prelude.{◌∷◌, true, Bool, Option, ◌≡◌, List, if◌then◌else◌, ◌++◌, ℕ, []}
+use Rattle.re_syntax.specs.Tokens.{atom, Token, opening, bar, times, lead, closing}
+use Rattle.re_syntax.specs.declared.syntax.Syntax.{TheVariants.{Fixed, Extended, Basic}, Syntax}
+use Rattle.{re_syntax.specs.FirstFaults.IsCut, re_trees.specs.{Bytes.Text, Holds.folded}}
 use Rattle.re_trees.specs.Expression.{Expression, begin, repeat, sequence, choice}
-use Rattle.re_trees.specs.{Bytes.Text, Holds.folded}
 
 mutual
   -- branches separated by bars, each a sequence

@@ -1,9 +1,9 @@
 -- The tokens that the text of an expression is cut into, as the standard's grammars have them (XBD
 -- 9.5.1). In each syntax they are a relation between a text that begins with a token, the text
 -- after it, and the token.
-use Rattle.std.specs.Prelude.{ℕ, Bool, ◌∷◌, Option}
+use Rattle.std.specs.Prelude.{◌∷◌, Bool, ℕ, Option}
 use Rattle.re_syntax.specs.declared.tokens.ItemPlace.{ItemPlace}
-use Rattle.re_trees.specs.{Bytes.Text, Expression.Expression, Expression.byte}
+use Rattle.re_trees.specs.{Expression.{Expression, byte}, Bytes.Text}
 
 pub data Token : Type 0 where
   -- what opens and closes a group; what separates two branches

@@ -1,6 +1,5 @@
 ghost use Rattle.std.specs.Prelude.{◌≡◌, ◌≤◌, Some, length, drop, slice_get, MatchOption};
-ghost use Rattle.re_trees.specs.Bytes.{Begins};
-ghost use Rattle.re_syntax.specs.Working.Ahead.{IsAfter};
+ghost use Rattle.{re_trees.specs.Bytes.Begins, re_syntax.specs.Working.Ahead.IsAfter};
 
 /// The place after these bytes, if the text has them at the place `at`.
 pub fn after(text: &[u8], at: usize, bytes: &[u8]) -> Option<usize>

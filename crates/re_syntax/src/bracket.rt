@@ -1,18 +1,13 @@
 //! Bracket expressions (XBD 9.3.5), read in one pass from left to right.
 ghost use Rattle.std.specs.Prelude.{◌≡◌, ◌≢◌, ℕ, ◌≤◌, ◌++◌, ◌∷◌, Some, IfSome, IfNone, IfOk, IfErr};
 ghost use Rattle.std.specs.Prelude.{OnOk, MatchOption, MatchBool, codes, slice_get, drop};
-ghost use Rattle.re_trees.specs.Bytes.{Begins, class_name};
-ghost use Rattle.re_trees.specs.Working.Trees.{members};
-ghost use Rattle.re_syntax.specs.Brackets.{Point, Element, Rest, IsBracket};
-ghost use Rattle.re_syntax.specs.Working.BracketSteps.{IsBracketUpTo};
-ghost use Rattle.re_syntax.specs.BracketFaults.{PointFault, RangeFault, ElementFault, ListFault};
-ghost use Rattle.re_syntax.specs.BracketFaults.{BracketFault};
-ghost use Rattle.re_syntax.specs.Working.BracketSteps.{from_place, Fails, IsIn, IsHyphenBefore};
-ghost use Rattle.re_syntax.specs.Working.BracketSteps.{OpensNoClass, MayGoOn, PassesHyphen};
-ghost use Rattle.re_syntax.specs.Working.BracketSteps.{IsStray};
-ghost use Rattle.re_syntax.specs.Working.Cursors.{left, Passes};
-ghost use Rattle.re_syntax.specs.Faults.{IsAt};
-ghost use Rattle.re_syntax.specs.Working.TokenSteps.{atom_expression};
+ghost use Rattle.re_trees.specs.{Working.Trees.members, Bytes.{Begins, class_name}};
+ghost use Rattle.re_syntax.specs.{Brackets.{Rest, IsBracket, Element, Point}, Faults.IsAt};
+ghost use Rattle.re_syntax.specs.Working.BracketSteps.{PassesHyphen, IsBracketUpTo, IsIn, MayGoOn};
+ghost use Rattle.re_syntax.specs.Working.BracketSteps.{Fails, from_place, OpensNoClass, IsStray};
+ghost use Rattle.re_syntax.specs.Working.{BracketSteps.IsHyphenBefore, Cursors.{left, Passes}};
+ghost use Rattle.re_syntax.specs.{Working.TokenSteps.atom_expression, BracketFaults.PointFault};
+ghost use Rattle.re_syntax.specs.BracketFaults.{ListFault, BracketFault, RangeFault, ElementFault};
 
 use crate::cursor::Cursor;
 use crate::fault::{FaultKind, PatternFault};

@@ -1,13 +1,10 @@
 //! Trees that are built of tokens, one after another.
-ghost use Rattle.std.specs.Prelude.{◌≡◌, ◌++◌, ◌∷◌, [], IfOk, IfErr, map};
+ghost use Rattle.std.specs.Prelude.{IfErr, [], ◌∷◌, IfOk, ◌++◌, ◌≡◌, map};
 ghost use Rattle.re_trees.specs.Expression.{repeat, sequence, choice};
-ghost use Rattle.re_syntax.specs.Faults.{IsOutOfMemory};
-ghost use Rattle.re_syntax.specs.Tokens.{opening, closing, bar};
-ghost use Rattle.re_syntax.specs.Working.Builds.{Frame, FrameMeans, Builds, BuildsOn};
-ghost use Rattle.re_syntax.specs.Working.Builds.{branches_of, repeat_last};
-ghost use Rattle.re_syntax.specs.Working.Builds.{fresh, nothing_built};
-ghost use Rattle.re_syntax.specs.Working.TokenSteps.{token_of};
-ghost use Rattle.re_trees.specs.Working.Trees.{expression_of};
+ghost use Rattle.{re_trees.specs.Working.Trees.expression_of, re_syntax.specs.Faults.IsOutOfMemory};
+ghost use Rattle.re_syntax.specs.Working.Builds.{Frame, FrameMeans, Builds, nothing_built};
+ghost use Rattle.re_syntax.specs.Working.Builds.{repeat_last, branches_of, fresh, BuildsOn};
+ghost use Rattle.re_syntax.specs.{Working.TokenSteps.token_of, Tokens.{opening, closing, bar}};
 
 use crate::fault::{FaultKind, PatternFault};
 use crate::interval::Counts;

@@ -1,10 +1,8 @@
 //! A backslash and the byte after it (XBD 9.3.3, 9.4.3), in basic and in extended expressions.
-ghost use Rattle.std.specs.Prelude.{◌≡◌, IsTrue, IfOk, IfErr, MatchOption, codes, drop, ◌++◌, ◌∷◌};
+ghost use Rattle.std.specs.Prelude.{◌≡◌, IfOk, codes, IfErr, MatchOption, ◌∷◌, drop, IsTrue, ◌++◌};
 ghost use Rattle.re_trees.specs.Bytes.{Text, Begins, in_class};
-ghost use Rattle.re_syntax.specs.Faults.{IsAt};
-ghost use Rattle.re_syntax.specs.Escapes.{is_undefined};
-ghost use Rattle.re_syntax.specs.EscapeFaults.{EscapeFault};
-ghost use Rattle.re_syntax.specs.Working.EscapeSteps.{EscapeStands};
+ghost use Rattle.re_syntax.specs.{Escapes.is_undefined, Faults.IsAt};
+ghost use Rattle.re_syntax.specs.{Working.EscapeSteps.EscapeStands, EscapeFaults.EscapeFault};
 
 use crate::ahead::byte_at;
 use crate::fault::{FaultKind, PatternFault};

@@ -1,14 +1,10 @@
 //! Extended regular expressions (XBD 9.4), and their tokens.
-ghost use Rattle.std.specs.Prelude.{◌≡◌, ◌≤◌, ◌<◌, ◌∷◌, Bool, [], IfOk, IfErr};
-ghost use Rattle.std.specs.Prelude.{MatchOption, MatchBool, codes, length, drop, IsTrue};
-ghost use Rattle.re_syntax.specs.Escapes.{is_in};
-ghost use Rattle.re_trees.specs.Bytes.{Begins};
-ghost use Rattle.re_syntax.specs.Faults.{IsAt};
-ghost use Rattle.re_syntax.specs.ExtendedTokens.{Duplication, ExtendedTokenFault};
-ghost use Rattle.re_syntax.specs.ExtendedTokens.{OpensDuplication};
-ghost use Rattle.re_syntax.specs.Working.DuplicationSteps.{HasOne};
-ghost use Rattle.re_syntax.specs.Working.TokenSteps.{token_of, Stands, byte_token};
-ghost use Rattle.re_syntax.specs.declared.syntax.Syntax.TheVariants.{Extended};
+ghost use Rattle.std.specs.Prelude.{MatchBool, ◌<◌, drop, MatchOption, IfOk, ◌≡◌, length, IfErr};
+ghost use Rattle.std.specs.Prelude.{[], ◌≤◌, IsTrue, Bool, codes, ◌∷◌};
+ghost use Rattle.re_syntax.specs.{Faults.IsAt, declared.syntax.Syntax.TheVariants.Extended};
+ghost use Rattle.re_syntax.specs.ExtendedTokens.{OpensDuplication, Duplication, ExtendedTokenFault};
+ghost use Rattle.re_syntax.specs.{Escapes.is_in, Working.TokenSteps.{token_of, Stands, byte_token}};
+ghost use Rattle.{re_syntax.specs.Working.DuplicationSteps.HasOne, re_trees.specs.Bytes.Begins};
 
 use crate::ahead::{after, byte_at};
 use crate::bracket::atom_at;

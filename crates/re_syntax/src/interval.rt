@@ -1,12 +1,10 @@
 //! Interval expressions (XBD 9.3.6 item 5, 9.4.6 item 5), apart from the syntax that opens them.
 ghost use Rattle.std.specs.Prelude.{◌≡◌, ◌≤◌, length, drop, MatchOption};
 ghost use Rattle.re_syntax.specs.Intervals.{IsAllowed, value, HasNoInterval};
-ghost use Rattle.re_syntax.specs.Working.IntervalSteps.{capped};
-ghost use Rattle.re_syntax.specs.Working.IntervalSteps.{IsNoPart};
-ghost use Rattle.re_syntax.specs.IntervalFaults.{IsDisallowed};
-ghost use Rattle.re_syntax.specs.Working.IntervalSteps.{AreDigits, HasNoDigit, IsDigitCount};
-ghost use Rattle.re_syntax.specs.Working.IntervalSteps.{NumberStands, HasNoGreatest};
+ghost use Rattle.re_syntax.specs.Working.IntervalSteps.{capped, IsNoPart, AreDigits, HasNoDigit};
+ghost use Rattle.re_syntax.specs.Working.IntervalSteps.{IsDigitCount, NumberStands, HasNoGreatest};
 ghost use Rattle.re_syntax.specs.Working.IntervalSteps.{GreatestStands, IntervalStands};
+ghost use Rattle.re_syntax.specs.IntervalFaults.{IsDisallowed};
 
 use crate::ahead::after;
 use crate::fault::FaultKind;

@@ -1,14 +1,11 @@
 //! The one loop over the tokens of a text, in each syntax.
-ghost use Rattle.std.specs.Prelude.{◌≡◌, ◌∷◌, ◌++◌, ◌<◌, ◌⊎◌, [], List, IfOk, IfErr, length, drop};
-ghost use Rattle.re_trees.specs.Holds.{positions};
-ghost use Rattle.re_trees.specs.Working.Trees.{expression_of};
-ghost use Rattle.re_syntax.specs.Faults.{IsAt, IsOutOfMemory};
-ghost use Rattle.re_syntax.specs.FirstFaults.{IsTokenFault, IsFirstFault};
-ghost use Rattle.re_syntax.specs.Spelled.{IsSpelled, SpellsNoOther};
+ghost use Rattle.std.specs.Prelude.{[], List, IfErr, ◌≡◌, drop, ◌++◌, ◌⊎◌, ◌∷◌, length, ◌<◌, IfOk};
+ghost use Rattle.re_trees.specs.{Working.Trees.expression_of, Holds.positions};
+ghost use Rattle.re_syntax.specs.FirstFaults.{IsFirstFault, IsTokenFault};
+ghost use Rattle.re_syntax.specs.Working.{ShapeSteps.{IsBounded, Reaches}, Counted.HasPositions};
+ghost use Rattle.re_syntax.specs.Working.{Counted.up_to_word, TokenSteps.{token_of, Stands}};
+ghost use Rattle.re_syntax.specs.{Spelled.{IsSpelled, SpellsNoOther}, Faults.{IsAt, IsOutOfMemory}};
 ghost use Rattle.re_syntax.specs.Tokens.{Token as Read};
-ghost use Rattle.re_syntax.specs.Working.Counted.{HasPositions, up_to_word};
-ghost use Rattle.re_syntax.specs.Working.ShapeSteps.{IsBounded, Reaches};
-ghost use Rattle.re_syntax.specs.Working.TokenSteps.{token_of, Stands};
 
 use crate::basic::basic_token;
 use crate::building::{Building, build, nothing, tree_of_level};

@@ -1,15 +1,11 @@
 //! What is known at a place of a text, in numbers alone: how deep its groups and duplications are,
 //! and how many positions it has.
-ghost use Rattle.std.specs.Prelude.{◌≡◌, ◌+◌, IfOk, IfErr};
-ghost use Rattle.re_trees.specs.Holds.{copies};
-ghost use Rattle.re_syntax.specs.FirstFaults.{start};
-ghost use Rattle.re_syntax.specs.Tokens.{opening, closing, times};
-ghost use Rattle.re_syntax.specs.Working.Builds.{nothing_built};
-ghost use Rattle.re_syntax.specs.Working.Counted.{up_to_word};
+ghost use Rattle.{std.specs.Prelude.{◌≡◌, ◌+◌, IfOk, IfErr}, re_trees.specs.Holds.copies};
+ghost use Rattle.{re_trees.specs.Bytes.Text, re_syntax.specs.FirstFaults.start};
+ghost use Rattle.re_syntax.specs.Working.{ShapeSteps.{Refuses, Ends, EndsOpen}, Counted.up_to_word};
+ghost use Rattle.re_syntax.specs.Working.{Builds.nothing_built, TokenSteps.token_of};
+ghost use Rattle.re_syntax.specs.Tokens.{times, opening, closing};
 ghost use Rattle.re_syntax.specs.Working.ShapeSteps.{Shows, Counts as HasCounts, IsBounded, Takes};
-ghost use Rattle.re_syntax.specs.Working.ShapeSteps.{Refuses, Ends, EndsOpen};
-ghost use Rattle.re_syntax.specs.Working.TokenSteps.{token_of};
-ghost use Rattle.re_trees.specs.Bytes.{Text};
 
 use crate::fault::{FaultKind, PatternFault};
 use crate::interval::Counts;

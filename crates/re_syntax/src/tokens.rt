@@ -1,7 +1,6 @@
 //! The tokens that the text of an expression is cut into (XBD 9.5.1).
 ghost use Rattle.std.specs.Prelude.{◌≡◌, ◌≢◌, ◌≤◌, MatchBool};
-ghost use Rattle.re_trees.specs.Holds.{positions};
-ghost use Rattle.re_trees.specs.Working.Trees.{expression_of, members};
+ghost use Rattle.re_trees.specs.{Working.Trees.{members, expression_of}, Holds.positions};
 ghost use Rattle.re_syntax.specs.Working.TokenSteps.{atom_expression, meant_bytes};
 
 use crate::interval::Counts;

@@ -1,10 +1,9 @@
 -- Bytes, their classes and their other case in the POSIX locale (POSIX.1-2017 XBD 7.3.1, 9.3.5).
-use Rattle.std.specs.Prelude.{◌≡◌, ℕ, ◌+◌, ◌-◌, Bool, ◌&&◌, ◌||◌, nat_le, nat_eq, List, ◌++◌, codes}
-use Rattle.std.specs.Prelude.{if◌then◌else◌}
+use Rattle.std.specs.Prelude.{ℕ, ◌≡◌, ◌+◌, ◌&&◌, if◌then◌else◌, List, nat_le, codes, Bool, ◌-◌}
+use Rattle.std.specs.Prelude.{◌++◌, nat_eq, ◌||◌}
 use Rattle.re_trees.specs.declared.class.Class.TheVariants.{Upper, Lower, Digit, Alpha, Alnum}
 use Rattle.re_trees.specs.declared.class.Class.TheVariants.{Blank, Space, Cntrl, Punct, Graph}
-use Rattle.re_trees.specs.declared.class.Class.TheVariants.{Print, Xdigit}
-use Rattle.re_trees.specs.declared.class.Class.{Class}
+use Rattle.re_trees.specs.declared.class.Class.{TheVariants.{Print, Xdigit}, Class}
 
 abbrev pub Text : Type 0
 Text = List ℕ

@@ -3,8 +3,7 @@
 use Rattle.std.specs.Prelude.{◌≡◌, ℕ, zero, suc, ◌+◌, ◌*◌, max, ◌≤◌, ◌⊎◌, Bool, true, false, length}
 use Rattle.std.specs.Prelude.{Option, Some, None, slice_get, IsTrue, IfSome}
 use Rattle.re_trees.specs.Expression.{Expression, empty, one_of, none_of, begin, end, cat_none}
-use Rattle.re_trees.specs.Expression.{cat_more, alt_none, alt_more, repeat}
-use Rattle.re_trees.specs.Bytes.{Text, closed}
+use Rattle.re_trees.specs.{Expression.{cat_more, alt_none, alt_more, repeat}, Bytes.{Text, closed}}
 
 -- cuts split the stretch from i to j into the given number of turns, and P holds on each
 abbrev pub Turns : (ℕ → ℕ → Type 0) → ℕ → ℕ → ℕ → Type 0

@@ -1,7 +1,6 @@
 -- The parts of a line that are matched. Each is the earliest match, and the longest of those that
 -- begin there (XBD 9.1; GNU grep, option -o).
-use Rattle.std.specs.Prelude.{◌≡◌, ℕ, ◌<◌, ◌≤◌, Bool, List, [], ◌∷◌, length, Any}
-use Rattle.std.specs.Bool.{OnTrue}
+use Rattle.std.specs.{Prelude.{◌≡◌, ℕ, ◌<◌, ◌≤◌, Bool, List, [], ◌∷◌, length, Any}, Bool.OnTrue}
 use Rattle.re_trees.specs.{Bytes.Text, Expression.Expression, Holds.Holds}
 
 module _ (expressions : List Expression) (line : Text) (whole : Bool) where

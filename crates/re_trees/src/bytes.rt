@@ -1,7 +1,7 @@
-ghost use Rattle.std.specs.Prelude.{◌≡◌, ◌≢◌, ◌<◌, ◌+◌, ◌-◌, ◌^◌, ℕ, IsTrue, MatchBool, MatchOption, false, min, not, true};
-ghost use Rattle.std.specs.Iterator.{at_most};
-ghost use Rattle.re_trees.specs.Working.Trees.{IsLowest, Takes, members};
+ghost use Rattle.std.specs.Prelude.{◌≡◌, ◌≢◌, ◌<◌, ◌+◌, ◌-◌, ◌^◌, ℕ, IsTrue, MatchBool};
+ghost use Rattle.std.specs.{Prelude.{MatchOption, false, min, not, true}, Iterator.at_most};
 ghost use Rattle.re_trees.specs.Bytes.{nothing, only, range, union, in_class, closed};
+ghost use Rattle.re_trees.specs.Working.Trees.{Takes, members, IsLowest};
 
 use crate::class::Class;
 

@@ -1,6 +1,5 @@
 -- What is found in lines: marks, their number, and parts.
-use Rattle.line_finds.proofs.Prelude.{◌≡◌, ℕ, zero, suc, ◌+◌, ◌-◌, ◌<◌, ◌≤◌, Bool, false, List, [], ◌∷◌, ◌++◌, inl, inr, length, take, drop, replicate, get_or, refl, sym, ap, ◌∙◌, arith, cases_lt, get_or-append, take-append_seam, length-append, length-replicate, length-take, length-drop, get_or-drop, get_or_past, get_or-append-add, All-weaker, Span, Finds, FoundIn, finds_at, no_finds, numbers_at, is_paired, AreBelow, paired_before, AreMarks, set_before}
-use Rattle.line_finds.proofs.lemmas.PairLaws.{none_at}
+use Rattle.line_finds.proofs.{Prelude.{◌≡◌, ℕ, zero, suc, ◌+◌, ◌-◌, ◌<◌, ◌≤◌, Bool, false, List, [], ◌∷◌, ◌++◌, inl, inr, length, take, drop, replicate, get_or, refl, sym, ap, ◌∙◌, arith, cases_lt, get_or-append, take-append_seam, length-append, length-replicate, length-take, length-drop, get_or-drop, get_or_past, get_or-append-add, All-weaker, Span, Finds, FoundIn, finds_at, no_finds, numbers_at, is_paired, AreBelow, paired_before, AreMarks, set_before}, lemmas.PairLaws.none_at}
 
 -- ---- the number of marks
 

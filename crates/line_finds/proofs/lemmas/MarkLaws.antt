@@ -1,7 +1,6 @@
 -- Marks of lines that are paired with some pattern, or with some of them.
-use Rattle.line_finds.proofs.Prelude.{◌≡◌, ℕ, suc, ◌<◌, ◌==◌, Bool, true, false, not, ◌||◌, List, [], ◌∷◌, inl, inr, length, replicate, get_or, sym, arith, list_any, cases_eq, nat_tests, set, get_or-map, or-true, or-false, length-map, length-set, get_or-set_other, length-replicate, get_or-replicate, get_or-set_at, All-head, All-tail, All-get_or, Match, numbers_at, has_own, is_other, is_paired, AreBelow, pair_of, pairs_of, marked, marked_of}
+use Rattle.line_finds.proofs.{Prelude.{◌≡◌, ℕ, suc, ◌<◌, ◌==◌, Bool, true, false, not, ◌||◌, List, [], ◌∷◌, inl, inr, length, replicate, get_or, sym, arith, list_any, cases_eq, nat_tests, set, get_or-map, or-true, or-false, length-map, length-set, get_or-set_other, length-replicate, get_or-replicate, get_or-set_at, All-head, All-tail, All-get_or, Match, numbers_at, has_own, is_other, is_paired, AreBelow, pair_of, pairs_of, marked, marked_of}, lemmas.PairLaws.{eq_yes, eq_no}}
 use Rattle.std.proofs.Math.Bool.{or_assoc as or-assoc}
-use Rattle.line_finds.proofs.lemmas.PairLaws.{eq_yes, eq_no}
 
 not_none : (n : ℕ) → (suc n == 0) ≡ false
 not_none n = grind (arith, nat_tests)

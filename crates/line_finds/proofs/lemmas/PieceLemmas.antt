@@ -1,6 +1,5 @@
 -- Lists as one list, and the places where they begin.
-use Rattle.std.specs.Prelude.{OnErr}
-use Rattle.line_finds.proofs.Prelude.{map, add-zero, ◌≡◌, ℕ, ◌+◌, ◌-◌, ◌<◌, ◌≤◌, List, [], ◌∷◌, ◌++◌, length, take, drop, refl, ap, sym, ◌∙◌, arith, length-append, append-nil, get_or, suc, zero, inl, inr, cases_eq, cond-true, cond-false, eq-eqb, ne_eqb, IfOk, is_err, false, Result, Ok, Err, take-take, take-add, take_more, drop_more, take_at, drop_at, take-append-drop, take_all, length-replicate, append_assoc, replicate, nat_eq, if◌then◌else◌, all_items, starts_from, cut, AreLists, flat_map-append}
+use Rattle.{std.specs.Prelude.OnErr, line_finds.proofs.Prelude.{map, add-zero, ◌≡◌, ℕ, ◌+◌, ◌-◌, ◌<◌, ◌≤◌, List, [], ◌∷◌, ◌++◌, length, take, drop, refl, ap, sym, ◌∙◌, arith, length-append, append-nil, get_or, suc, zero, inl, inr, cases_eq, cond-true, cond-false, eq-eqb, ne_eqb, IfOk, is_err, false, Result, Ok, Err, take-take, take-add, take_more, drop_more, take_at, drop_at, take-append-drop, take_all, length-replicate, append_assoc, replicate, nat_eq, if◌then◌else◌, all_items, starts_from, cut, AreLists, flat_map-append}}
 
 -- ---- lists one after the other
 

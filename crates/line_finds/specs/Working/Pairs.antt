@@ -1,7 +1,7 @@
 -- Pairs of a line's and a pattern's number as they are kept, and what becomes of them.
-use Rattle.std.specs.Prelude.{ℕ, ◌+◌, ◌-◌, Bool, true, false, not, ◌||◌, List, [], ◌∷◌, map, get_or, slice_set, nat_lt, nat_le, if◌then◌else◌}
-use Rattle.line_finds.specs.declared.matches.Match.{Match}
-use Rattle.line_finds.specs.Working.Finds.{is_other, lowered}
+use Rattle.std.specs.Prelude.{ℕ, ◌+◌, ◌-◌, Bool, true, false, not, ◌||◌, List, [], ◌∷◌, map, get_or}
+use Rattle.std.specs.Prelude.{slice_set, nat_lt, nat_le, if◌then◌else◌}
+use Rattle.line_finds.specs.{declared.matches.Match.Match, Working.Finds.{is_other, lowered}}
 
 abbrev pub pair_of : Match → ℕ × ℕ
 pair_of pair = (pair.line, pair.number)

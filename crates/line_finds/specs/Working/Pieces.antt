@@ -1,6 +1,5 @@
 -- Lists as one list, with the places where each of them begins.
-use Rattle.std.specs.Prelude.{◌≡◌, ℕ, ◌+◌, ◌-◌, List, [], ◌∷◌, length, take, drop}
-use Rattle.std.specs.List.{flat_map}
+use Rattle.std.specs.{Prelude.{◌≡◌, ℕ, ◌+◌, ◌-◌, List, [], ◌∷◌, length, take, drop}, List.flat_map}
 
 -- the lists one after the other
 abbrev pub all_items : {X : Type 0} → List (List X) → List X

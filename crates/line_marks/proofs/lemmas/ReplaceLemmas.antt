@@ -1,6 +1,5 @@
 -- What is left untouched where lines are replaced by others.
-use Rattle.line_marks.proofs.Prelude.{◌≡◌, ℕ, ◌+◌, ◌-◌, ◌^◌, ◌<◌, ◌≤◌, List, [], ◌∷◌, ◌++◌, length, refl, ap, ◌∙◌, inl, inr, arith, cases_lt, Stretch, Fits, Marked, Splices, most_stretches, Loses, Covers, Replaces, SplicesList, AreCounted, Passes, led, Touched, Takes, take, drop, length-append, length-drop, length-take, take-append-drop, drop-drop}
-use Rattle.line_marks.proofs.lemmas.{CoverLemmas.at, RoomLemmas.fits_within, RoomLemmas.led_length}
+use Rattle.line_marks.proofs.{Prelude.{◌≡◌, ℕ, ◌+◌, ◌-◌, ◌^◌, ◌<◌, ◌≤◌, List, [], ◌∷◌, ◌++◌, length, refl, ap, ◌∙◌, inl, inr, arith, cases_lt, Stretch, Fits, Marked, Splices, most_stretches, Loses, Covers, Replaces, SplicesList, AreCounted, Passes, led, Touched, Takes, take, drop, length-append, length-drop, length-take, take-append-drop, drop-drop}, lemmas.{CoverLemmas.at, RoomLemmas.{fits_within, led_length}}}
 
 -- the stretch that has all of the lines that are replaced gets the new ones
 pub one_replaced : (start count added : ℕ) {old : List Stretch} {one : Stretch} {rest : List Stretch} → Covers start (start + count) old (one ∷ rest) → one.kept ≤ start → start + count ≤ one.kept + one.added → Replaces start count added old (at one.kept one.removed (one.added - count + added) ∷ rest)

@@ -1,6 +1,5 @@
 -- Lists of stretches of which two become one, or some are replaced by one.
-use Rattle.line_marks.proofs.Prelude.{◌≡◌, ℕ, zero, suc, ◌+◌, ◌-◌, ◌^◌, ◌<◌, ◌≤◌, List, [], ◌∷◌, ◌++◌, length, take, drop, get_or, refl, subst, inl, inr, arith, drop_at, length-take-le, Stretch, Fits, Loses, AreCounted, led}
-use Rattle.line_marks.proofs.lemmas.CoverLemmas.{both, both_lose}
+use Rattle.line_marks.proofs.{Prelude.{◌≡◌, ℕ, zero, suc, ◌+◌, ◌-◌, ◌^◌, ◌<◌, ◌≤◌, List, [], ◌∷◌, ◌++◌, length, take, drop, get_or, refl, subst, inl, inr, arith, drop_at, length-take-le, Stretch, Fits, Loses, AreCounted, led}, lemmas.CoverLemmas.{both, both_lose}}
 
 -- the list without the stretches from `first` up to `past`
 abbrev cut : ℕ → ℕ → List Stretch → List Stretch

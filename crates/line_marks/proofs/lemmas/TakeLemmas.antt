@@ -1,6 +1,5 @@
 -- A stretch that takes the place of others: one more, and the lines after them.
-use Rattle.line_marks.proofs.Prelude.{◌≡◌, ℕ, ◌+◌, ◌-◌, ◌^◌, ◌<◌, ◌≤◌, List, [], ◌∷◌, length, drop, get_or, slice_get, Option, None, Some, refl, inl, inr, arith, drop_more, drop_all, Stretch, Touched, Covers, AreCounted, HasLead, led, Takes}
-use Rattle.line_marks.proofs.lemmas.CoverLemmas.{at, both, wide, covers_more, idle_covers, both_cover, wide_covers, led_none, led_more, lead_more, lead_none}
+use Rattle.line_marks.proofs.{Prelude.{◌≡◌, ℕ, ◌+◌, ◌-◌, ◌^◌, ◌<◌, ◌≤◌, List, [], ◌∷◌, length, drop, get_or, slice_get, Option, None, Some, refl, inl, inr, arith, drop_more, drop_all, Stretch, Touched, Covers, AreCounted, HasLead, led, Takes}, lemmas.CoverLemmas.{at, both, wide, covers_more, idle_covers, both_cover, wide_covers, led_none, led_more, lead_more, lead_none}}
 
 -- ---- the first
 

@@ -1,7 +1,7 @@
 -- What a stretch takes in place of others.
 use Rattle.std.specs.Prelude.{ℕ, ◌+◌, ◌≤◌, List, ◌∷◌, length, drop}
-use Rattle.line_marks.specs.{declared.stretch.Stretch.Stretch, declared.touched.Touched.Touched}
-use Rattle.line_marks.specs.{Working.Covers.Covers, Working.Places.HasLead, Working.Places.led}
+use Rattle.line_marks.specs.declared.{stretch.Stretch.Stretch, touched.Touched.Touched}
+use Rattle.line_marks.specs.Working.{Covers.Covers, Places.{HasLead, led}}
 
 -- one stretch takes the place of the first ones, and some of the lines after them: with it the
 -- lines from line `start` up to line `end` are lost, and it has those up to line `reach`

@@ -1,8 +1,6 @@
 -- What was added, part by part: sequences, choices and repeated parts, from the last part to the
 -- first.
-use Rattle.re_auto.proofs.Prelude.{◌≡◌, ℕ, zero, suc, ◌+◌, ◌-◌, ◌<◌, ◌≤◌, Bool, IsTrue, List, [], ◌∷◌, map, drop, length, get_or, drop-cons, ◌↔◌, sym, subst, arith, Expression, cat, alt, expression_of, positions, Tree, Ends, Rows, Empty, Has, Part, in_turn, either, again, optional, part_of, Shows, Adds, HasRoom, HasWidth, HasRows, IsAdded, IsAddedOf, IsBlank, empty_at, shown}
-use Rattle.re_auto.proofs.lemmas.{Numbered.IsNumbered, WithoutPositions.no_positions, CountLaws.positions-alt}
-use Rattle.re_auto.proofs.lemmas.PartLemmas.{blank_as, shows_in_turn, shows_either, shows_optional, shows_again, adds_in_turn, adds_either, adds_again, adds_optional, width_of, room_kept, has_rows}
+use Rattle.re_auto.proofs.{Prelude.{◌≡◌, ℕ, zero, suc, ◌+◌, ◌-◌, ◌<◌, ◌≤◌, Bool, IsTrue, List, [], ◌∷◌, map, drop, length, get_or, drop-cons, ◌↔◌, sym, subst, arith, Expression, cat, alt, expression_of, positions, Tree, Ends, Rows, Empty, Has, Part, in_turn, either, again, optional, part_of, Shows, Adds, HasRoom, HasWidth, HasRows, IsAdded, IsAddedOf, IsBlank, empty_at, shown}, lemmas.{Numbered.IsNumbered, WithoutPositions.no_positions, CountLaws.positions-alt, PartLemmas.{blank_as, shows_in_turn, shows_either, shows_optional, shows_again, adds_in_turn, adds_either, adds_again, adds_optional, width_of, room_kept, has_rows}}}
 
 -- an expression without positions
 pub blank_added : (e : Expression) {empty : Empty} {beyond : ℕ} {rows : Rows} {ends : Ends} → positions e ≡ 0 →

@@ -1,6 +1,5 @@
 -- A part again and again, and a part that may be left out.
-use Rattle.re_auto.proofs.Prelude.{◌≡◌, ℕ, zero, suc, ◌⊎◌, inl, inr, refl, arith, Text, Turns, Part, Reaches, PartHolds, again, optional}
-use Rattle.re_auto.proofs.lemmas.Chains.{not_at_begin, not_at_end, reaches_bounds, graft, widen}
+use Rattle.re_auto.proofs.{Prelude.{◌≡◌, ℕ, zero, suc, ◌⊎◌, inl, inr, refl, arith, Text, Turns, Part, Reaches, PartHolds, again, optional}, lemmas.Chains.{not_at_begin, not_at_end, reaches_bounds, graft, widen}}
 
 -- one turn more after some turns
 last_added : (P : ℕ → ℕ → Type 0) (turns i k j : ℕ) → Turns P turns i k → P k j → Turns P (suc turns) i j

@@ -1,6 +1,5 @@
 -- Where a part's chains of positions can run, and how one part's chains become another's.
-use Rattle.re_auto.proofs.Prelude.{◌≡◌, ℕ, zero, suc, ◌<◌, ◌≤◌, Bool, false, inl, inr, ◌++◌, length, slice_index, refl, arith, ne_eqb, length-append, get_or_append_left, Text, Part, is_begin, is_end, ByteAt, Reaches}
-use Rattle.re_trees.proofs.lemmas.BestStretches.{next_or_before}
+use Rattle.{re_auto.proofs.Prelude.{◌≡◌, ℕ, zero, suc, ◌<◌, ◌≤◌, Bool, false, inl, inr, ◌++◌, length, slice_index, refl, arith, ne_eqb, length-append, get_or_append_left, Text, Part, is_begin, is_end, ByteAt, Reaches}, re_trees.proofs.lemmas.BestStretches.next_or_before}
 
 -- a place after the first is not the first
 pub not_at_begin : (k : ℕ) → 0 < k → is_begin k ≡ false

@@ -1,6 +1,5 @@
 -- Classes of bytes: rows that are appended to a table, and the bytes that are marked one by one.
-use Rattle.re_auto.proofs.Prelude.{◌≡◌, ◌≢◌, ℕ, suc, ◌+◌, ◌-◌, ◌*◌, ◌<◌, ◌≤◌, max, Bool, false, IsTrue, List, [], ◌∷◌, ◌++◌, length, length-append, drop, get_or, set, inl, inr, ◌↔◌, sym, ap, ◌∙◌, arith, drop-append_seam, cases_eq, take-append-le, take-length, get_or_append_left, get_or-append_right, get_or-set_same, get_or-set_other, row_of, IsClassed}
-use Rattle.re_auto.proofs.lemmas.{BitLemmas.row_swap, RowLemmas.row_within}
+use Rattle.re_auto.proofs.{Prelude.{◌≡◌, ◌≢◌, ℕ, suc, ◌+◌, ◌-◌, ◌*◌, ◌<◌, ◌≤◌, max, Bool, false, IsTrue, List, [], ◌∷◌, ◌++◌, length, length-append, drop, get_or, set, inl, inr, ◌↔◌, sym, ap, ◌∙◌, arith, drop-append_seam, cases_eq, take-append-le, take-length, get_or_append_left, get_or-append_right, get_or-set_same, get_or-set_other, row_of, IsClassed}, lemmas.{BitLemmas.row_swap, RowLemmas.row_within}}
 
 -- a row within a table stays where more is appended
 row_stays : (table more : List ℕ) (width k : ℕ) → k * width + width ≤ length table → row_of (table ++ more) width k ≡ row_of table width k

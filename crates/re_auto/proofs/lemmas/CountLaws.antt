@@ -1,6 +1,5 @@
 -- Counts of positions: of sequences and choices, and up to a limit.
-use Rattle.re_auto.proofs.Prelude.{◌≡◌, ℕ, zero, suc, ◌+◌, ◌*◌, ◌<◌, min, List, [], ◌∷◌, ◌++◌, map, take, length, get_or, Option, Vec, Box, Global, refl, arith, take_more, map-append, Expression, cat, alt, expression_of, positions, copies, most_positions, Tree, Alt, Repeat}
-use Rattle.re_trees.proofs.lemmas.ExpressionLaws.{expression-Alt, expression-Repeat}
+use Rattle.{re_auto.proofs.Prelude.{◌≡◌, ℕ, zero, suc, ◌+◌, ◌*◌, ◌<◌, min, List, [], ◌∷◌, ◌++◌, map, take, length, get_or, Option, Vec, Box, Global, refl, arith, take_more, map-append, Expression, cat, alt, expression_of, positions, copies, most_positions, Tree, Alt, Repeat}, re_trees.proofs.lemmas.ExpressionLaws.{expression-Alt, expression-Repeat}}
 
 -- a choice has as many positions as the sequence of its branches
 pub positions-alt : (es : List Expression) → positions (alt es) ≡ positions (cat es)

@@ -1,6 +1,5 @@
 -- The tables of an expression, from blank rows to what they say.
-use Rattle.re_auto.proofs.Prelude.{◌≡◌, ℕ, ◌+◌, ◌-◌, ◌*◌, ◌/◌, ◌%◌, ◌<◌, ◌≤◌, Bool, List, length-take, drop, inl, inr, ◌↔◌, sym, ap, ◌∙◌, trans, arith, get_or-take, get_or-drop, Global, Vec, Expression, positions, most_positions, Classes, Ends, Rows, WordRange, Has, row_of, part_of, CoverRows, Marks, AreTablesOf, IsAddedOf, AreBlankRows, AreClasses}
-use Rattle.re_auto.proofs.lemmas.{BitLemmas.within, RowLemmas.row_within}
+use Rattle.re_auto.proofs.{Prelude.{◌≡◌, ℕ, ◌+◌, ◌-◌, ◌*◌, ◌/◌, ◌%◌, ◌<◌, ◌≤◌, Bool, List, length-take, drop, inl, inr, ◌↔◌, sym, ap, ◌∙◌, trans, arith, get_or-take, get_or-drop, Global, Vec, Expression, positions, most_positions, Classes, Ends, Rows, WordRange, Has, row_of, part_of, CoverRows, Marks, AreTablesOf, IsAddedOf, AreBlankRows, AreClasses}, lemmas.{BitLemmas.within, RowLemmas.row_within}}
 
 -- a row of a table without members has none
 pub none_in_row : (table : List ℕ) (width p q : ℕ) → ((e : ℕ) → ¬ Has table e) → ¬ Has (row_of table width p) q

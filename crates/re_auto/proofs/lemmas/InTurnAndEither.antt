@@ -1,7 +1,5 @@
 -- Two parts in turn, and one of two.
-use Rattle.re_auto.proofs.Prelude.{ℕ, false, ◌⊎◌, inl, inr, refl, ◌∙◌, subst, arith, ⊤, Text, Part, is_end, Reaches, PartHolds, in_turn, either}
-use Rattle.re_auto.proofs.lemmas.{Numbered.IsNumbered, Chains.not_at_begin, Chains.not_at_end, Chains.reaches_bounds, Chains.graft, Chains.widen}
-use Rattle.re_auto.proofs.lemmas.JoinedChains.{Run, of_first, of_second, of_both, run}
+use Rattle.re_auto.proofs.{Prelude.{ℕ, false, ◌⊎◌, inl, inr, refl, ◌∙◌, subst, arith, ⊤, Text, Part, is_end, Reaches, PartHolds, in_turn, either}, lemmas.{Numbered.IsNumbered, Chains.{not_at_begin, not_at_end, reaches_bounds, graft, widen}, JoinedChains.{Run, of_first, of_second, of_both, run}}}
 
 module _ (f g : Part) (line : Text) where
   -- a chain of the first part that ends, and one of the second after it

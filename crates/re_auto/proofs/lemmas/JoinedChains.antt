@@ -1,7 +1,6 @@
 -- How a chain of two joined parts runs: in the one, in the other, or across from the first to the
 -- second.
-use Rattle.re_auto.proofs.Prelude.{ℕ, zero, suc, ◌<◌, ◌≤◌, Bool, false, inl, inr, length, slice_index, refl, arith, Text, Part, is_begin, Reaches, joined}
-use Rattle.re_auto.proofs.lemmas.{Numbered.IsNumbered, Chains.not_at_begin, Chains.reaches_bounds}
+use Rattle.re_auto.proofs.{Prelude.{ℕ, zero, suc, ◌<◌, ◌≤◌, Bool, false, inl, inr, length, slice_index, refl, arith, Text, Part, is_begin, Reaches, joined}, lemmas.{Numbered.IsNumbered, Chains.{not_at_begin, reaches_bounds}}}
 
 module _ (f g : Part) (Skip : Bool → Type 0) (Cross : Type 0) (E : Bool → Bool → Type 0) (L : Bool → ℕ → Type 0) (from mid to : ℕ) (nf : IsNumbered f from mid) (ng : IsNumbered g mid to) where
   abbrev both : Part

@@ -1,6 +1,5 @@
 -- Parts joined to one another, by what their ends show and what was added to the rows.
-use Rattle.re_auto.proofs.Prelude.{◌≡◌, ℕ, suc, ◌+◌, ◌≤◌, Bool, true, false, IsTrue, ◌⊎◌, ◌↔◌, refl, ◌∙◌, arith, mul-le-mul_right, ⊤, rfl, and, trans, Ends, Rows, Empty, SaysEmpty, Has, Part, without_positions, in_turn, either, again, optional, Shows, Adds, HasRoom, HasWidth, HasRows, IsAdded, empty_at, shown}
-use Rattle.re_auto.proofs.lemmas.{BitLemmas.one_of, BitLemmas.or_never, Numbered.IsNumbered, WithoutPositions.HasNoPositions}
+use Rattle.re_auto.proofs.{Prelude.{◌≡◌, ℕ, suc, ◌+◌, ◌≤◌, Bool, true, false, IsTrue, ◌⊎◌, ◌↔◌, refl, ◌∙◌, arith, mul-le-mul_right, ⊤, rfl, and, trans, Ends, Rows, Empty, SaysEmpty, Has, Part, without_positions, in_turn, either, again, optional, Shows, Adds, HasRoom, HasWidth, HasRows, IsAdded, empty_at, shown}, lemmas.{BitLemmas.{one_of, or_never}, Numbered.IsNumbered, WithoutPositions.HasNoPositions}}
 
 -- a condition that always holds says nothing
 pub skipped : {A B C : Type 0} → (B ↔ (A ⊎ C)) → B ↔ (A ⊎ ⊤ × C)

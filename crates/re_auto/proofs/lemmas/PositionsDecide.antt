@@ -1,7 +1,5 @@
 -- The positions of an expression say where it holds.
-use Rattle.re_auto.proofs.Prelude.{◌≡◌, ℕ, zero, suc, ◌+◌, ◌<◌, ◌≤◌, Bool, IsTrue, inl, inr, ◌↔◌, length, slice_get, slice_index, Some, refl, sym, ◌∙◌, subst, arith, eq-eqb, eqb-true, ⊤, Text, Expression, empty, one_of, none_of, begin, end, cat_none, cat_more, alt_none, alt_more, repeat, Holds, positions, is_begin, is_end, Reaches, PartHolds, without_positions, one_position, part_of, PositionsDecide, slice_get_within, slice_get-get_or, get_or_from_slice_get}
-use Rattle.re_auto.proofs.lemmas.{Chains.takes_each, Numbered.part_numbered, RepeatedByCopies.repeated_give, RepeatedByCopies.repeated_need}
-use Rattle.re_auto.proofs.lemmas.InTurnAndEither.{cut, joint, choose, chosen}
+use Rattle.re_auto.proofs.{Prelude.{◌≡◌, ℕ, zero, suc, ◌+◌, ◌<◌, ◌≤◌, Bool, IsTrue, inl, inr, ◌↔◌, length, slice_get, slice_index, Some, refl, sym, ◌∙◌, subst, arith, eq-eqb, eqb-true, ⊤, Text, Expression, empty, one_of, none_of, begin, end, cat_none, cat_more, alt_none, alt_more, repeat, Holds, positions, is_begin, is_end, Reaches, PartHolds, without_positions, one_position, part_of, PositionsDecide, slice_get_within, slice_get-get_or, get_or_from_slice_get}, lemmas.{Chains.takes_each, Numbered.part_numbered, RepeatedByCopies.{repeated_give, repeated_need}, InTurnAndEither.{cut, joint, choose, chosen}}}
 
 -- one byte that passes a test is read by one position that takes such bytes
 byte_decides : (P : ℕ → Type 0) (n : ℕ) (line : Text) (i j : ℕ) →

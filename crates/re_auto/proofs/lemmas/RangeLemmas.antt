@@ -1,6 +1,5 @@
 -- Ranges of words that contain the members of rows.
-use Rattle.re_auto.proofs.Prelude.{◌≡◌, ℕ, ◌/◌, ◌%◌, ◌<◌, ◌≤◌, List, [], ◌∷◌, ◌++◌, zero, suc, length, get_or, ◌⊎◌, inl, inr, ◌↔◌, arith, cases_lt, bit_at-zero, same_Some, none-some, bit_or, Some, slice_get, bit_at, WordRange, Has, Covers}
-use Rattle.re_auto.proofs.lemmas.BitLemmas.{in_either, or_never}
+use Rattle.re_auto.proofs.{Prelude.{◌≡◌, ℕ, ◌/◌, ◌%◌, ◌<◌, ◌≤◌, List, [], ◌∷◌, ◌++◌, zero, suc, length, get_or, ◌⊎◌, inl, inr, ◌↔◌, arith, cases_lt, bit_at-zero, same_Some, none-some, bit_or, Some, slice_get, bit_at, WordRange, Has, Covers}, lemmas.BitLemmas.{in_either, or_never}}
 
 -- no number is in a word that is 0
 none_in_zero : (xs : List ℕ) (q : ℕ) → get_or xs (q / 64) 0 ≡ 0 → Has xs q → ⊥

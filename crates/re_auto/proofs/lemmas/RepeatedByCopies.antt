@@ -1,8 +1,5 @@
 -- A part repeated by copies.
-use Rattle.re_auto.proofs.Prelude.{◌≡◌, ℕ, zero, suc, ◌+◌, ◌-◌, ◌*◌, ◌≤◌, Bool, true, false, nat_le, inl, inr, ◌↔◌, Option, Some, None, refl, arith, leb-true, le-leb, Text, Turns, IsWithin, Part, PartHolds, in_turn, again, copies_before, up_to, only_if, repeated}
-use Rattle.re_auto.proofs.lemmas.Numbered.{IsNumbered, copies_before_numbered, up_to_numbered, again_numbered}
-use Rattle.re_auto.proofs.lemmas.InTurnAndEither.{cut, joint}
-use Rattle.re_auto.proofs.lemmas.AgainAndOptional.{turns_of, of_turns, optional_of, of_optional}
+use Rattle.re_auto.proofs.{Prelude.{◌≡◌, ℕ, zero, suc, ◌+◌, ◌-◌, ◌*◌, ◌≤◌, Bool, true, false, nat_le, inl, inr, ◌↔◌, Option, Some, None, refl, arith, leb-true, le-leb, Text, Turns, IsWithin, Part, PartHolds, in_turn, again, copies_before, up_to, only_if, repeated}, lemmas.{Numbered.{IsNumbered, copies_before_numbered, up_to_numbered, again_numbered}, InTurnAndEither.{cut, joint}, AgainAndOptional.{turns_of, of_turns, optional_of, of_optional}}}
 
 -- turns of one relation are turns of a wider one
 turns_map : (R S : ℕ → ℕ → Type 0) → ((i j : ℕ) → R i j → S i j) → (turns i j : ℕ) → Turns R turns i j → Turns S turns i j

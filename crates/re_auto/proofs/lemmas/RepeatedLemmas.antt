@@ -1,8 +1,5 @@
 -- Repeated parts that are added: their copies, tails, and those without positions.
-use Rattle.re_auto.proofs.Prelude.{◌≡◌, ℕ, zero, suc, ◌+◌, ◌-◌, ◌*◌, ◌<◌, ◌≤◌, min, max, Bool, IsTrue, le-leb, length, inl, inr, ◌↔◌, Option, Some, None, IfSome, sym, ap, ◌∙◌, subst, rfl, symm, trans, arith, mul-le-mul_right, lt-leb, Expression, repeat, most_positions, positions, Ends, Rows, Empty, Part, in_turn, again, optional, copies_before, up_to, only_if, part_of, Shows, Adds, IsAdded, IsAddedOf, IsBlank, AreTurns, AreUpTo, IsTail, empty_at, shown}
-use Rattle.re_auto.proofs.lemmas.{BitLemmas.one_of, AddedLemmas.turn_added, AddedLemmas.optional_added, AddedLemmas.again_added}
-use Rattle.re_auto.proofs.lemmas.WithoutPositions.{HasNoPositions, bare, turns_empty, no_positions, repeat_empty, repeat_no_positions}
-use Rattle.re_auto.proofs.lemmas.PartLemmas.{always, never_holds, neither, shows_as, blank_as}
+use Rattle.re_auto.proofs.{Prelude.{◌≡◌, ℕ, zero, suc, ◌+◌, ◌-◌, ◌*◌, ◌<◌, ◌≤◌, min, max, Bool, IsTrue, le-leb, length, inl, inr, ◌↔◌, Option, Some, None, IfSome, sym, ap, ◌∙◌, subst, rfl, symm, trans, arith, mul-le-mul_right, lt-leb, Expression, repeat, most_positions, positions, Ends, Rows, Empty, Part, in_turn, again, optional, copies_before, up_to, only_if, part_of, Shows, Adds, IsAdded, IsAddedOf, IsBlank, AreTurns, AreUpTo, IsTail, empty_at, shown}, lemmas.{BitLemmas.one_of, AddedLemmas.{turn_added, optional_added, again_added}, WithoutPositions.{HasNoPositions, bare, turns_empty, no_positions, repeat_empty, repeat_no_positions}, PartLemmas.{always, never_holds, neither, shows_as, blank_as}}}
 
 -- an equal number of positions
 pub resized : {f : ℕ → Part} {size other beyond : ℕ} {r0 r1 : Rows} {a : Ends} → IsAdded f size beyond r0 r1 a → size ≡ other → IsAdded f other beyond r0 r1 a

@@ -1,7 +1,5 @@
 -- Rows of tables while they are written.
-use Rattle.re_auto.proofs.Prelude.{◌≡◌, ℕ, suc, ◌+◌, ◌*◌, ◌<◌, ◌≤◌, Bytes, true≢false, IsTrue, ap, ◌∙◌, nothing, without, ◌⊎◌, inl, inr, ◌↔◌, refl, sym, rfl, trans, arith, mul-le-mul_right, cases_eq}
-use Rattle.re_auto.proofs.lemmas.BitLemmas.{one_of}
-use Rattle.re_trees.proofs.lemmas.SetBits.{still, was}
+use Rattle.{re_auto.proofs.{Prelude.{◌≡◌, ℕ, suc, ◌+◌, ◌*◌, ◌<◌, ◌≤◌, Bytes, true≢false, IsTrue, ap, ◌∙◌, nothing, without, ◌⊎◌, inl, inr, ◌↔◌, refl, sym, rfl, trans, arith, mul-le-mul_right, cases_eq}, lemmas.BitLemmas.one_of}, re_trees.proofs.lemmas.SetBits.{still, was}}
 
 -- a row before the last has its words within the table
 pub row_within : (p rows width : ℕ) → p < rows → p * width + width ≤ rows * width

@@ -1,6 +1,5 @@
 -- Sets of positions are what the chains say, step by step.
-use Rattle.re_auto.proofs.Prelude.{ℕ, suc, ◌<◌, inl, inr, ◌↔◌, ◌++◌, arith, length, slice_index, refl, Text, Expression, Holds, Mode, Part, is_begin, is_end, part_of, MayBegin, IsAfter, IsNext, Accepts}
-use Rattle.re_auto.proofs.lemmas.{Chains.reaches_on, Chains.reaches_back, PositionsDecide.positions_decide}
+use Rattle.re_auto.proofs.{Prelude.{ℕ, suc, ◌<◌, inl, inr, ◌↔◌, ◌++◌, arith, length, slice_index, refl, Text, Expression, Holds, Mode, Part, is_begin, is_end, part_of, MayBegin, IsAfter, IsNext, Accepts}, lemmas.{Chains.{reaches_on, reaches_back}, PositionsDecide.positions_decide}}
 
 -- no position is reached at the line's first place
 pub none_is_right : (part : Part) (mode : Mode) (line : Text) (S : ℕ → Type 0) → ((q : ℕ) → ¬ S q) → IsAfter part mode line 0 S

@@ -1,6 +1,5 @@
 -- What sets of positions mean, by what their words are.
-use Rattle.re_auto.proofs.Prelude.{trans, ◌≡◌, ℕ, suc, ◌<◌, Bool, true, false, IsTrue, List, ◌||◌, ◌&&◌, inl, inr, refl, sym, ◌∙◌, arith, true≢false, Some, slice_get, ◌↔◌, Text, Expression, Holds, positions, Mode, Search, StateSet, Has, Part, part_of, is_begin, is_end, MayBegin, IsNext, Accepts, IsNowhere, StandsAt, IsNextSet, IsAccepting, CanBegin, slice_get_within, get_or_from_slice_get}
-use Rattle.re_auto.proofs.lemmas.{Chains.not_at_begin, Numbered.part_numbered, SetsByChains.none_is_right, SetsByChains.step_is_right, SetsByChains.accept_is_right}
+use Rattle.re_auto.proofs.{Prelude.{trans, ◌≡◌, ℕ, suc, ◌<◌, Bool, true, false, IsTrue, List, ◌||◌, ◌&&◌, inl, inr, refl, sym, ◌∙◌, arith, true≢false, Some, slice_get, ◌↔◌, Text, Expression, Holds, positions, Mode, Search, StateSet, Has, Part, part_of, is_begin, is_end, MayBegin, IsNext, Accepts, IsNowhere, StandsAt, IsNextSet, IsAccepting, CanBegin, slice_get_within, get_or_from_slice_get}, lemmas.{Chains.not_at_begin, Numbered.part_numbered, SetsByChains.{none_is_right, step_is_right, accept_is_right}}}
 
 -- a set without positions is right at a line's first place
 pub starts_at : (e : Expression) (mode : Mode) (line : Text) (set : StateSet) → set.at_begin ≡ true → ((q : ℕ) → Has set.words.items q → ⊥) → StandsAt e mode line 0 set

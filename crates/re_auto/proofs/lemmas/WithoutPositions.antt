@@ -1,6 +1,5 @@
 -- Expressions without positions, and where a repeated expression holds on the empty stretch.
-use Rattle.re_auto.proofs.Prelude.{◌≡◌, ℕ, zero, suc, ◌+◌, ◌-◌, ◌≤◌, Bool, true, false, nat_le, ◌⊎◌, inl, inr, ◌↔◌, Option, Some, None, IfSome, refl, arith, leb-true, le-leb, Expression, cat_more, alt_more, repeat, positions, Part, without_positions, again, copies_before, up_to, only_if, repeated, part_of}
-use Rattle.re_auto.proofs.lemmas.Numbered.{part_numbered}
+use Rattle.re_auto.proofs.{Prelude.{◌≡◌, ℕ, zero, suc, ◌+◌, ◌-◌, ◌≤◌, Bool, true, false, nat_le, ◌⊎◌, inl, inr, ◌↔◌, Option, Some, None, IfSome, refl, arith, leb-true, le-leb, Expression, cat_more, alt_more, repeat, positions, Part, without_positions, again, copies_before, up_to, only_if, repeated, part_of}, lemmas.Numbered.part_numbered}
 
 -- the part has no position
 pub record HasNoPositions (part : Part) : Type 0 where

@@ -1,6 +1,5 @@
 -- Sets of numbers that are one word of bits.
-use Rattle.re_auto.proofs.Prelude.{rfl, symm, Bool, ◌≡◌, ℕ, ◌/◌, ◌%◌, ◌^◌, ◌<◌, ◌≤◌, List, length, length-set, get_or, set, ◌⊎◌, inl, inr, ◌∙◌, arith, bit_and, ◌↔◌, bit_at, Mode, Has, InWord, Part, MayBegin, IsNext, cases_lt, get_or-set_same, bit_at_above}
-use Rattle.re_auto.proofs.lemmas.BitLemmas.{in_both, within}
+use Rattle.re_auto.proofs.{Prelude.{rfl, symm, Bool, ◌≡◌, ℕ, ◌/◌, ◌%◌, ◌^◌, ◌<◌, ◌≤◌, List, length, length-set, get_or, set, ◌⊎◌, inl, inr, ◌∙◌, arith, bit_and, ◌↔◌, bit_at, Mode, Has, InWord, Part, MayBegin, IsNext, cases_lt, get_or-set_same, bit_at_above}, lemmas.BitLemmas.{in_both, within}}
 
 -- a word has no number above its last bit
 none_above : (word e : ℕ) → word < 2 ^ 64 → 64 ≤ e → InWord word e → ⊥

@@ -1,7 +1,6 @@
 -- Sets of numbers, as words of 64 bits, and tables whose rows are such sets.
 use Rattle.std.specs.Prelude.{◌≡◌, ℕ, ◌+◌, ◌*◌, ◌/◌, ◌%◌, ◌<◌, ◌↔◌, List, length, slice_index}
-use Rattle.std.specs.Prelude.{slice_range}
-use Rattle.std.specs.Int.{bit_at}
+use Rattle.std.specs.{Prelude.slice_range, Int.bit_at}
 
 -- the set has the number
 unfoldable pub Has : List ℕ → ℕ → Type 0

@@ -1,15 +1,12 @@
 -- How the tables of an expression grow, one part of it after another.
-use Rattle.std.specs.Prelude.{◌≡◌, ℕ, ◌+◌, ◌*◌, ◌<◌, ◌≤◌, ◌⊎◌, Bool, true, false, IsTrue, ◌↔◌}
-use Rattle.std.specs.Prelude.{length, Option, Some, None, IfSome, Vec}
-use Rattle.std.specs.Global.{Global}
-use Rattle.re_trees.specs.{Expression.Expression, Expression.repeat, Holds.positions}
-use Rattle.re_trees.specs.{Working.Trees.members, declared.bytes.ByteSet.ByteSet}
-use Rattle.re_auto.specs.Working.Bits.{Has, row_of, Are}
-use Rattle.re_auto.specs.Working.Positions.{Part, without_positions, one_position, again}
-use Rattle.re_auto.specs.Working.Positions.{copies_before, up_to, part_of}
+use Rattle.std.specs.Prelude.{length, ◌⊎◌, IfSome, None, ◌≡◌, IsTrue, false, Bool, Option, ◌*◌, ◌+◌}
+use Rattle.std.specs.{Prelude.{◌↔◌, Vec, ◌≤◌, true, ℕ, ◌<◌, Some}, Global.Global}
+use Rattle.re_trees.specs.{declared.bytes.ByteSet.ByteSet, Working.Trees.members, Holds.positions}
+use Rattle.re_trees.specs.Expression.{repeat, Expression}
+use Rattle.re_auto.specs.declared.{build.{ends.Ends.Ends, rows.Rows.Rows}, tables.Empty.Empty}
+use Rattle.re_auto.specs.Working.{Bits.{Has, row_of, Are}, Positions.{again, one_position, up_to}}
+use Rattle.re_auto.specs.Working.Positions.{without_positions, Part, part_of, copies_before}
 use Rattle.re_auto.specs.Working.Tables.{SaysEmpty, most_words, words_for}
-use Rattle.re_auto.specs.{declared.build.ends.Ends.Ends, declared.build.rows.Rows.Rows}
-use Rattle.re_auto.specs.declared.tables.Empty.{Empty}
 
 -- the words are the set, and their number is `width`
 abbrev pub IsSet : (ℕ → Type 0) → ℕ → Vec ℕ Global → Type 0

@@ -4,8 +4,8 @@
 use Rattle.std.specs.Prelude.{◌≡◌, ℕ, zero, suc, ◌+◌, ◌-◌, ◌<◌, ⊤, Bool, true, false, IsTrue}
 use Rattle.std.specs.Prelude.{nat_eq, nat_le, ◌⊎◌, length, slice_index, Option, Some, None}
 use Rattle.re_trees.specs.Expression.{Expression, empty, one_of, none_of, begin, end, cat_none}
-use Rattle.re_trees.specs.Expression.{cat_more, alt_none, alt_more, repeat}
-use Rattle.re_trees.specs.{Bytes.Text, Holds.positions}
+use Rattle.re_trees.specs.{Expression.{cat_more, alt_none, alt_more, repeat}, Bytes.Text}
+use Rattle.re_trees.specs.Holds.{positions}
 
 -- The questions about a part of an expression. The first Bool says that the place is the line's
 -- first, the second that it is its last.

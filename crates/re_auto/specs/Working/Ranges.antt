@@ -1,7 +1,6 @@
 -- Ranges of words that contain the members of rows.
 use Rattle.std.specs.Prelude.{◌≡◌, ℕ, ◌/◌, ◌<◌, ◌≤◌, List, length, Some, slice_get}
-use Rattle.re_auto.specs.declared.ranges.WordRange.{WordRange}
-use Rattle.re_auto.specs.Working.Bits.{Has, row_of}
+use Rattle.re_auto.specs.{declared.ranges.WordRange.WordRange, Working.Bits.{Has, row_of}}
 
 -- the range is one of the set's words, and each member is in a word of it
 pub record Covers (range : WordRange) (set : List ℕ) : Type 0 where

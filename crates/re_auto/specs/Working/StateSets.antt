@@ -1,10 +1,9 @@
 -- What a set of positions means on a line and at a place.
-use Rattle.std.specs.Prelude.{◌≡◌, ℕ, ◌<◌, ◌↔◌, Bool, List, false, length, slice_index}
+use Rattle.std.specs.Prelude.{slice_index, List, false, Bool, ◌↔◌, ℕ, length, ◌<◌, ◌≡◌}
 use Rattle.re_trees.specs.{Bytes.Text, Expression.Expression, Holds.positions}
+use Rattle.re_auto.specs.Working.{Tables.words_for, Bits.Has, Positions.{is_begin, part_of}}
 use Rattle.re_auto.specs.Working.SteppedSets.{IsAfter, IsNext, Accepts}
-use Rattle.re_auto.specs.{declared.mode.Mode.Mode, declared.step.state_set.StateSet.StateSet}
-use Rattle.re_auto.specs.{Working.Bits.Has, Working.Positions.is_begin, Working.Positions.part_of}
-use Rattle.re_auto.specs.Working.Tables.{words_for}
+use Rattle.re_auto.specs.declared.{step.state_set.StateSet.StateSet, mode.Mode.Mode}
 
 -- the set was made for the automaton of this expression, and has only its positions
 abbrev pub IsMadeFor : Expression → StateSet → Type 0

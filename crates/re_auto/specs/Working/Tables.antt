@@ -1,12 +1,10 @@
 -- What the tables of an automaton say of the positions of an expression.
 use Rattle.std.specs.Prelude.{◌≡◌, ℕ, ◌+◌, ◌*◌, ◌/◌, ◌<◌, ◌≤◌, Bool, true, false, IsTrue, ◌↔◌, List}
 use Rattle.std.specs.Prelude.{length, slice_index, slice_index_or}
-use Rattle.re_trees.specs.{Expression.Expression, Holds.positions, Limits.most_positions}
-use Rattle.re_auto.specs.declared.build.BuildFault.TheVariants.{TooLarge, Memory}
-use Rattle.re_auto.specs.Working.Bits.{Has, row_of, Are, RowsAre}
-use Rattle.re_auto.specs.{declared.build.BuildFault.BuildFault, declared.tables.Tables.Tables}
-use Rattle.re_auto.specs.{declared.tables.Empty.Empty, Working.Positions.Part}
-use Rattle.re_auto.specs.{Working.Positions.part_of, Working.Ranges.CoverRows}
+use Rattle.re_trees.specs.{Limits.most_positions, Expression.Expression, Holds.positions}
+use Rattle.re_auto.specs.declared.build.BuildFault.{BuildFault, TheVariants.{TooLarge, Memory}}
+use Rattle.re_auto.specs.{declared.tables.{Tables.Tables, Empty.Empty}, Working.Ranges.CoverRows}
+use Rattle.re_auto.specs.Working.{Bits.{Has, row_of, Are, RowsAre}, Positions.{Part, part_of}}
 
 -- the number of words of 64 bits that hold `count` positions
 abbrev pub words_for : ℕ → ℕ

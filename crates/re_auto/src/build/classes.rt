@@ -1,8 +1,7 @@
 //! Bytes by the positions that take them: bytes with equal rows share a class.
 ghost use Rattle.std.specs.Prelude.{◌≡◌, ℕ, ◌*◌, ◌<◌, ◌≤◌, ◌≢◌, ◌↔◌, IsTrue, IfOk, length};
-ghost use Rattle.re_auto.specs.Working.Bits.{Has, row_of};
-ghost use Rattle.re_auto.specs.Working.ByteClasses.{AreClasses, IsClassed};
-ghost use Rattle.re_auto.specs.Working.Tables.{Marks};
+ghost use Rattle.re_auto.specs.Working.{ByteClasses.{IsClassed, AreClasses}, Tables.Marks};
+ghost use Rattle.re_auto.specs.Working.Bits.{row_of, Has};
 
 use crate::bits;
 use std::alloc::{AllocError, Global};

@@ -1,8 +1,7 @@
 //! The ends of a part of an expression: what its neighbours use of it.
 ghost use Rattle.std.specs.Prelude.{◌≡◌, ℕ, ◌<◌, ◌*◌, ◌↔◌, ◌⊎◌, IsTrue, IfOk, length};
-ghost use Rattle.re_auto.specs.Working.Bits.{Has};
-ghost use Rattle.re_auto.specs.Working.PartTables.{HasWidth, IsBlank, IsOne, IsSet, Shows, shown};
-ghost use Rattle.re_auto.specs.Working.Positions.{either, in_turn, optional};
+ghost use Rattle.re_auto.specs.Working.PartTables.{IsBlank, Shows, IsSet, shown, IsOne, HasWidth};
+ghost use Rattle.re_auto.specs.Working.{Bits.Has, Positions.{either, in_turn, optional}};
 
 use crate::bits;
 use crate::tables::Empty;

@@ -2,10 +2,9 @@
 //!
 //! A pattern may have 256 levels, so each of these functions keeps some 50 bytes on the stack: ends
 //! are boxed, and all that makes or joins them is a call.
-ghost use Rattle.std.specs.Prelude.{◌≡◌, ◌+◌, ◌*◌, ◌≤◌, ◌<◌, max, IfOk, map};
-ghost use Rattle.re_trees.specs.Expression.{alt, cat, repeat};
+ghost use Rattle.std.specs.Prelude.{max, ◌*◌, map, ◌≤◌, IfOk, ◌+◌, ◌<◌, ◌≡◌};
+ghost use Rattle.re_trees.specs.{Expression.{alt, cat, repeat}, Holds.positions};
 ghost use Rattle.re_trees.specs.Working.Trees.{expression_of};
-ghost use Rattle.re_trees.specs.Holds.{positions};
 ghost use Rattle.re_auto.specs.Working.PartTables.{AreTurns, AreUpTo, HasRoom, IsAdded, IsAddedOf};
 ghost use Rattle.re_auto.specs.Working.PartTables.{IsOnce, IsTail, tail_copies, wanted_position};
 

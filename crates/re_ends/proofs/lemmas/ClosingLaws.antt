@@ -1,26 +1,5 @@
 -- Pieces of groups, and the groups that a step back closes.
-use Rattle.re_ends.proofs.Prelude.{◌≡◌, ℕ, zero, suc, ◌+◌, ◌-◌, ◌*◌, ◌/◌, ◌<◌, ◌≤◌, inl, inr, ◌⊎◌, ◌↔◌, List, [], ◌∷◌, ◌++◌, length, length-append, set, true, false, get_or, get_or-set_other, get_or-set_same, slice_index, get_or_append_left, refl, sym, subst, ap, ◌∙◌, arith, cases_lt, false≢true, Expression, Has, part_of, positions}
-use Rattle.std.specs.Prelude.{◌%◌, ◌^◌, bit_and}
-use Rattle.std.specs.Int.{bit_at, bit_not, w64}
-use Rattle.std.proofs.lemmas.Nat.Bits.{bit_at-lt, bit_at-trailing_zeros, bit_at-zero, bit_at_above, bit_at_and, bit_at_cat_high, bit_at_cat_low, bit_at_not}
-use Rattle.std.proofs.lemmas.Bool.{cases_eq}
-use Rattle.std.proofs.lemmas.Nat.{and_le_l}
-use Rattle.re_auto.proofs.lemmas.BitLemmas.{at_word}
-use Rattle.std.specs.List.{AllByRecursion, IsDistinct, list_any}
-use Rattle.std.proofs.Math.Dec.{eqb}
-use Rattle.std.proofs.Math.Seq.{get_or-append_seam}
-use Rattle.std.proofs.lemmas.Bool.{ne_eqb}
-use Rattle.std.proofs.lemmas.Bool.Decides.{eqb_tells}
-use Rattle.std.proofs.lemmas.Map.Steps.{length-le_from_distinct_below}
-use Rattle.re_ends.specs.Working.Groups.{group_of, half_of, AreFull, AreGroupsFor, AreInTurn, Grow, HasGroups, In, IsRow, IsStep, Names}
-use Rattle.std.specs.declared.alloc.Global.{Global}
-use Rattle.std.specs.Prelude.{Vec}
-use Rattle.re_ends.specs.declared.groups.Groups.{Groups}
-use Rattle.re_auto.specs.declared.ranges.WordRange.{WordRange}
-use Rattle.re_auto.specs.Working.Ranges.{Covers}
-use Rattle.re_auto.proofs.lemmas.Numbered.{part_numbered}
-use Rattle.re_ends.proofs.lemmas.ListLaws.{end_cases}
-use Rattle.re_ends.specs.Working.Closing.{AreClosed, AreMembers, AreMet, AreNoneMet, Byte, CanEnd, IsClosed, Takes}
+use Rattle.{re_ends.{proofs.{Prelude.{◌≡◌, ℕ, zero, suc, ◌+◌, ◌-◌, ◌*◌, ◌/◌, ◌<◌, ◌≤◌, inl, inr, ◌⊎◌, ◌↔◌, List, [], ◌∷◌, ◌++◌, length, length-append, set, true, false, get_or, get_or-set_other, get_or-set_same, slice_index, get_or_append_left, refl, sym, subst, ap, ◌∙◌, arith, cases_lt, false≢true, Expression, Has, part_of, positions}, lemmas.ListLaws.end_cases}, specs.{Working.{Groups.{group_of, half_of, AreFull, AreGroupsFor, AreInTurn, Grow, HasGroups, In, IsRow, IsStep, Names}, Closing.{AreClosed, AreMembers, AreMet, AreNoneMet, Byte, CanEnd, IsClosed, Takes}}, declared.groups.Groups.Groups}}, std.{specs.{Prelude.{◌%◌, ◌^◌, bit_and, Vec}, Int.{bit_at, bit_not, w64}, List.{AllByRecursion, IsDistinct, list_any}, declared.alloc.Global.Global}, proofs.{lemmas.{Nat.{Bits.{bit_at-lt, bit_at-trailing_zeros, bit_at-zero, bit_at_above, bit_at_and, bit_at_cat_high, bit_at_cat_low, bit_at_not}, and_le_l}, Bool.{cases_eq, ne_eqb, Decides.eqb_tells}, Map.Steps.length-le_from_distinct_below}, Math.{Dec.eqb, Seq.get_or-append_seam}}}, re_auto.{proofs.lemmas.{BitLemmas.at_word, Numbered.part_numbered}, specs.{declared.ranges.WordRange.WordRange, Working.Ranges.Covers}}}
 
 -- numbers below n, each once, are n at most
 others : (x : ℕ) (xs : List ℕ) → ((j : ℕ) → j < length xs → x ≡ slice_index xs j → ⊥) → AllByRecursion (λ y. eqb x y ≡ false) xs

@@ -1,7 +1,5 @@
 -- Greatest ends are what the chains say.
-use Rattle.re_ends.proofs.Prelude.{◌≡◌, ℕ, zero, suc, ◌+◌, ◌-◌, ◌<◌, ◌≤◌, inl, inr, ◌⊎◌, length, max, slice_index, refl, arith, cases_lt, ◌↔◌, Text, Expression, Part, is_begin, is_end, Reaches, PartHolds, part_of, Leads, LeadsPast, MatchesPast}
-use Rattle.re_auto.proofs.lemmas.Chains.{reaches_bounds}
-use Rattle.re_auto.proofs.lemmas.PositionsDecide.{positions_decide}
+use Rattle.{re_ends.proofs.Prelude.{◌≡◌, ℕ, zero, suc, ◌+◌, ◌-◌, ◌<◌, ◌≤◌, inl, inr, ◌⊎◌, length, max, slice_index, refl, arith, cases_lt, ◌↔◌, Text, Expression, Part, is_begin, is_end, Reaches, PartHolds, part_of, Leads, LeadsPast, MatchesPast}, re_auto.proofs.lemmas.{Chains.reaches_bounds, PositionsDecide.positions_decide}}
 
 module _ (part : Part) (line : Text) where
   -- a chain that has come to a position, and one that goes on with it, are one from its beginning

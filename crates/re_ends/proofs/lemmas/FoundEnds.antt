@@ -1,8 +1,5 @@
 -- The greatest ends of the parts that begin at each place.
-use Rattle.re_ends.proofs.Prelude.{ℕ, ◌<◌, inl, inr, ◌⊎◌, Bool, false, List, [], ◌∷◌, ◌++◌, length, arith, ◌↔◌, Text, Expression, Holds, IsFound, MatchesPast, FoundPast, AddsEnds}
-use Rattle.std.specs.List.{Any}
-use Rattle.re_trees.proofs.lemmas.Decisions.{Any-first}
-use Rattle.re_trees.proofs.lemmas.SomeOfJoined.{Any-single, Any-left, Any-right, Any-append-cases}
+use Rattle.{re_ends.proofs.Prelude.{ℕ, ◌<◌, inl, inr, ◌⊎◌, Bool, false, List, [], ◌∷◌, ◌++◌, length, arith, ◌↔◌, Text, Expression, Holds, IsFound, MatchesPast, FoundPast, AddsEnds}, std.specs.List.Any, re_trees.proofs.lemmas.{Decisions.Any-first, SomeOfJoined.{Any-single, Any-left, Any-right, Any-append-cases}}}
 
 -- what reaches past the same numbers adds the same ends
 pub adds_alike : (P Q : ℕ → ℕ → Type 0) (line : Text) (old new : List ℕ) → ((i m : ℕ) → i < length line → P i m ↔ Q i m) → AddsEnds P line old new → AddsEnds Q line old new

@@ -1,10 +1,5 @@
 -- A step back on groups is right at each place of a line where they stand for its ends.
-use Rattle.re_ends.proofs.Prelude.{◌≡◌, ℕ, zero, suc, ◌+◌, ◌<◌, ◌≤◌, inl, inr, Bool, List, [], ◌∷◌, ◌++◌, length, length-append, slice_index, get_or_append_left, ap, ◌∙◌, refl, arith, cases_lt, ◌↔◌, Text, Expression, Part, part_of, is_end, Leads, LeadsPast}
-use Rattle.std.proofs.lemmas.List.{get_or-map, length-map}
-use Rattle.std.proofs.Math.Seq.{get_or-append_seam}
-use Rattle.re_ends.specs.Working.GreatestEnds.{IsBorder}
-use Rattle.re_ends.specs.Working.Groups.{CanHave, Fall, HasGroups, In, IsFirstIn, IsStep, Leaves, StandAt}
-use Rattle.re_ends.proofs.lemmas.ListLaws.{end_cases}
+use Rattle.{re_ends.{proofs.{Prelude.{◌≡◌, ℕ, zero, suc, ◌+◌, ◌<◌, ◌≤◌, inl, inr, Bool, List, [], ◌∷◌, ◌++◌, length, length-append, slice_index, get_or_append_left, ap, ◌∙◌, refl, arith, cases_lt, ◌↔◌, Text, Expression, Part, part_of, is_end, Leads, LeadsPast}, lemmas.ListLaws.end_cases}, specs.Working.{GreatestEnds.IsBorder, Groups.{CanHave, Fall, HasGroups, In, IsFirstIn, IsStep, Leaves, StandAt}}}, std.proofs.{lemmas.List.{get_or-map, length-map}, Math.Seq.get_or-append_seam}}
 
 no_more : (row : List ℕ) (a b : ℕ) → HasGroups row a → HasGroups row b → a ≤ b
 no_more row a b these those = elim (cases_lt b a) [ inl lt ↦ absurd (let less = (those b).1 ((these b).0 lt) in omega (arith, less)) | inr ge ↦ ge ]

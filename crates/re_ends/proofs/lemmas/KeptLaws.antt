@@ -1,19 +1,5 @@
 -- What is kept of steps stays right.
-use Rattle.re_ends.proofs.Prelude.{◌≡◌, ℕ, zero, suc, ◌+◌, ◌-◌, ◌*◌, ◌/◌, ◌<◌, ◌≤◌, inl, inr, ◌⊎◌, Bool, false, List, [], ◌∷◌, ◌++◌, length, length-append, get_or, get_or-set_same, get_or-set_other, set, length-set, replicate, slice_get, slice_index, nat_eq, Some, refl, sym, ap, ◌∙◌, arith, cases_eq, Expression, part_of, positions}
-use Rattle.std.specs.Prelude.{Vec, vec_capacity, ◌^◌}
-use Rattle.std.specs.Global.{Global}
-use Rattle.std.specs.List.{range_with_len}
-use Rattle.std.proofs.Common.{append-nil, ne_eqb}
-use Rattle.std.proofs.lemmas.List.{get_or_read_under}
-use Rattle.std.proofs.lemmas.List.FromFn.{length-range_with_len}
-use Rattle.std.proofs.lemmas.Nat.{div-mul-add}
-use Rattle.std.proofs.lemmas.Option.{get_or_from_slice_get, slice_get_within}
-use Rattle.re_auto.proofs.lemmas.RowLemmas.{row_within}
-use Rattle.re_auto.specs.Working.StateSets.{TakenAlike}
-use Rattle.re_ends.specs.declared.kept.Step.{Step}
-use Rattle.re_ends.specs.declared.list.Run.{Run}
-use Rattle.re_ends.specs.Working.Groups.{IsRow, IsStep, numbers, numbers_of}
-use Rattle.re_ends.specs.Working.KeptSteps.{listed, unknown, no_step, AllRuns, Lists, Rows, IsOperation, AreLonger, IsRowOf, IsKeptStep, AreClasses, AreRight}
+use Rattle.{re_ends.{proofs.Prelude.{◌≡◌, ℕ, zero, suc, ◌+◌, ◌-◌, ◌*◌, ◌/◌, ◌<◌, ◌≤◌, inl, inr, ◌⊎◌, Bool, false, List, [], ◌∷◌, ◌++◌, length, length-append, get_or, get_or-set_same, get_or-set_other, set, length-set, replicate, slice_get, slice_index, nat_eq, Some, refl, sym, ap, ◌∙◌, arith, cases_eq, Expression, part_of, positions}, specs.{declared.{kept.Step.Step, list.Run.Run}, Working.{Groups.{IsRow, IsStep, numbers, numbers_of}, KeptSteps.{listed, unknown, no_step, AllRuns, Lists, Rows, IsOperation, AreLonger, IsRowOf, IsKeptStep, AreClasses, AreRight}}}}, std.{specs.{Prelude.{Vec, vec_capacity, ◌^◌}, Global.Global, List.range_with_len}, proofs.{Common.{append-nil, ne_eqb}, lemmas.{List.{get_or_read_under, FromFn.length-range_with_len}, Nat.div-mul-add, Option.{get_or_from_slice_get, slice_get_within}}}}, re_auto.{proofs.lemmas.RowLemmas.row_within, specs.Working.StateSets.TakenAlike}}
 
 -- elements of a list that is longer by one
 pub get_left : {X : Type 0} (xs ys : List X) (k : ℕ) (x : X) → slice_get xs k ≡ Some x → slice_get (xs ++ ys) k ≡ Some x

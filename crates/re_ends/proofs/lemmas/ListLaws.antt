@@ -1,15 +1,5 @@
 -- Lists of ends, and which of them stay.
-use Rattle.re_ends.proofs.Prelude.{◌≡◌, ℕ, zero, suc, ◌+◌, ◌-◌, ◌<◌, ◌≤◌, inl, inr, ◌⊎◌, List, [], ◌∷◌, ◌++◌, get_or, length, length-append, slice_index, set, take, refl, sym, ap, ◌∙◌, arith, cases_lt, get_or_append_left}
-use Rattle.std.specs.List.{range_with_len, CopiedTo, SameBelow, SameFrom}
-use Rattle.std.proofs.Common.{append_assoc, append-nil}
-use Rattle.std.proofs.lemmas.Grind.{flat_map-append}
-use Rattle.std.proofs.lemmas.List.{take_all, take_more}
-use Rattle.std.proofs.lemmas.List.Concat.{get_or-flat_map}
-use Rattle.std.proofs.lemmas.List.Folds.{length-flat_map-take}
-use Rattle.std.proofs.lemmas.List.FromFn.{get_or-range_with_len, length-range_with_len}
-use Rattle.std.proofs.Math.Seq.{get_or-append_seam}
-use Rattle.re_ends.specs.declared.list.Run.{Run}
-use Rattle.re_ends.specs.Working.Groups.{Grow, numbers, numbers_of}
+use Rattle.{re_ends.{proofs.Prelude.{◌≡◌, ℕ, zero, suc, ◌+◌, ◌-◌, ◌<◌, ◌≤◌, inl, inr, ◌⊎◌, List, [], ◌∷◌, ◌++◌, get_or, length, length-append, slice_index, set, take, refl, sym, ap, ◌∙◌, arith, cases_lt, get_or_append_left}, specs.{declared.list.Run.Run, Working.Groups.{Grow, numbers, numbers_of}}}, std.{specs.List.{range_with_len, CopiedTo, SameBelow, SameFrom}, proofs.{Common.{append_assoc, append-nil}, lemmas.{Grind.flat_map-append, List.{take_all, take_more, Concat.get_or-flat_map, Folds.length-flat_map-take, FromFn.{get_or-range_with_len, length-range_with_len}}}, Math.Seq.get_or-append_seam}}}
 
 -- the ends and the place after them, by number
 pub end_cases : (ends : List ℕ) (place n : ℕ) → n < length (ends ++ place ∷ []) → ((n < length ends) × (slice_index (ends ++ place ∷ []) n ≡ slice_index ends n)) ⊎ ((n ≡ length ends) × (slice_index (ends ++ place ∷ []) n ≡ place))

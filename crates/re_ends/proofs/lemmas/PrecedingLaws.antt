@@ -1,10 +1,5 @@
 -- Words of sets, and what comes right before their members.
-use Rattle.re_ends.proofs.Prelude.{◌≡◌, ℕ, ◌/◌, ◌%◌, ◌<◌, List, zero, suc, length, get_or, ◌⊎◌, inl, inr, ◌↔◌, sym, ap, ◌∙◌, arith, cases_eq, cases_lt, get_or-set_other, get_or-set_same, set, ◌+◌, ◌*◌, ◌^◌, bit_at_or, bit_at-lt, bit_at-zero, bit_or, bit_at, WordRange, Has, Covers}
-use Rattle.std.specs.Int.{bit_not, w64}
-use Rattle.std.specs.Prelude.{bit_and}
-use Rattle.std.proofs.lemmas.Nat.{and_le_l}
-use Rattle.std.proofs.lemmas.Nat.Bits.{bit_at_above, bit_at_and, bit_at_lowest, bit_at_not, bit_at_set_other, bit_at_set_same, bit_at-suc}
-use Rattle.re_auto.proofs.lemmas.BitLemmas.{at_word, one_of_max}
+use Rattle.{re_ends.proofs.Prelude.{◌≡◌, ℕ, ◌/◌, ◌%◌, ◌<◌, List, zero, suc, length, get_or, ◌⊎◌, inl, inr, ◌↔◌, sym, ap, ◌∙◌, arith, cases_eq, cases_lt, get_or-set_other, get_or-set_same, set, ◌+◌, ◌*◌, ◌^◌, bit_at_or, bit_at-lt, bit_at-zero, bit_or, bit_at, WordRange, Has, Covers}, std.{specs.{Prelude.bit_and, Int.{bit_not, w64}}, proofs.lemmas.Nat.{and_le_l, Bits.{bit_at_above, bit_at_and, bit_at_lowest, bit_at_not, bit_at_set_other, bit_at_set_same, bit_at-suc}}}, re_auto.proofs.lemmas.BitLemmas.{at_word, one_of_max}}
 
 -- the members of a word are added to one of the set's
 pub word_added : (xs : List ℕ) (k word : ℕ) → k < length xs → (q : ℕ) → Has (set xs k (bit_or (get_or xs k 0) word)) q ↔ (Has xs q ⊎ ((q / 64 ≡ k) × (bit_at word (q % 64) ≡ 1)))

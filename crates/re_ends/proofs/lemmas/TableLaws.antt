@@ -1,17 +1,5 @@
 -- A pass by steps that are kept.
-use Rattle.re_ends.proofs.Prelude.{◌≡◌, ℕ, suc, ◌+◌, ◌-◌, ◌<◌, ◌≤◌, inl, inr, ◌⊎◌, Bool, false, List, [], ◌∷◌, ◌++◌, length, length-set, max, get_or-set_other, set, ap, slice_index, refl, sym, subst, ◌∙◌, arith, cases_eq, cases_lt, ◌↔◌, Text, Expression, Part, part_of, positions, is_begin, is_end, LeadsPast, MatchesPast}
-use Rattle.std.proofs.Common.{ne_eqb}
-use Rattle.std.proofs.lemmas.Grind.{get_or-set_at}
-use Rattle.re_ends.specs.declared.kept.KeptSteps.{KeptSteps}
-use Rattle.re_ends.specs.declared.kept.Step.{Step}
-use Rattle.re_ends.specs.Working.Groups.{end_of, Ends, Fits, IsFirstIn, IsRow, IsStep, Leaves, StandAt}
-use Rattle.re_ends.specs.Working.KeptSteps.{unknown, cell_at, rows_of, AreStepsFor, IsKeptStep, IsOperation, IsRowIn}
-use Rattle.re_trees.specs.declared.span.Span.{Span}
-use Rattle.re_ends.specs.Working.EndTables.{IsAtRow, AddsFrom, IsFirstFrom}
-use Rattle.re_ends.proofs.lemmas.EndLaws.{ends_decide, max_past}
-use Rattle.re_ends.proofs.lemmas.GroupLaws.{as_many, no_less_before, steps_on}
-use Rattle.re_ends.proofs.lemmas.ClosingLaws.{few_groups}
-use Rattle.re_ends.proofs.lemmas.KeptLaws.{row_is}
+use Rattle.{re_ends.{proofs.{Prelude.{◌≡◌, ℕ, suc, ◌+◌, ◌-◌, ◌<◌, ◌≤◌, inl, inr, ◌⊎◌, Bool, false, List, [], ◌∷◌, ◌++◌, length, length-set, max, get_or-set_other, set, ap, slice_index, refl, sym, subst, ◌∙◌, arith, cases_eq, cases_lt, ◌↔◌, Text, Expression, Part, part_of, positions, is_begin, is_end, LeadsPast, MatchesPast}, lemmas.{EndLaws.{ends_decide, max_past}, GroupLaws.{as_many, no_less_before, steps_on}, ClosingLaws.few_groups, KeptLaws.row_is}}, specs.{declared.kept.{KeptSteps.KeptSteps, Step.Step}, Working.{Groups.{end_of, Ends, Fits, IsFirstIn, IsRow, IsStep, Leaves, StandAt}, KeptSteps.{unknown, cell_at, rows_of, AreStepsFor, IsKeptStep, IsOperation, IsRowIn}, EndTables.{IsAtRow, AddsFrom, IsFirstFrom}}}}, std.proofs.{Common.ne_eqb, lemmas.Grind.get_or-set_at}, re_trees.specs.declared.span.Span.Span}
 
 -- the end of the first group with a position that a stretch can begin with is the greatest end
 module _ (e : Expression) {line : Text} {p : ℕ} {groups ends : List ℕ} (stand : StandAt (part_of e 0) line p groups ends) {number : ℕ} (is : IsFirstIn ((part_of e 0).first (is_begin p)) groups number) where

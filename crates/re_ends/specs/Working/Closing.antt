@@ -1,11 +1,10 @@
 -- What is known while a step back makes groups before a byte, one for each end in turn.
-use Rattle.std.specs.Prelude.{◌≡◌, ℕ, ◌<◌, ◌≤◌, ◌↔◌, ◌⊎◌, Bool, List, length, slice_index}
-use Rattle.re_trees.specs.{Expression.Expression, Holds.positions}
-use Rattle.re_auto.specs.{declared.ranges.WordRange.WordRange, Working.Bits.Has}
-use Rattle.re_auto.specs.{Working.Positions.part_of, Working.Ranges.Covers}
-use Rattle.re_ends.specs.Working.Groups.{group_of, AreFull, AreGroupsFor, AreInTurn, CanHave, Grow}
-use Rattle.re_ends.specs.Working.Groups.{HasGroups, In, IsRow, Names, numbers_of}
-use Rattle.re_ends.specs.declared.groups.Groups.{Groups}
+use Rattle.std.specs.Prelude.{◌↔◌, ◌⊎◌, ◌≡◌, List, ◌<◌, ℕ, slice_index, length, Bool, ◌≤◌}
+use Rattle.re_trees.specs.{Holds.positions, Expression.Expression}
+use Rattle.re_auto.specs.{declared.ranges.WordRange.WordRange, Working.{Bits.Has, Ranges.Covers}}
+use Rattle.{re_auto.specs.Working.Positions.part_of, re_ends.specs.declared.groups.Groups.Groups}
+use Rattle.re_ends.specs.Working.Groups.{In, AreFull, AreInTurn, group_of, AreGroupsFor, numbers_of}
+use Rattle.re_ends.specs.Working.Groups.{IsRow, Grow, HasGroups, CanHave, Names}
 
 -- the expression, the byte and whether it is the line's last, the groups after it and their number
 pub record Byte : Type 0 where

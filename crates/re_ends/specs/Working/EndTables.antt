@@ -1,15 +1,12 @@
 -- Greatest ends on their way back over a line, by steps that are kept.
 use Rattle.std.specs.Prelude.{◌≡◌, ℕ, ◌+◌, ◌<◌, ◌≤◌, ◌↔◌, ◌⊎◌, List, Some, None, length}
-use Rattle.std.specs.Prelude.{slice_index}
-use Rattle.re_trees.specs.{Bytes.Text, Expression.Expression, Holds.positions}
-use Rattle.re_trees.specs.{declared.span.Span.Span, Working.Trees.expression_of}
-use Rattle.re_auto.specs.Working.Positions.{part_of, is_end}
-use Rattle.re_ends.specs.Working.Groups.{AreGroupsFor, Ends, StandAt}
-use Rattle.re_ends.specs.{declared.kept.KeptSteps.KeptSteps, declared.pass.Asked.Asked}
-use Rattle.re_ends.specs.{declared.pass.Pass.Pass, declared.pass.Spot.Spot}
-use Rattle.re_ends.specs.{declared.table.EndTable.EndTable, Working.GreatestEnds.MatchesPast}
-use Rattle.re_ends.specs.{Working.GreatestEnds.FindsIn, Working.KeptSteps.AreStepsFor}
-use Rattle.re_ends.specs.Working.KeptSteps.{IsRowIn}
+use Rattle.{std.specs.Prelude.slice_index, re_trees.specs.{Bytes.Text, declared.span.Span.Span}}
+use Rattle.re_trees.specs.{Expression.Expression, Holds.positions, Working.Trees.expression_of}
+use Rattle.re_auto.specs.Working.Positions.{is_end, part_of}
+use Rattle.re_ends.specs.Working.{GreatestEnds.{FindsIn, MatchesPast}, Groups.{AreGroupsFor, Ends}}
+use Rattle.re_ends.specs.Working.{Groups.StandAt, KeptSteps.{AreStepsFor, IsRowIn}}
+use Rattle.re_ends.specs.declared.{kept.KeptSteps.KeptSteps, table.EndTable.EndTable}
+use Rattle.re_ends.specs.declared.pass.{Spot.Spot, Pass.Pass, Asked.Asked}
 
 -- all that a pass keeps is right for the automaton of this expression
 pub record IsPassFor (e : Expression) (t : Pass) : Type 0 where

@@ -1,10 +1,9 @@
 -- Greatest ends: for each position, the greatest place at which a stretch can end that takes the
 -- byte at a place with it.
-use Rattle.std.specs.Prelude.{◌≡◌, ℕ, zero, suc, ◌+◌, ◌<◌, ◌≤◌, ◌↔◌, ◌⊎◌, Bool, List, Option, Some}
-use Rattle.std.specs.Prelude.{None, length, slice_index}
-use Rattle.re_trees.specs.{Bytes.Text, Expression.Expression, Holds.Holds, Parts.IsFound}
-use Rattle.re_trees.specs.declared.span.Span.{Span}
-use Rattle.re_auto.specs.Working.Positions.{Part, part_of, is_end, ByteAt}
+use Rattle.std.specs.Prelude.{suc, length, Some, ◌≡◌, ◌↔◌, ◌⊎◌, slice_index, Option, ◌≤◌, List}
+use Rattle.{std.specs.Prelude.{Bool, ℕ, ◌<◌, zero, None, ◌+◌}, re_trees.specs.Parts.IsFound}
+use Rattle.re_trees.specs.{Bytes.Text, Holds.Holds, declared.span.Span.Span, Expression.Expression}
+use Rattle.re_auto.specs.Working.Positions.{part_of, is_end, Part, ByteAt}
 pub use Rattle.re_trees.specs.Working.PutEnds.{AddsEnds}
 
 -- A stretch that takes the byte at place p with position q can take n bytes more and end there.

@@ -2,12 +2,11 @@
 -- with greater ends come first. A row has the pieces of all groups, and a list has the groups' ends.
 use Rattle.std.specs.Prelude.{◌≡◌, ℕ, zero, suc, ◌/◌, ◌%◌, ◌^◌, ◌<◌, ◌≤◌, ◌↔◌, ◌⊎◌, Bool, List, []}
 use Rattle.std.specs.Prelude.{◌∷◌, ◌++◌, flat_map, length, map, slice_index, vec_capacity}
-use Rattle.std.specs.{Int.bit_at, List.range_with_len}
-use Rattle.re_trees.specs.{Bytes.Text, Expression.Expression, Holds.positions}
-use Rattle.re_trees.specs.Limits.{most_positions}
-use Rattle.re_auto.specs.{Working.Positions.Part, Working.Tables.words_for}
-use Rattle.re_ends.specs.{declared.groups.Groups.Groups, declared.list.Run.Run}
-use Rattle.re_ends.specs.{Working.GreatestEnds.LeadsPast, Working.Preceding.ArePrecedingFor}
+use Rattle.{std.specs.{Int.bit_at, List.range_with_len}, re_trees.specs.Bytes.Text}
+use Rattle.re_trees.specs.{Expression.Expression, Holds.positions, Limits.most_positions}
+use Rattle.re_auto.specs.Working.{Positions.Part, Tables.words_for}
+use Rattle.re_ends.specs.declared.{groups.Groups.Groups, list.Run.Run}
+use Rattle.re_ends.specs.Working.{GreatestEnds.LeadsPast, Preceding.ArePrecedingFor}
 
 -- the ends of groups, and how many there is room for
 pub record Ends : Type 0 where

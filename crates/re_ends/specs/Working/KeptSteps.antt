@@ -1,14 +1,11 @@
 -- Steps between rows of groups, as far as they are kept.
-use Rattle.std.specs.Prelude.{◌≡◌, ℕ, ◌+◌, ◌-◌, ◌*◌, ◌^◌, ◌<◌, ◌≤◌, Bool, false, List, [], ◌∷◌}
-use Rattle.std.specs.Prelude.{nat_eq, Some, length, get_or, slice_get, slice_index, Vec}
-use Rattle.std.specs.Prelude.{vec_capacity}
-use Rattle.std.specs.{List.range_with_len, declared.alloc.Global.Global}
+use Rattle.std.specs.Prelude.{List, ◌≤◌, ◌^◌, slice_get, get_or, ◌-◌, Bool, ◌<◌, ◌∷◌, ◌*◌, length}
+use Rattle.std.specs.Prelude.{Vec, Some, ◌+◌, false, [], ℕ, ◌≡◌, slice_index, nat_eq, vec_capacity}
+use Rattle.std.specs.{declared.alloc.Global.Global, List.range_with_len}
 use Rattle.re_trees.specs.{Expression.Expression, Holds.positions}
-use Rattle.re_auto.specs.{Working.Positions.Part, Working.Positions.part_of}
-use Rattle.re_auto.specs.Working.StateSets.{AreAlikeInClasses}
+use Rattle.re_auto.specs.Working.{Positions.{part_of, Part}, StateSets.AreAlikeInClasses}
+use Rattle.re_ends.specs.declared.{list.Run.Run, kept.{Step.Step, KeptSteps.KeptSteps}}
 use Rattle.re_ends.specs.Working.Groups.{IsFirstIn, IsRow, IsStep, numbers_of}
-use Rattle.re_ends.specs.{declared.kept.Step.Step, declared.kept.KeptSteps.KeptSteps}
-use Rattle.re_ends.specs.declared.list.Run.{Run}
 
 -- lists of numbers
 abbrev pub Lists : Type 0

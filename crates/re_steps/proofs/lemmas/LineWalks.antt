@@ -1,16 +1,5 @@
 -- Walks by held pairs over the lines of a block.
-use Rattle.re_steps.proofs.Prelude.{◌≡◌, ℕ, suc, ◌+◌, ◌-◌, ◌*◌, ◌/◌, ◌<◌, false, inl, inr, Some, [], ◌∷◌, ◌++◌, length, take, get_or, slice_get, slice_get-get_or, slice_index, slice_range, refl, sym, ap, ◌∙◌, subst, arith, false≢true, Text, HasNoNewline, newline, IsBlock, PassesUnmatched, Matches, Search, StateSet, Acceptance, Stage, IsPlain, Searches, LineSearch, StepTable, Lines, GoesOverLines, IsAtOf, IsRightFor, IsRow, cache_of, cell_at, expression_in, limit, walked}
-use Rattle.std.proofs.Common.{drop, append_assoc, append-nil, get_or-append-add, ◌≢◌}
-use Rattle.re_meter.specs.Meters.{fresh}
-use Rattle.std.proofs.lemmas.List.{length-append}
-use Rattle.std.proofs.lemmas.List.Elements.{All-push}
-use Rattle.re_trees.proofs.lemmas.LinesLaws.{none_in_empty}
-use Rattle.re_runs.proofs.lemmas.NextLines.{passed_from}
-use Rattle.re_runs.proofs.lemmas.CountedBlocks.{more_follow}
-use Rattle.re_runs.proofs.lemmas.Ranges.{length_range, range_more, line_here}
-use Rattle.re_steps.proofs.lemmas.StageLaws.{goes_nowhere, searches_say}
-use Rattle.re_steps.proofs.lemmas.RowLaws.{mark_of_row, row_inside}
-use Rattle.re_steps.proofs.lemmas.WalkLaws.{comes_on, walked_on}
+use Rattle.{re_steps.proofs.{Prelude.{◌≡◌, ℕ, suc, ◌+◌, ◌-◌, ◌*◌, ◌/◌, ◌<◌, false, inl, inr, Some, [], ◌∷◌, ◌++◌, length, take, get_or, slice_get, slice_get-get_or, slice_index, slice_range, refl, sym, ap, ◌∙◌, subst, arith, false≢true, Text, HasNoNewline, newline, IsBlock, PassesUnmatched, Matches, Search, StateSet, Acceptance, Stage, IsPlain, Searches, LineSearch, StepTable, Lines, GoesOverLines, IsAtOf, IsRightFor, IsRow, cache_of, cell_at, expression_in, limit, walked}, lemmas.{StageLaws.{goes_nowhere, searches_say}, RowLaws.{mark_of_row, row_inside}, WalkLaws.{comes_on, walked_on}}}, std.proofs.{Common.{drop, append_assoc, append-nil, get_or-append-add, ◌≢◌}, lemmas.List.{length-append, Elements.All-push}}, re_meter.specs.Meters.fresh, re_trees.proofs.lemmas.LinesLaws.none_in_empty, re_runs.proofs.lemmas.{NextLines.passed_from, CountedBlocks.more_follow, Ranges.{length_range, range_more, line_here}}}
 
 module _ (asked : LineSearch) (t : StepTable) (right : IsRightFor asked t) (plain : (start : StateSet) → slice_get t.sets.keys 1 ≡ Some start → IsPlain (expression_in asked) asked.mode start) where
   abbrev block : Text

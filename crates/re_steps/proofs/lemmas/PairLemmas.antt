@@ -1,7 +1,5 @@
 -- A bounded cache, and the cells that show what it holds.
-use Rattle.re_steps.proofs.Prelude.{◌≡◌, ℕ, zero, suc, ◌-◌, ◌<◌, ◌≤◌, Bool, false, cond, List, [], ◌∷◌, ◌++◌, take, length, length-append, ◌⊎◌, inl, inr, Option, Some, None, slice_get, slice_index, get_or, set, replicate, nat_eq, refl, sym, ap, ◌∙◌, subst, arith, get_or-append_right, AllByRecursion, lookup, lookup_entry, keys_of, LruCache, IsValid, put_entries, displaced, unknown, shown, Mirrors, cases_eq, ne_eqb, nat_eq_equiv, take_all, get_or-set_same, get_or-set_other, get_or_append_left, get_or-replicate, length-set, length-replicate, lookup_from_place, slice_get_cases}
-use Rattle.std.specs.List.{IsDistinct}
-use Rattle.lru.proofs.Pairs.{lookup-lookup_entry}
+use Rattle.{re_steps.proofs.Prelude.{◌≡◌, ℕ, zero, suc, ◌-◌, ◌<◌, ◌≤◌, Bool, false, cond, List, [], ◌∷◌, ◌++◌, take, length, length-append, ◌⊎◌, inl, inr, Option, Some, None, slice_get, slice_index, get_or, set, replicate, nat_eq, refl, sym, ap, ◌∙◌, subst, arith, get_or-append_right, AllByRecursion, lookup, lookup_entry, keys_of, LruCache, IsValid, put_entries, displaced, unknown, shown, Mirrors, cases_eq, ne_eqb, nat_eq_equiv, take_all, get_or-set_same, get_or-set_other, get_or_append_left, get_or-replicate, length-set, length-replicate, lookup_from_place, slice_get_cases}, std.specs.List.IsDistinct, lru.proofs.Pairs.lookup-lookup_entry}
 
 -- what is said of all keys, at one place
 all_at : (P : ℕ → Type 0) (es : List (ℕ × ℕ)) (n : ℕ) (e : ℕ × ℕ) → AllByRecursion P (keys_of es) → slice_get es n ≡ Some e → P e.0

@@ -1,7 +1,5 @@
 -- Places of a line at which no matched stretch ends, and the steps up to them.
-use Rattle.re_steps.proofs.Prelude.{◌≡◌, ℕ, zero, suc, ◌+◌, ◌<◌, ◌≤◌, Bool, true, false, IsTrue, ◌⊎◌, inl, inr, length, refl, sym, ◌∙◌, arith, ◌↔◌, Text, Expression, Holds, Matches, Search, Whole, StateSet, PartHolds, part_of, IsNowhere, StandsAt, EndsAt, NoneEndsBefore, false≢true}
-use Rattle.re_auto.proofs.lemmas.Chains.{not_at_begin, passes}
-use Rattle.re_auto.proofs.lemmas.PositionsDecide.{positions_decide}
+use Rattle.{re_steps.proofs.Prelude.{◌≡◌, ℕ, zero, suc, ◌+◌, ◌<◌, ◌≤◌, Bool, true, false, IsTrue, ◌⊎◌, inl, inr, length, refl, sym, ◌∙◌, arith, ◌↔◌, Text, Expression, Holds, Matches, Search, Whole, StateSet, PartHolds, part_of, IsNowhere, StandsAt, EndsAt, NoneEndsBefore, false≢true}, re_auto.proofs.lemmas.{Chains.{not_at_begin, passes}, PositionsDecide.positions_decide}}
 
 -- what holds of no place before `next`, and not there, holds of none up to there
 pub none_more : (P : ℕ → Type 0) (place next : ℕ) → ((k : ℕ) → place ≤ k → k < next → ¬ P k) → ¬ P next → (k : ℕ) → place ≤ k → k < next + 1 → ¬ P k

@@ -1,7 +1,5 @@
 -- What is known of sets stays right when a set or a cell is added.
-use Rattle.re_steps.proofs.Prelude.{◌≡◌, ℕ, zero, suc, ◌+◌, ◌-◌, ◌*◌, ◌/◌, ◌<◌, ◌≤◌, false, ◌⊎◌, inl, inr, List, [], ◌∷◌, ◌++◌, Some, length, length-append, slice_get, slice_index, get_or, replicate, refl, sym, ap, ◌∙◌, arith, get_or-append_right, cases_eq, false≢true, get_or_append_left, get_or-replicate, length-replicate, div-mul-add, slice_get_within, get_or_from_slice_get, Expression, Mode, Search, StateSet, IsMadeFor, IsSame, IsNextSet, IsAccepting, TakenAlike, Acceptance, unknown, Mirrors, IsKeptOrLost, Rows, limit, AreSound, HasFirstRows, AreExtended, IsRowOf, IsMarkOf, IsCellOf, SaysNext, cell_at}
-use Rattle.re_auto.proofs.lemmas.RowLemmas.{row_within}
-use Rattle.re_steps.proofs.lemmas.StageLaws.{same_sym, next_same}
+use Rattle.{re_steps.proofs.{Prelude.{◌≡◌, ℕ, zero, suc, ◌+◌, ◌-◌, ◌*◌, ◌/◌, ◌<◌, ◌≤◌, false, ◌⊎◌, inl, inr, List, [], ◌∷◌, ◌++◌, Some, length, length-append, slice_get, slice_index, get_or, replicate, refl, sym, ap, ◌∙◌, arith, get_or-append_right, cases_eq, false≢true, get_or_append_left, get_or-replicate, length-replicate, div-mul-add, slice_get_within, get_or_from_slice_get, Expression, Mode, Search, StateSet, IsMadeFor, IsSame, IsNextSet, IsAccepting, TakenAlike, Acceptance, unknown, Mirrors, IsKeptOrLost, Rows, limit, AreSound, HasFirstRows, AreExtended, IsRowOf, IsMarkOf, IsCellOf, SaysNext, cell_at}, lemmas.StageLaws.{same_sym, next_same}}, re_auto.proofs.lemmas.RowLemmas.row_within}
 
 -- elements of a list that is longer by one
 pub get_left : {X : Type 0} (xs ys : List X) (k : ℕ) (x : X) → slice_get xs k ≡ Some x → slice_get (xs ++ ys) k ≡ Some x

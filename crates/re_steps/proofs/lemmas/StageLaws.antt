@@ -1,9 +1,5 @@
 -- What a search that went over a line stage by stage says, and how many steps it counted.
-use Rattle.re_steps.proofs.Prelude.{◌≡◌, ℕ, zero, suc, ◌+◌, ◌-◌, ◌<◌, ◌≤◌, Bool, true, false, IsTrue, ◌⊎◌, inl, inr, [], length, slice_index, refl, sym, ap, ◌∙◌, arith, eq-eqb, ◌↔◌, Text, Expression, Matches, Mode, Search, Whole, StateSet, Steps, many_built, part_of, is_end, IsSame, IsNowhere, IsNextSet, IsAccepting, StandsAt, CanBegin, AddsUpTo, EndsAt, NoneEndsBefore, Cache, Stage, AreAlike, IsHeld, IsPlain, GoesOver, Goes, Finishes, Searches, IsReadied, mode_for, false≢true, slice_get-get_or}
-use Rattle.re_meter.proofs.lemmas.Adding.{adds_none, adds_within, adds_both, reused_adds, built_adds}
-use Rattle.re_auto.proofs.lemmas.Chains.{not_at_end}
-use Rattle.re_auto.proofs.lemmas.SetsByWords.{stands_next, matched_by, nowhere_stays}
-use Rattle.re_steps.proofs.lemmas.Passing.{none_at_first, matched_at, end_decides, whole_decides, nowhere_fails}
+use Rattle.{re_steps.proofs.{Prelude.{◌≡◌, ℕ, zero, suc, ◌+◌, ◌-◌, ◌<◌, ◌≤◌, Bool, true, false, IsTrue, ◌⊎◌, inl, inr, [], length, slice_index, refl, sym, ap, ◌∙◌, arith, eq-eqb, ◌↔◌, Text, Expression, Matches, Mode, Search, Whole, StateSet, Steps, many_built, part_of, is_end, IsSame, IsNowhere, IsNextSet, IsAccepting, StandsAt, CanBegin, AddsUpTo, EndsAt, NoneEndsBefore, Cache, Stage, AreAlike, IsHeld, IsPlain, GoesOver, Goes, Finishes, Searches, IsReadied, mode_for, false≢true, slice_get-get_or}, lemmas.Passing.{none_at_first, matched_at, end_decides, whole_decides, nowhere_fails}}, re_meter.proofs.lemmas.Adding.{adds_none, adds_within, adds_both, reused_adds, built_adds}, re_auto.proofs.lemmas.{Chains.not_at_end, SetsByWords.{stands_next, matched_by, nowhere_stays}}}
 
 -- sets that are the same
 pub same_sym : (one other : StateSet) → IsSame one other → IsSame other one

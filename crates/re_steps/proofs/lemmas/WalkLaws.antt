@@ -1,10 +1,7 @@
 -- Searches that go on by what is held, and where they get.
-use Rattle.re_steps.proofs.Prelude.{◌≡◌, ℕ, zero, suc, ◌+◌, ◌-◌, ◌*◌, ◌<◌, ◌≤◌, Bool, true, false, ◌⊎◌, inl, inr, List, Option, Some, None, length, nat_eq, nat_lt, get_or, slice_get, slice_index, refl, sym, ap, ◌∙◌, subst, arith, IsSome, lookup, Text, Expression, Mode, the_type, Search, Whole, StateSet, AddsJust, Steps, many_built, many_reused, IsNextSet, Acceptance, unknown, shown, Mirrors, IsKeptOrLost, Cache, Stage, IsHeld, HoldsNoOther, GoesOver, Goes, LineSearch, StepTable, Spot, Went, Rows, limit, AreSound, IsRightFor, IsRowOf, SaysNext, ComesTo, Lands, LandsAlone, cell_at, row_under, walked, IsAt, HasLanded, LeadsOn, Arrives, false≢true, lt-ltb, ltb-true, cases_eq, slice_get_within, slice_get-get_or, get_or_from_slice_get}
+use Rattle.{re_steps.proofs.{Prelude.{◌≡◌, ℕ, zero, suc, ◌+◌, ◌-◌, ◌*◌, ◌<◌, ◌≤◌, Bool, true, false, ◌⊎◌, inl, inr, List, Option, Some, None, length, nat_eq, nat_lt, get_or, slice_get, slice_index, refl, sym, ap, ◌∙◌, subst, arith, IsSome, lookup, Text, Expression, Mode, the_type, Search, Whole, StateSet, AddsJust, Steps, many_built, many_reused, IsNextSet, Acceptance, unknown, shown, Mirrors, IsKeptOrLost, Cache, Stage, IsHeld, HoldsNoOther, GoesOver, Goes, LineSearch, StepTable, Spot, Went, Rows, limit, AreSound, IsRightFor, IsRowOf, SaysNext, ComesTo, Lands, LandsAlone, cell_at, row_under, walked, IsAt, HasLanded, LeadsOn, Arrives, false≢true, lt-ltb, ltb-true, cases_eq, slice_get_within, slice_get-get_or, get_or_from_slice_get}, lemmas.{StageLaws.{nothing_held, goes_on, same_sym}, RowLaws.{cell_within, same_place, number_within}}}, re_meter.proofs.lemmas.Adding.{adds_none, reused_adds}}
 use denote.Enum.Bare.{sameb}
 use Rattle.re_steps.specs.declared.walk.Went.TheVariants as w
-use Rattle.re_meter.proofs.lemmas.Adding.{adds_none, reused_adds}
-use Rattle.re_steps.proofs.lemmas.StageLaws.{nothing_held, goes_on, same_sym}
-use Rattle.re_steps.proofs.lemmas.RowLaws.{cell_within, same_place, number_within}
 
 -- over no byte
 pub walked_none : (place : ℕ) (steps : Steps) → walked (place - place) steps ≡ steps

@@ -1,6 +1,6 @@
 -- Cells that show what a bounded cache holds.
-use Rattle.std.specs.Prelude.{◌≡◌, ℕ, ◌-◌, ◌^◌, ◌<◌, ◌⊎◌, List, nat_eq, length, slice_index, Option, Some, None}
-use Rattle.std.specs.Map.{lookup}
+use Rattle.std.specs.Prelude.{length, ◌⊎◌, Option, List, Some, ℕ, ◌<◌, ◌-◌, nat_eq, ◌≡◌, None, ◌^◌}
+use Rattle.std.specs.{Prelude.slice_index, Map.lookup}
 
 -- the cells, the entries of the cache, and how many there may be
 pub record Held : Type 0 where

@@ -1,18 +1,16 @@
 -- Numbered sets of positions, and for each a row of cells with the set after each byte, as far as
 -- that is held.
-use Rattle.std.specs.Prelude.{◌≡◌, ℕ, zero, suc, ◌+◌, ◌-◌, ◌*◌, ◌^◌, ◌<◌, ◌≤◌, ◌↔◌, ◌⊎◌, List, Some}
-use Rattle.std.specs.Prelude.{[], true, false, IsTrue, length, nat_lt, if◌then◌else◌, slice_get}
-use Rattle.std.specs.Prelude.{slice_index}
-use Rattle.re_trees.specs.{Bytes.Text, Expression.Expression, Working.Trees.expression_of}
+use Rattle.std.specs.Prelude.{◌-◌, if◌then◌else◌, ℕ, ◌↔◌, ◌+◌, suc, false, ◌^◌, ◌≡◌, IsTrue, ◌≤◌}
+use Rattle.std.specs.Prelude.{slice_index, zero, ◌⊎◌, List, ◌*◌, [], slice_get, true, Some, nat_lt}
+use Rattle.{std.specs.Prelude.{◌<◌, length}, re_trees.specs.Bytes.Text}
+use Rattle.re_trees.specs.{Working.Trees.expression_of, Expression.Expression}
 use Rattle.re_auto.specs.Working.StateSets.{IsMadeFor, IsSame, IsNowhere, IsNextSet, IsAccepting}
 use Rattle.re_auto.specs.Working.StateSets.{StandsAt, AreAlikeInClasses}
-use Rattle.re_auto.specs.{declared.mode.Mode.Mode, declared.mode.Mode.TheVariants.Search}
-use Rattle.re_auto.specs.declared.step.state_set.StateSet.{StateSet}
-use Rattle.re_meter.specs.Meters.{Steps, many_reused}
-use Rattle.re_steps.specs.Working.Stages.{Cache, Stage, IsPlain, Goes}
-use Rattle.re_steps.specs.declared.table.Acceptance.{Acceptance}
-use Rattle.re_steps.specs.{declared.table.LineSearch.LineSearch, declared.table.StepTable.StepTable}
-use Rattle.re_steps.specs.{Working.Pairs.unknown, Working.Pairs.Mirrors}
+use Rattle.re_auto.specs.declared.{step.state_set.StateSet.StateSet, mode.Mode.TheVariants.Search}
+use Rattle.{re_auto.specs.declared.mode.Mode.Mode, re_meter.specs.Meters.{Steps, many_reused}}
+use Rattle.re_steps.specs.Working.{Pairs.{unknown, Mirrors}, Stages.{IsPlain, Cache, Goes, Stage}}
+use Rattle.re_steps.specs.declared.table.{Acceptance.Acceptance, LineSearch.LineSearch}
+use Rattle.re_steps.specs.declared.table.StepTable.{StepTable}
 
 -- numbered sets, their marks and cells, what the cache holds of these, and how many cells it may hold
 pub record Rows : Type 0 where

@@ -1,16 +1,12 @@
 -- Where a search gets that goes on over a line by held pairs.
-use Rattle.std.specs.Prelude.{◌≡◌, ℕ, suc, ◌-◌, ◌<◌, ◌≤◌, Bool, false, [], ◌++◌, Some, length}
-use Rattle.std.specs.Prelude.{slice_get, slice_range}
-use Rattle.re_trees.specs.{Bytes.Text, Lines.HasNoNewline}
-use Rattle.re_auto.specs.declared.step.state_set.StateSet.{StateSet}
-use Rattle.re_meter.specs.Meters.{Steps}
+use Rattle.std.specs.Prelude.{ℕ, slice_get, length, Bool, ◌≡◌, suc, ◌≤◌, Some, false, slice_range}
+use Rattle.{std.specs.Prelude.{◌<◌, [], ◌-◌, ◌++◌}, re_trees.specs.{Lines.HasNoNewline, Bytes.Text}}
+use Rattle.{re_auto.specs.declared.step.state_set.StateSet.StateSet, re_meter.specs.Meters.Steps}
 use Rattle.re_runs.specs.Working.Blocks.{PassesUnmatched}
-use Rattle.re_steps.specs.Working.Rows.{IsRightFor, IsRow, ComesTo, Lands, LandsAlone, cache_of}
-use Rattle.re_steps.specs.Working.Rows.{walked, expression_in}
-use Rattle.re_steps.specs.Working.Stages.{Cache, Stage, Goes, Finishes}
-use Rattle.re_steps.specs.{declared.table.LineSearch.LineSearch, declared.table.StepTable.StepTable}
-use Rattle.re_steps.specs.{declared.walk.Lines.Lines, declared.walk.Spot.Spot}
-use Rattle.re_steps.specs.{declared.walk.Went.Went, declared.walk.Outcome.Outcome}
+use Rattle.re_steps.specs.declared.table.{StepTable.StepTable, LineSearch.LineSearch}
+use Rattle.re_steps.specs.declared.walk.{Spot.Spot, Lines.Lines, Went.Went, Outcome.Outcome}
+use Rattle.re_steps.specs.Working.{Stages.{Finishes, Stage, Goes, Cache}, Rows.{IsRow, LandsAlone}}
+use Rattle.re_steps.specs.Working.Rows.{cache_of, Lands, ComesTo, walked, expression_in, IsRightFor}
 use Rattle.re_steps.specs.declared.walk.Went.TheVariants as w
 use Rattle.re_steps.specs.declared.walk.Outcome.TheVariants as o
 

@@ -1,7 +1,5 @@
 -- Ends that are put where strings begin.
-use Rattle.re_strings.proofs.Prelude.{◌≡◌, ◌↔◌, ℕ, ◌+◌, ◌-◌, ◌<◌, ◌≤◌, ◌⊎◌, inl, inr, List, length, drop, sym, ap, subst, ◌∙◌, arith, length-drop, cases_lt, drop-drop, Text, AddsEnds, IsString, StandsFor, IsOutput, EndsWith, Labels, Occurs, StandsAtNode}
-use Rattle.re_strings.proofs.lemmas.SetSteps.{string_front}
-use Rattle.re_strings.proofs.lemmas.SetSearch.{read_length, node_length, same_end, begins_with_node}
+use Rattle.re_strings.proofs.{Prelude.{◌≡◌, ◌↔◌, ℕ, ◌+◌, ◌-◌, ◌<◌, ◌≤◌, ◌⊎◌, inl, inr, List, length, drop, sym, ap, subst, ◌∙◌, arith, length-drop, cases_lt, drop-drop, Text, AddsEnds, IsString, StandsFor, IsOutput, EndsWith, Labels, Occurs, StandsAtNode}, lemmas.{SetSteps.string_front, SetSearch.{read_length, node_length, same_end, begins_with_node}}}
 
 -- nothing is put
 pub adds_no_ends : (P : ℕ → ℕ → Type 0) (line : Text) (ends : List ℕ) → length ends ≡ length line → ((i m : ℕ) → i < length line → ¬ P i m) → AddsEnds P line ends ends

@@ -1,7 +1,5 @@
 -- Leaps of a search for many strings: where none of them begins.
-use Rattle.re_strings.proofs.Prelude.{◌≡◌, ℕ, ◌+◌, ◌-◌, ◌<◌, ◌≤◌, inl, inr, List, [], ◌++◌, length, take, drop, slice_index, refl, sym, subst, ◌∙◌, arith, length-drop, drop-append-le, length-take-le, get_or-drop, get_or-take, get_or_default, get_or_append_left, cases_lt, Text, Leaps, text_at, HaveSame, IsFront, IsString, Labels, Occurs, NoneBetween, NoneBegins, StandsAtNode, StandsSince, AreLeapsOf, pair_row}
-use Rattle.re_strings.proofs.lemmas.SetSteps.{front_shorter, string_front, empty_end}
-use Rattle.re_strings.proofs.lemmas.SetSearch.{read_length, read_on, begins_with_node, nothing_read, from_since}
+use Rattle.re_strings.proofs.{Prelude.{◌≡◌, ℕ, ◌+◌, ◌-◌, ◌<◌, ◌≤◌, inl, inr, List, [], ◌++◌, length, take, drop, slice_index, refl, sym, subst, ◌∙◌, arith, length-drop, drop-append-le, length-take-le, get_or-drop, get_or-take, get_or_default, get_or_append_left, cases_lt, Text, Leaps, text_at, HaveSame, IsFront, IsString, Labels, Occurs, NoneBetween, NoneBegins, StandsAtNode, StandsSince, AreLeapsOf, pair_row}, lemmas.{SetSteps.{front_shorter, string_front, empty_end}, SetSearch.{read_length, read_on, begins_with_node, nothing_read, from_since}}}
 
 -- the bytes of a part of a line
 byte_of_part : (line : Text) (i j k : ℕ) → i + k < j → slice_index (drop i (take j line)) k ≡ slice_index line (i + k)

@@ -1,6 +1,5 @@
 -- Fallbacks, and the longest string that a node ends with.
-use Rattle.re_strings.proofs.Prelude.{◌≡◌, ℕ, ◌+◌, ◌-◌, ◌<◌, ◌≤◌, inl, inr, Bool, true, false, List, [], ◌∷◌, ◌++◌, length, drop, slice_index, nat_lt, refl, sym, ap, subst, ◌∙◌, arith, length-append, length-drop, if◌then◌else◌, ltb-true, ltb-false, drop-drop, get_or_append_left, get_or_push, cases_lt, Text, IsString, StandsFor, IsOutput, Labels, AreLinked, AreLinkedFor, own_or}
-use Rattle.re_strings.proofs.lemmas.SetSteps.{string_front}
+use Rattle.re_strings.proofs.{Prelude.{◌≡◌, ℕ, ◌+◌, ◌-◌, ◌<◌, ◌≤◌, inl, inr, Bool, true, false, List, [], ◌∷◌, ◌++◌, length, drop, slice_index, nat_lt, refl, sym, ap, subst, ◌∙◌, arith, length-append, length-drop, if◌then◌else◌, ltb-true, ltb-false, drop-drop, get_or_append_left, get_or_push, cases_lt, Text, IsString, StandsFor, IsOutput, Labels, AreLinked, AreLinkedFor, own_or}, lemmas.SetSteps.string_front}
 
 -- the longest string that a node ends with: the node if it is one, else that of its fallback
 pub output_is : {all : Labels} (n f own out : ℕ) → StandsFor all.strings (all.label f) (all.label n) 1 → IsOutput all (all.label f) out

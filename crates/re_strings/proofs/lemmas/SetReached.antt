@@ -1,6 +1,5 @@
 -- When a search for many fixed strings is over, and what it counted.
-use Rattle.re_strings.proofs.Prelude.{◌≡◌, ℕ, zero, suc, ◌-◌, ◌<◌, ◌≤◌, [], Bool, true, false, length, take, drop, nat_eq, nat_lt, Option, Some, None, refl, sym, ap, ◌∙◌, arith, if◌then◌else◌, eqb-false, none-some, Text, better_span, Span, IsFront, EndsIn, Labels, StandsAtNode, StandsSince, IsBestOccurrence, better_ending}
-use Rattle.re_strings.proofs.lemmas.SetSearch.{read_length, node_length, begun_at}
+use Rattle.re_strings.proofs.{Prelude.{◌≡◌, ℕ, zero, suc, ◌-◌, ◌<◌, ◌≤◌, [], Bool, true, false, length, take, drop, nat_eq, nat_lt, Option, Some, None, refl, sym, ap, ◌∙◌, arith, if◌then◌else◌, eqb-false, none-some, Text, better_span, Span, IsFront, EndsIn, Labels, StandsAtNode, StandsSince, IsBestOccurrence, better_ending}, lemmas.SetSearch.{read_length, node_length, begun_at}}
 
 -- once a string was found, its node or a later one is the longest end of all that was read, and begins
 -- no later

@@ -1,7 +1,5 @@
 -- Searches for many fixed strings: which of them end at a place, and which is the best.
-use Rattle.re_strings.proofs.Prelude.{◌≡◌, ◌↔◌, ℕ, zero, suc, add-one, ◌+◌, ◌-◌, ◌<◌, ◌≤◌, inl, inr, Bool, true, false, IsTrue, List, [], ◌∷◌, ◌++◌, length, take, drop, slice_index, nat_eq, Option, Some, None, refl, sym, ap, subst, ◌∙◌, arith, length-drop, if◌then◌else◌, get_or, eq-eqb, eq-or-lt_of_le, eqb-true, eqb-false, cases_lt, get_or_default_zero, drop-length, take-suc, drop-append-le, drop-drop, length-take-le, take-append-drop, Text, IsBest, Least, better, places, better_span, Span, IsFront, IsString, EndsIn, Labels, StepsOn, Occurs, NoneBetween, StandsAtNode, StandsSince, IsBestOccurrence, better_ending}
-use Rattle.re_trees.proofs.lemmas.BestStretches.{better_places, best_so_far}
-use Rattle.re_strings.proofs.lemmas.SetSteps.{front_shorter, string_front, may_at_first}
+use Rattle.{re_strings.proofs.{Prelude.{◌≡◌, ◌↔◌, ℕ, zero, suc, add-one, ◌+◌, ◌-◌, ◌<◌, ◌≤◌, inl, inr, Bool, true, false, IsTrue, List, [], ◌∷◌, ◌++◌, length, take, drop, slice_index, nat_eq, Option, Some, None, refl, sym, ap, subst, ◌∙◌, arith, length-drop, if◌then◌else◌, get_or, eq-eqb, eq-or-lt_of_le, eqb-true, eqb-false, cases_lt, get_or_default_zero, drop-length, take-suc, drop-append-le, drop-drop, length-take-le, take-append-drop, Text, IsBest, Least, better, places, better_span, Span, IsFront, IsString, EndsIn, Labels, StepsOn, Occurs, NoneBetween, StandsAtNode, StandsSince, IsBestOccurrence, better_ending}, lemmas.SetSteps.{front_shorter, string_front, may_at_first}}, re_trees.proofs.lemmas.BestStretches.{better_places, best_so_far}}
 
 -- what is read of a line up to a place has that length
 pub read_length : (line : Text) (place : ℕ) → place ≤ length line → length (take place line) ≡ place

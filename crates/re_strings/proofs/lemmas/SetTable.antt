@@ -1,6 +1,5 @@
 -- The tables of strings in order, as those of any list with the same strings.
-use Rattle.re_strings.proofs.Prelude.{◌≡◌, ℕ, ◌+◌, ◌<◌, ◌≤◌, inl, inr, Bool, true, false, List, [], ◌∷◌, ◌++◌, length, get_or, slice_get, slice_index, nat_eq, refl, sym, ap, ◌∙◌, arith, if◌then◌else◌, eqb-true, eqb-false, cases_lt, append-nil, get_or_default, length-take, get_or-eq_default, slice_get_past, slice_get-get_or, Text, Begins, Branch, IsFront, IsString, Labels, IsTrieOf, AreOwn, text_at, rank, AreAscending, branch_text, IsBranch, branch_at, no_branch, AreRows, own_length, HaveSame}
-use Rattle.re_strings.proofs.lemmas.SetSearch.{all_read}
+use Rattle.re_strings.proofs.{Prelude.{◌≡◌, ℕ, ◌+◌, ◌<◌, ◌≤◌, inl, inr, Bool, true, false, List, [], ◌∷◌, ◌++◌, length, get_or, slice_get, slice_index, nat_eq, refl, sym, ap, ◌∙◌, arith, if◌then◌else◌, eqb-true, eqb-false, cases_lt, append-nil, get_or_default, length-take, get_or-eq_default, slice_get_past, slice_get-get_or, Text, Begins, Branch, IsFront, IsString, Labels, IsTrieOf, AreOwn, text_at, rank, AreAscending, branch_text, IsBranch, branch_at, no_branch, AreRows, own_length, HaveSame}, lemmas.SetSearch.all_read}
 
 -- a string that begins with a text is in both lists
 pub same_front : (texts strings : List Text) → HaveSame texts strings → (w : Text) → IsFront strings w → IsFront texts w

@@ -1,11 +1,10 @@
 -- Many fixed strings at once: the tree of their beginnings, each with the longest end of it that is
 -- such a beginning too by the Aho-Corasick algorithm.
-use Rattle.std.specs.Prelude.{◌≡◌, ℕ, ◌+◌, ◌-◌, ◌*◌, ◌^◌, ◌<◌, ◌≤◌, List, [], ◌∷◌, ◌++◌, length, take, drop, Any, slice_index, Option, nat_eq, nat_lt, if◌then◌else◌}
-use Rattle.re_trees.specs.Bytes.{Text, Begins}
+use Rattle.std.specs.Prelude.{◌≡◌, ℕ, ◌+◌, ◌-◌, ◌*◌, ◌^◌, ◌<◌, ◌≤◌, List, [], ◌∷◌, ◌++◌, length}
+use Rattle.std.specs.Prelude.{take, drop, Any, slice_index, Option, nat_eq, nat_lt, if◌then◌else◌}
 use Rattle.re_trees.specs.Working.BestStretches.{IsBest, places, better_span}
-use Rattle.re_trees.specs.declared.span.Span.{Span}
-use Rattle.re_strings.specs.declared.leaps.Leaps.{Leaps}
-use Rattle.re_strings.specs.declared.aho_corasick.AhoCorasick.{AhoCorasick}
+use Rattle.re_trees.specs.{declared.span.Span.Span, Bytes.{Text, Begins}}
+use Rattle.re_strings.specs.declared.{leaps.Leaps.Leaps, aho_corasick.AhoCorasick.AhoCorasick}
 
 -- some string begins with the text
 abbrev pub IsFront : List Text → Text → Type 0

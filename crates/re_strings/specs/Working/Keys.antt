@@ -1,6 +1,6 @@
 -- Bytes and texts as strings are compared.
 use Rattle.std.specs.Prelude.{ℕ, ◌+◌, Bool, true, false, map, if◌then◌else◌}
-use Rattle.re_trees.specs.{declared.class.Class.TheVariants.Upper, Bytes.Text, Bytes.in_class}
+use Rattle.re_trees.specs.{declared.class.Class.TheVariants.Upper, Bytes.{Text, in_class}}
 
 -- a byte as strings are compared: an upper-case letter by its lower case where `fold` is set
 unfoldable pub key : Bool → ℕ → ℕ

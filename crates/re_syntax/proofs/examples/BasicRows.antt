@@ -1,8 +1,5 @@
 -- Worked examples of basic expressions: texts and what they spell.
-use Rattle.re_syntax.proofs.Prelude.{ℕ, Bool, [], ◌∷◌, Some, None, IsTrue, codes, refl, arith, Basic, Text, empty, begin, end, repeat, cat, alt, byte, IsNumber, IsAllowed, exactly, of_group, IsSpelled}
-use Rattle.re_syntax.specs.declared.tokens.ItemPlace.{ItemPlace}
-use Rattle.re_syntax.specs.BasicTokens.{star, interval, is_ordinary, opens, closes, parts, leads, trails, repeats, dollar, ordinary}
-use Rattle.re_syntax.proofs.lemmas.SpelledParts.{ItemReads, single, group, repeated, none, anchor, item, last, more, spells}
+use Rattle.re_syntax.{proofs.{Prelude.{ℕ, Bool, [], ◌∷◌, Some, None, IsTrue, codes, refl, arith, Basic, Text, empty, begin, end, repeat, cat, alt, byte, IsNumber, IsAllowed, exactly, of_group, IsSpelled}, lemmas.SpelledParts.{ItemReads, single, group, repeated, none, anchor, item, last, more, spells}}, specs.{declared.tokens.ItemPlace.ItemPlace, BasicTokens.{star, interval, is_ordinary, opens, closes, parts, leads, trails, repeats, dollar, ordinary}}}
 
 -- a byte that stands for itself
 itself : {g : Bool} {p : ItemPlace} {t : Text} (b : ℕ) → IsTrue (is_ordinary p b) → ItemReads Basic g p 0 (b ∷ t) t (byte b)

@@ -1,8 +1,5 @@
 -- Worked examples of bracket expressions: texts, what they mean, and what follows them.
-use Rattle.re_syntax.proofs.Prelude.{◌≡◌, ℕ, ◌≤◌, ◌⊎◌, inl, inr, false, nat_eq, [], ◌∷◌, codes, refl, arith, ListPlace, AfterPoint, AfterRange, Text, Begins, nothing, only, range, union, one_of, none_of, Point, bare, symbol, Element, equivalence, alone, span, Rest, closing, IsBracket, matching, non_matching}
-use Rattle.re_syntax.specs.declared.bracket.ListPlace.TheVariants.{First}
-use Rattle.re_syntax.specs.Brackets.{more}
-use Rattle.re_syntax.proofs.lemmas.BracketsUnique.{heads, apart}
+use Rattle.re_syntax.{proofs.{Prelude.{◌≡◌, ℕ, ◌≤◌, ◌⊎◌, inl, inr, false, nat_eq, [], ◌∷◌, codes, refl, arith, ListPlace, AfterPoint, AfterRange, Text, Begins, nothing, only, range, union, one_of, none_of, Point, bare, symbol, Element, equivalence, alone, span, Rest, closing, IsBracket, matching, non_matching}, lemmas.BracketsUnique.{heads, apart}}, specs.{declared.bracket.ListPlace.TheVariants.First, Brackets.more}}
 
 -- a text does not begin with a byte that a test finds different from its first
 not_begins : (c b : ℕ) {t : Text} → nat_eq c b ≡ false → ¬ Begins (b ∷ []) (c ∷ t)

@@ -1,9 +1,5 @@
 -- Worked examples of extended expressions: texts and what they spell.
-use Rattle.re_syntax.proofs.Prelude.{ℕ, Bool, [], ◌∷◌, Some, None, IsTrue, codes, refl, arith, Extended, Text, empty, begin, end, repeat, cat, alt, byte, IsNumber, IsAllowed, exactly, up_to, IsSpelled}
-use Rattle.re_syntax.specs.declared.tokens.ItemPlace.{ItemPlace}
-use Rattle.re_syntax.specs.ExtendedTokens.{star, interval, is_ordinary, opens, closes, parts, leads, repeats, dollar, ordinary, brace}
-use Rattle.re_syntax.proofs.lemmas.ExtendedBraces.{not_number_first, no_number_after, no_closing}
-use Rattle.re_syntax.proofs.lemmas.SpelledParts.{ItemReads, ItemsRead, single, group, repeated, none, anchor, item, last, more, spells}
+use Rattle.re_syntax.{proofs.{Prelude.{ℕ, Bool, [], ◌∷◌, Some, None, IsTrue, codes, refl, arith, Extended, Text, empty, begin, end, repeat, cat, alt, byte, IsNumber, IsAllowed, exactly, up_to, IsSpelled}, lemmas.{ExtendedBraces.{not_number_first, no_number_after, no_closing}, SpelledParts.{ItemReads, ItemsRead, single, group, repeated, none, anchor, item, last, more, spells}}}, specs.{declared.tokens.ItemPlace.ItemPlace, ExtendedTokens.{star, interval, is_ordinary, opens, closes, parts, leads, repeats, dollar, ordinary, brace}}}
 
 -- a byte that stands for itself; one byte and nothing else
 itself : {g : Bool} {p : ItemPlace} {t : Text} (b : ℕ) → IsTrue (is_ordinary g b) → ItemReads Extended g p 0 (b ∷ t) t (byte b)

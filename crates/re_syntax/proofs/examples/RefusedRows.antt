@@ -1,11 +1,7 @@
 -- Worked examples of texts that are refused, with their first fault.
-use Rattle.re_syntax.proofs.Prelude.{ℕ, codes, refl, arith, Basic, Extended, FaultKind, IntervalTooLarge, NothingToRepeat, UnclosedGroup, UnopenedGroup, Text, IsNumber, exactly, between, opens_star, opens_interval, least_too_large}
-use Rattle.re_syntax.specs.BasicTokens.{unopened}
+use Rattle.re_syntax.{proofs.Prelude.{ℕ, codes, refl, arith, Basic, Extended, FaultKind, IntervalTooLarge, NothingToRepeat, UnclosedGroup, UnopenedGroup, Text, IsNumber, exactly, between, opens_star, opens_interval, least_too_large}, specs.{BasicTokens.unopened, FirstFaults.{IsFirstFault, no_token, later}, ExtendedTokens.{needs_item, disallowed, opens, parts, leads, ordinary}}}
 use Rattle.re_syntax.specs.BasicTokens.{ordinary as basic_ordinary}
-use Rattle.re_syntax.specs.FirstFaults.{IsFirstFault, no_token, later}
 use Rattle.re_syntax.specs.FirstFaults.{unclosed as never_closed}
-use Rattle.re_syntax.specs.ExtendedTokens.{needs_item, disallowed}
-use Rattle.re_syntax.specs.ExtendedTokens.{opens, parts, leads, ordinary}
 
 -- a fault of this kind at this place
 abbrev At : FaultKind → ℕ → Text → Type 0

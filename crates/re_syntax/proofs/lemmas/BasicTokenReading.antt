@@ -1,11 +1,5 @@
 -- Tokens of basic expressions, by the bytes at their place.
-use Rattle.re_syntax.proofs.Prelude.{HasNoTimes, ◌≡◌, ◌≢◌, ℕ, ◌+◌, ◌<◌, ◌≤◌, ◌⊎◌, inl, inr, Bool, true, not, [], ◌∷◌, length, drop, Option, IsTrue, codes, refl, sym, ap, ◌∙◌, arith, ne_eqb, cases_eq, length-drop, Text, Begins, one_of, EscapeStands, basic_refused, IsAtEnd, of_text, of_group, of_branch, NeedsItem, needs_interval, needs_plus, needs_question, meant_bytes, HasNoSign, HasNoTail, OpensNoDuplication, is_in, is_undefined}
-use Rattle.re_syntax.specs.declared.tokens.ItemPlace.{ItemPlace}
-use Rattle.re_syntax.specs.declared.tokens.ItemPlace.TheVariants.{First, AfterAnchor, Later}
-use Rattle.re_syntax.specs.BasicTokens.{Duplication, is_ordinary, star, plus, question, interval}
-use Rattle.re_syntax.specs.Tokens.{atom}
-use Rattle.re_syntax.specs.BasicTokens.{BasicToken, marks, period, dollar, ordinary}
-use Rattle.re_syntax.specs.Profile.{basic_escaped}
+use Rattle.re_syntax.{proofs.Prelude.{HasNoTimes, ◌≡◌, ◌≢◌, ℕ, ◌+◌, ◌<◌, ◌≤◌, ◌⊎◌, inl, inr, Bool, true, not, [], ◌∷◌, length, drop, Option, IsTrue, codes, refl, sym, ap, ◌∙◌, arith, ne_eqb, cases_eq, length-drop, Text, Begins, one_of, EscapeStands, basic_refused, IsAtEnd, of_text, of_group, of_branch, NeedsItem, needs_interval, needs_plus, needs_question, meant_bytes, HasNoSign, HasNoTail, OpensNoDuplication, is_in, is_undefined}, specs.{declared.tokens.ItemPlace.{ItemPlace, TheVariants.{First, AfterAnchor, Later}}, BasicTokens.{Duplication, is_ordinary, star, plus, question, interval, BasicToken, marks, period, dollar, ordinary}, Tokens.atom, Profile.basic_escaped}}
 
 pub dup_length : {d : Text} {least : ℕ} {most : Option ℕ} → Duplication d least most → 0 < length d
 dup_length star = omega arith

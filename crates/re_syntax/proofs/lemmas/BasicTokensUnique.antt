@@ -1,17 +1,5 @@
 -- A place of a basic expression has one token, or one fault.
-use Rattle.re_syntax.proofs.Prelude.{EscapeFault, undefined, reference, ◌≡◌, ◌≢◌, ℕ, ◌+◌, inl, inr, Bool, nat_eq, [], ◌∷◌, ◌++◌, Option, IsTrue, codes, if◌then◌else◌, refl, sym, ap, ◌∙◌, ne_eqb, or_cases, or_left, or_right, Alnum, in_class, FaultKind, Basic, Text, IsAtEnd, of_text, of_group, of_branch, NeedsItem, needs_interval, needs_plus, needs_question, basic_refused, is_in, is_undefined, one_to_nine}
-use Rattle.re_syntax.specs.declared.tokens.ItemPlace.{ItemPlace}
-use Rattle.re_syntax.specs.declared.tokens.ItemPlace.TheVariants.{Later}
-use Rattle.re_syntax.specs.BasicTokens.{Duplication, is_ordinary, star, plus, question, interval}
-use Rattle.re_syntax.specs.Profile.{basic_escaped}
-use Rattle.re_syntax.specs.Tokens.{Token, closing, bar, times}
-use Rattle.re_syntax.specs.EscapeFaults.{trailing}
-use Rattle.re_syntax.specs.BasicTokens.{BasicToken, opens, closes, parts, leads, trails, repeats, bracket, period, dollar, escaped, ordinary, BasicTokenFault, in_bracket, in_escape, unopened, needs_item, no_form, disallowed}
-use Rattle.re_syntax.proofs.lemmas.BracketsUnique.{heads, tails, apart, bracket_front, IsBracket-unique}
-use Rattle.re_syntax.proofs.lemmas.BracketFaultsUnique.{bracket_fault-unique, bracket-no_fault, bracket_fault_front}
-use Rattle.re_syntax.proofs.lemmas.CutsUnique.{SameToken, SameFault, IsExact}
-use Rattle.re_syntax.proofs.lemmas.EscapeLaws.{escape_fault-unique, escape-no_fault}
-use Rattle.re_syntax.proofs.lemmas.TokenParts.{closed-unique, same_times, closed_by, no_closed, never_allowed, disallowed-unique}
+use Rattle.re_syntax.{proofs.{Prelude.{EscapeFault, undefined, reference, ◌≡◌, ◌≢◌, ℕ, ◌+◌, inl, inr, Bool, nat_eq, [], ◌∷◌, ◌++◌, Option, IsTrue, codes, if◌then◌else◌, refl, sym, ap, ◌∙◌, ne_eqb, or_cases, or_left, or_right, Alnum, in_class, FaultKind, Basic, Text, IsAtEnd, of_text, of_group, of_branch, NeedsItem, needs_interval, needs_plus, needs_question, basic_refused, is_in, is_undefined, one_to_nine}, lemmas.{BracketsUnique.{heads, tails, apart, bracket_front, IsBracket-unique}, BracketFaultsUnique.{bracket_fault-unique, bracket-no_fault, bracket_fault_front}, CutsUnique.{SameToken, SameFault, IsExact}, EscapeLaws.{escape_fault-unique, escape-no_fault}, TokenParts.{closed-unique, same_times, closed_by, no_closed, never_allowed, disallowed-unique}}}, specs.{declared.tokens.ItemPlace.{ItemPlace, TheVariants.Later}, BasicTokens.{Duplication, is_ordinary, star, plus, question, interval, BasicToken, opens, closes, parts, leads, trails, repeats, bracket, period, dollar, escaped, ordinary, BasicTokenFault, in_bracket, in_escape, unopened, needs_item, no_form, disallowed}, Profile.basic_escaped, Tokens.{Token, closing, bar, times}, EscapeFaults.trailing}}
 
 -- the kind of what begins with these bytes: all that may begin a duplication is of one kind
 abbrev escape_kind : Text → ℕ

@@ -1,7 +1,5 @@
 -- Which element is where a point is, and where there is none.
-use Rattle.re_syntax.proofs.Prelude.{◌≡◌, ◌≢◌, ℕ, ◌≤◌, ◌⊎◌, inl, inr, ◌∷◌, ◌++◌, codes, refl, ap, ◌∙◌, ListPlace, AfterPoint, AfterRange, Text, Begins, only, range, Point, bare, Element, alone, span, MayGoOn}
-use Rattle.re_syntax.specs.declared.bracket.ListPlace.TheVariants.{First}
-use Rattle.re_syntax.proofs.lemmas.BracketsUnique.{apart, point-unique}
+use Rattle.re_syntax.{proofs.{Prelude.{◌≡◌, ◌≢◌, ℕ, ◌≤◌, ◌⊎◌, inl, inr, ◌∷◌, ◌++◌, codes, refl, ap, ◌∙◌, ListPlace, AfterPoint, AfterRange, Text, Begins, only, range, Point, bare, Element, alone, span, MayGoOn}, lemmas.BracketsUnique.{apart, point-unique}}, specs.declared.bracket.ListPlace.TheVariants.First}
 
 -- a point that no range can begin at is alone
 pub alone_stands : {p : ListPlace} {t v : Text} {b : ℕ} → MayGoOn p t → Point t v b → (Begins (codes "-") v → Begins (codes "-]") v) → Element p t v (only b) AfterPoint

@@ -1,10 +1,5 @@
 -- The faults of bracket expressions, by what a cursor passes or finds.
-use Rattle.re_syntax.proofs.Prelude.{◌≡◌, ◌≢◌, ℕ, ◌⊎◌, inl, inr, ◌∷◌, ◌++◌, codes, length, drop, refl, sym, ap, ◌∙◌, subst, arith, length-drop, ListPlace, Cursor, FaultKind, BadRange, PatternFault, Text, Begins, Point, bare, MayGoOn, left, Passes}
-use Rattle.re_syntax.specs.declared.bracket.ListPlace.TheVariants.{First}
-use Rattle.re_syntax.specs.BracketFaults.{RangeFault, ElementFault, no_range, ListFault, here, BracketFault}
-use Rattle.re_syntax.specs.Faults.{IsAt}
-use Rattle.re_syntax.specs.Working.BracketSteps.{from_place, Fails, IsIn, IsHyphenBefore, IsStray}
-use Rattle.re_syntax.proofs.lemmas.BracketsUnique.{apart, point-unique}
+use Rattle.re_syntax.{proofs.{Prelude.{◌≡◌, ◌≢◌, ℕ, ◌⊎◌, inl, inr, ◌∷◌, ◌++◌, codes, length, drop, refl, sym, ap, ◌∙◌, subst, arith, length-drop, ListPlace, Cursor, FaultKind, BadRange, PatternFault, Text, Begins, Point, bare, MayGoOn, left, Passes}, lemmas.BracketsUnique.{apart, point-unique}}, specs.{declared.bracket.ListPlace.TheVariants.First, BracketFaults.{RangeFault, ElementFault, no_range, ListFault, here, BracketFault}, Faults.IsAt, Working.BracketSteps.{from_place, Fails, IsIn, IsHyphenBefore, IsStray}}}
 
 -- a fault at the cursor's place
 pub fault_here : (P : Text → FaultKind → Text → Type 0) (c : Cursor) {t : Text} {kind : FaultKind} {at : ℕ} → at ≡ c.at → left c ≡ t → P t kind t → Fails (P (left c)) c (record { kind = kind; at = at })

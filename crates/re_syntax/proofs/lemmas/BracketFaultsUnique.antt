@@ -1,11 +1,6 @@
 -- A text that a bracket expression opens begins one bracket expression, or has one fault there.
-use Rattle.re_syntax.proofs.Prelude.{◌≡◌, ◌≢◌, ℕ, ◌≤◌, ◌⊎◌, inl, inr, [], ◌∷◌, codes, refl, sym, ap, ◌∙◌, subst, arith, ListPlace, FaultKind, Text, Begins, Bytes, Expression, Point, bare, symbol, MayBeAlone, Element, class, equivalence, alone, span, Rest, closing, IsBracket, matching, non_matching}
-use Rattle.re_syntax.specs.declared.bracket.ListPlace.TheVariants.{First}
-use Rattle.re_syntax.specs.Brackets.{more}
-use Rattle.re_syntax.specs.BracketFaults.{PointFault, ended, RangeFault, no_end, of_class, descends, ElementFault, no_class, no_equivalence, no_point, no_range, cut_off, stray, ListFault, here, later, BracketFault}
+use Rattle.re_syntax.{proofs.{Prelude.{◌≡◌, ◌≢◌, ℕ, ◌≤◌, ◌⊎◌, inl, inr, [], ◌∷◌, codes, refl, sym, ap, ◌∙◌, subst, arith, ListPlace, FaultKind, Text, Begins, Bytes, Expression, Point, bare, symbol, MayBeAlone, Element, class, equivalence, alone, span, Rest, closing, IsBracket, matching, non_matching}, lemmas.{BracketsUnique.{heads, tails, apart, kind_of, point-unique, point_kind, element_kind, element-unique, element-not_closing}, CutsUnique.SameFault}}, specs.{declared.bracket.ListPlace.TheVariants.First, Brackets.more, BracketFaults.{PointFault, ended, RangeFault, no_end, of_class, descends, ElementFault, no_class, no_equivalence, no_point, no_range, cut_off, stray, ListFault, here, later, BracketFault}}}
 use Rattle.re_syntax.specs.BracketFaults.{symbol as bad_symbol, matching as bad_matching, non_matching as bad_non_matching}
-use Rattle.re_syntax.proofs.lemmas.BracketsUnique.{heads, tails, apart, kind_of, point-unique, point_kind, element_kind, element-unique, element-not_closing}
-use Rattle.re_syntax.proofs.lemmas.CutsUnique.{SameFault}
 
 -- one fault of a point
 point_fault-unique : {o r t s u v : Text} {j k : FaultKind} → PointFault o t j u → PointFault r s k v → o ≡ r → t ≡ s → SameFault j k u v

@@ -1,10 +1,6 @@
 -- Reading a list of elements one by one: what was read and what is left are together the whole
 -- list.
-use Rattle.re_syntax.proofs.Prelude.{◌≡◌, ◌≢◌, ℕ, ◌<◌, ◌⊎◌, inl, inr, ◌++◌, codes, length, length-append, refl, sym, arith, ListPlace, AfterPoint, FaultKind, Text, Begins, Bytes, nothing, union, class_name, Expression, Point, bare, symbol, Element, class, equivalence, alone, span, Rest, closing, IsBracket, matching, non_matching, MayGoOn}
-use Rattle.re_syntax.specs.declared.bracket.ListPlace.TheVariants.{First}
-use Rattle.re_syntax.specs.Brackets.{more}
-use Rattle.re_syntax.specs.BracketFaults.{ListFault, later}
-use Rattle.re_trees.proofs.lemmas.UnionsLaws.{union-assoc, union-nothing}
+use Rattle.{re_syntax.{proofs.Prelude.{◌≡◌, ◌≢◌, ℕ, ◌<◌, ◌⊎◌, inl, inr, ◌++◌, codes, length, length-append, refl, sym, arith, ListPlace, AfterPoint, FaultKind, Text, Begins, Bytes, nothing, union, class_name, Expression, Point, bare, symbol, Element, class, equivalence, alone, span, Rest, closing, IsBracket, matching, non_matching, MayGoOn}, specs.{declared.bracket.ListPlace.TheVariants.First, Brackets.more, BracketFaults.{ListFault, later}}}, re_trees.proofs.lemmas.UnionsLaws.{union-assoc, union-nothing}}
 
 -- of the list at the front of the first text, elements that add these bytes were read; the second
 -- text is left, at this place of the list, and a fault there is the list's

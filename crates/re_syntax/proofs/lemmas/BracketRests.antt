@@ -1,6 +1,5 @@
 -- What follows a bracket expression, or a part of one, is the rest of the text after some bytes.
-use Rattle.re_syntax.proofs.Prelude.{◌≡◌, ℕ, [], ◌∷◌, ◌++◌, codes, refl, sym, ap, ◌∙◌, append_assoc, ListPlace, Text, Bytes, class_name, Expression, Point, bare, symbol, Element, class, equivalence, alone, span, Rest, closing, IsBracket, matching, non_matching}
-use Rattle.re_syntax.specs.Brackets.{more}
+use Rattle.re_syntax.{proofs.Prelude.{◌≡◌, ℕ, [], ◌∷◌, ◌++◌, codes, refl, sym, ap, ◌∙◌, append_assoc, ListPlace, Text, Bytes, class_name, Expression, Point, bare, symbol, Element, class, equivalence, alone, span, Rest, closing, IsBracket, matching, non_matching}, specs.Brackets.more}
 
 -- the second text is what follows some bytes of the first
 abbrev pub ComesAfter : Text → Text → Type 0

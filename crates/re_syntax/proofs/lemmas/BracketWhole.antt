@@ -1,6 +1,5 @@
 -- A whole bracket expression, from its bracket and the list of elements after it.
-use Rattle.re_syntax.proofs.Prelude.{◌≡◌, ℕ, ◌+◌, Bool, true, false, ◌∷◌, ◌++◌, Some, slice_get, MatchBool, codes, drop, ap, ◌∙◌, drop_more, slice_get_within, get_or_from_slice_get, Cursor, Text, Begins, Bytes, Expression, one_of, none_of, Rest, IsBracket, matching, non_matching, IsBracketUpTo, left, Passes, IsAt}
-use Rattle.re_syntax.specs.declared.bracket.ListPlace.TheVariants.{First}
+use Rattle.re_syntax.{proofs.Prelude.{◌≡◌, ℕ, ◌+◌, Bool, true, false, ◌∷◌, ◌++◌, Some, slice_get, MatchBool, codes, drop, ap, ◌∙◌, drop_more, slice_get_within, get_or_from_slice_get, Cursor, Text, Begins, Bytes, Expression, one_of, none_of, Rest, IsBracket, matching, non_matching, IsBracketUpTo, left, Passes, IsAt}, specs.declared.bracket.ListPlace.TheVariants.First}
 
 -- bytes that come next are passed
 pub passes_since : (r : Bool) {bytes : Text} {old new : Cursor} → MatchBool r (Passes bytes old new) (¬ Begins bytes (left old)) → Begins bytes (left old) → Passes bytes old new

@@ -1,9 +1,5 @@
 -- A bracket expression is read in one way, whatever follows it.
-use Rattle.re_syntax.proofs.Prelude.{◌≡◌, ◌≢◌, ℕ, ◌⊎◌, inl, inr, cases_eq, ne_eqb, if◌then◌else◌, true, false, nat_eq, [], ◌∷◌, ◌++◌, codes, refl, sym, ap, ◌∙◌, eq-eqb, ListPlace, Text, Begins, Bytes, Expression, Point, OpensNamed, bare, symbol, MayBeAlone, Element, class, equivalence, alone, span, Rest, closing, IsBracket, matching, non_matching, BeginsWithOneBracket}
-use Rattle.re_syntax.specs.declared.bracket.ListPlace.TheVariants.{First}
-use Rattle.re_syntax.specs.Brackets.{more}
-use Rattle.re_trees.proofs.lemmas.UnionsLaws.{both_unions}
-use Rattle.re_syntax.proofs.lemmas.ClassNames.{class_name-unique}
+use Rattle.{re_syntax.{proofs.{Prelude.{◌≡◌, ◌≢◌, ℕ, ◌⊎◌, inl, inr, cases_eq, ne_eqb, if◌then◌else◌, true, false, nat_eq, [], ◌∷◌, ◌++◌, codes, refl, sym, ap, ◌∙◌, eq-eqb, ListPlace, Text, Begins, Bytes, Expression, Point, OpensNamed, bare, symbol, MayBeAlone, Element, class, equivalence, alone, span, Rest, closing, IsBracket, matching, non_matching, BeginsWithOneBracket}, lemmas.ClassNames.class_name-unique}, specs.{declared.bracket.ListPlace.TheVariants.First, Brackets.more}}, re_trees.proofs.lemmas.UnionsLaws.both_unions}
 
 -- equal texts have equal first bytes
 pub heads : {a b : ℕ} {t u : Text} → a ∷ t ≡ b ∷ u → a ≡ b

@@ -1,13 +1,5 @@
 -- Levels of trees that are built of tokens.
-use Rattle.re_syntax.proofs.Prelude.{◌≡◌, ℕ, List, [], ◌∷◌, ◌++◌, map, Option, refl, sym, ap, ◌∙◌, Syntax, IsSpelled, Text, Expression, choice, repeat, Tree, expression_of}
-use Rattle.re_syntax.specs.declared.building.TreeFrame.{TreeFrame}
-use Rattle.re_syntax.specs.declared.building.Building.{Building}
-use Rattle.re_syntax.specs.Tokens.{Token, closing}
-use Rattle.re_syntax.specs.FirstFaults.{IsCut}
-use Rattle.re_syntax.specs.Working.Builds.{Frame, repeat_last, branches_of, with_item, build_all, nothing_built, FrameMeans, Builds, BuildsOn}
-use Rattle.re_syntax.specs.Spelled.{by_tokens}
-use Rattle.re_syntax.proofs.lemmas.Built.{repeat-snoc, build-append, build-one, cut_branches}
-use Rattle.re_syntax.proofs.lemmas.Mirrored.{partner, none_mirrors}
+use Rattle.re_syntax.{proofs.{Prelude.{◌≡◌, ℕ, List, [], ◌∷◌, ◌++◌, map, Option, refl, sym, ap, ◌∙◌, Syntax, IsSpelled, Text, Expression, choice, repeat, Tree, expression_of}, lemmas.{Built.{repeat-snoc, build-append, build-one, cut_branches}, Mirrored.{partner, none_mirrors}}}, specs.{declared.building.{TreeFrame.TreeFrame, Building.Building}, Tokens.{Token, closing}, FirstFaults.IsCut, Working.Builds.{Frame, repeat_last, branches_of, with_item, build_all, nothing_built, FrameMeans, Builds, BuildsOn}, Spelled.by_tokens}}
 
 -- a group is left
 pub left_means : {old new : Building} (last : TreeFrame) (tree : Tree) → old.outer.items ≡ new.outer.items ++ last ∷ [] → ((l : Frame) → FrameMeans old.level l → expression_of tree ≡ choice (branches_of l)) →

@@ -1,13 +1,7 @@
 -- Tokens have one meaning: what a machine builds of them, one after another. Each whole cut has one.
-use Rattle.re_syntax.proofs.Prelude.{◌≡◌, ℕ, zero, suc, Bool, true, length, List, [], ◌∷◌, ◌++◌, Option, refl, sym, ap, ◌∙◌, subst, append_assoc, append-nil, Text, Expression, begin, repeat, sequence, choice, Syntax, Basic, Extended, Fixed}
-use Rattle.re_syntax.specs.declared.tokens.ItemPlace.{ItemPlace}
-use Rattle.re_syntax.specs.declared.tokens.ItemPlace.TheVariants.{First, AfterAnchor, Later}
-use Rattle.re_syntax.specs.Tokens.{Token, opening, closing, bar, lead, atom, times}
+use Rattle.re_syntax.{proofs.Prelude.{◌≡◌, ℕ, zero, suc, Bool, true, length, List, [], ◌∷◌, ◌++◌, Option, refl, sym, ap, ◌∙◌, subst, append_assoc, append-nil, Text, Expression, begin, repeat, sequence, choice, Syntax, Basic, Extended, Fixed}, specs.{declared.tokens.ItemPlace.{ItemPlace, TheVariants.{First, AfterAnchor, Later}}, Tokens.{Token, opening, closing, bar, lead, atom, times}, FirstFaults.{Around, Context, is_group, closed_group, IsToken, Cut, whole, next, IsCut}, Spelled.{Branches, last, more, Items, none, anchor, item, Item, single, group, repeated}, Working.Builds.{Frame, Built, nothing_built, repeat_last, branches_of, with_item, build, build_all}}}
 use Rattle.re_syntax.specs.BasicTokens as basic
 use Rattle.re_syntax.specs.ExtendedTokens as extended
-use Rattle.re_syntax.specs.FirstFaults.{Around, Context, is_group, closed_group, IsToken, Cut, whole, next, IsCut}
-use Rattle.re_syntax.specs.Spelled.{Branches, last, more, Items, none, anchor, item, Item, single, group, repeated}
-use Rattle.re_syntax.specs.Working.Builds.{Frame, Built, nothing_built, repeat_last, branches_of, with_item, build, build_all}
 
 pub build-append : (ks ls : List Token) (b : Built) → build_all (ks ++ ls) b ≡ build_all ls (build_all ks b)
 unfolding build_all

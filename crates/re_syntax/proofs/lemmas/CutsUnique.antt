@@ -1,9 +1,6 @@
 -- A text is cut into tokens in one way, and has one first fault, where tokens and their faults are
 -- unique and exclude each other.
-use Rattle.re_syntax.proofs.Prelude.{◌≡◌, ℕ, ◌≤◌, length, drop, length-drop, arith, PatternFault, Bool, List, [], ◌∷◌, refl, sym, ap, ◌∙◌, subst, Text, FaultKind, Syntax}
-use Rattle.re_syntax.specs.declared.tokens.ItemPlace.{ItemPlace}
-use Rattle.re_syntax.specs.Tokens.{Token}
-use Rattle.re_syntax.specs.FirstFaults.{Around, Context, after, Cut, whole, next, FirstFault, no_token, too_deep, unclosed, later, IsToken, IsTokenFault, IsFirstFault}
+use Rattle.re_syntax.{proofs.Prelude.{◌≡◌, ℕ, ◌≤◌, length, drop, length-drop, arith, PatternFault, Bool, List, [], ◌∷◌, refl, sym, ap, ◌∙◌, subst, Text, FaultKind, Syntax}, specs.{declared.tokens.ItemPlace.ItemPlace, Tokens.Token, FirstFaults.{Around, Context, after, Cut, whole, next, FirstFault, no_token, too_deep, unclosed, later, IsToken, IsTokenFault, IsFirstFault}}}
 
 -- two faults are of one kind and at one place
 pub record SameFault (j k : FaultKind) (u v : Text) : Type 0 where

@@ -1,10 +1,5 @@
 -- Escapes, by what follows the backslash.
-use Rattle.re_syntax.proofs.Prelude.{EscapeFault, undefined, reference, ◌≡◌, ℕ, ◌+◌, ◌≤◌, nat_le, ◌∷◌, length, drop, Some, IsTrue, slice_get, codes, refl, sym, ap, ◌∙◌, arith, length-drop, and_parts, and_from, leb-true, le-leb, or_left, or_right, nil_from_length, slice_get_within, FaultKind, TrailingBackslash, Text, Begins, range, union, is_undefined, one_to_nine, EscapeStands}
-use Rattle.re_syntax.specs.EscapeFaults.{trailing}
-use Rattle.re_syntax.specs.Faults.{IsAt}
-use Rattle.re_syntax.proofs.lemmas.BracketsUnique.{heads, tails}
-use Rattle.re_syntax.proofs.lemmas.CutsUnique.{SameFault}
-use Rattle.re_syntax.proofs.lemmas.Places.{byte_at, beyond_first}
+use Rattle.re_syntax.{proofs.{Prelude.{EscapeFault, undefined, reference, ◌≡◌, ℕ, ◌+◌, ◌≤◌, nat_le, ◌∷◌, length, drop, Some, IsTrue, slice_get, codes, refl, sym, ap, ◌∙◌, arith, length-drop, and_parts, and_from, leb-true, le-leb, or_left, or_right, nil_from_length, slice_get_within, FaultKind, TrailingBackslash, Text, Begins, range, union, is_undefined, one_to_nine, EscapeStands}, lemmas.{BracketsUnique.{heads, tails}, CutsUnique.SameFault, Places.{byte_at, beyond_first}}}, specs.{EscapeFaults.trailing, Faults.IsAt}}
 
 -- a backslash and a byte
 pub escape_stands : {others text : Text} {at b : ℕ} → Begins (codes "\\") (drop at text) → slice_get text (at + 1) ≡ Some b → ¬ IsTrue (is_undefined others b) →

@@ -1,7 +1,5 @@
 -- Braces that begin no interval of an extended expression.
-use Rattle.re_syntax.proofs.Prelude.{◌≡◌, Bool, true, false, nat_eq, [], ◌∷◌, codes, refl, Digit, Text, in_class, HasNoInterval}
-use Rattle.re_syntax.proofs.lemmas.IntervalLaws.{lacks, lacks-cut}
-use Rattle.re_syntax.proofs.lemmas.IntervalReading.{none_without_number, none_after_first, no_greatest}
+use Rattle.re_syntax.proofs.{Prelude.{◌≡◌, Bool, true, false, nat_eq, [], ◌∷◌, codes, refl, Digit, Text, in_class, HasNoInterval}, lemmas.{IntervalLaws.{lacks, lacks-cut}, IntervalReading.{none_without_number, none_after_first, no_greatest}}}
 
 abbrev pub begins_with_digit : Text → Bool
 begins_with_digit [] = false

@@ -1,12 +1,5 @@
 -- Tokens of extended expressions, by the bytes at their place.
-use Rattle.re_syntax.proofs.Prelude.{HasOne, ◌≡◌, ◌≢◌, ℕ, ◌+◌, ◌<◌, ◌≤◌, ◌⊎◌, inl, inr, ◌&&◌, Bool, true, false, nat_eq, [], ◌∷◌, ◌++◌, length, drop, Option, Some, None, MatchOption, MatchBool, is_some, IsTrue, slice_get, codes, refl, sym, ap, ◌∙◌, arith, ne_eqb, cases_eq, append_assoc, length-drop, slice_get_within, Counts, Text, Begins, IsAfter, is_in, OpensDuplication, opens_star, opens_plus, opens_question, opens_interval, HasNoInterval, and_right}
-use Rattle.re_syntax.specs.declared.tokens.ItemPlace.{ItemPlace}
-use Rattle.re_syntax.specs.ExtendedTokens.{Duplication, is_ordinary, star, plus, question, interval}
-use Rattle.re_syntax.specs.ExtendedTokens.{ExtendedToken, closes, period, ordinary, brace}
-use Rattle.re_syntax.specs.Working.TokenSteps.{byte_token}
-use Rattle.re_syntax.proofs.lemmas.BracketsUnique.{heads, tails, apart}
-use Rattle.re_syntax.proofs.lemmas.Places.{byte_at}
-use Rattle.re_syntax.proofs.lemmas.TokenParts.{no_closed}
+use Rattle.re_syntax.{proofs.{Prelude.{HasOne, ◌≡◌, ◌≢◌, ℕ, ◌+◌, ◌<◌, ◌≤◌, ◌⊎◌, inl, inr, ◌&&◌, Bool, true, false, nat_eq, [], ◌∷◌, ◌++◌, length, drop, Option, Some, None, MatchOption, MatchBool, is_some, IsTrue, slice_get, codes, refl, sym, ap, ◌∙◌, arith, ne_eqb, cases_eq, append_assoc, length-drop, slice_get_within, Counts, Text, Begins, IsAfter, is_in, OpensDuplication, opens_star, opens_plus, opens_question, opens_interval, HasNoInterval, and_right}, lemmas.{BracketsUnique.{heads, tails, apart}, Places.byte_at, TokenParts.no_closed}}, specs.{declared.tokens.ItemPlace.ItemPlace, ExtendedTokens.{Duplication, is_ordinary, star, plus, question, interval, ExtendedToken, closes, period, ordinary, brace}, Working.TokenSteps.byte_token}}
 
 -- Duplications.
 

@@ -1,17 +1,5 @@
 -- A place of an extended expression has one token, or one fault.
-use Rattle.re_syntax.proofs.Prelude.{EscapeFault, undefined, reference, ◌≡◌, ◌≢◌, ℕ, Bool, true, [], ◌∷◌, ◌++◌, Option, if◌then◌else◌, codes, refl, sym, ap, ◌∙◌, FaultKind, Extended, Text, is_in, OpensDuplication, opens_star, opens_plus, opens_question, opens_interval}
-use Rattle.re_syntax.specs.declared.tokens.ItemPlace.{ItemPlace}
-use Rattle.re_syntax.specs.ExtendedTokens.{Duplication, is_ordinary, star, plus, question, interval}
-use Rattle.re_syntax.specs.Tokens.{Token, times}
-use Rattle.re_syntax.specs.ExtendedTokens.{ExtendedToken, opens, closes, parts, leads, repeats, bracket, period, dollar, escaped, ordinary, brace}
-use Rattle.re_syntax.specs.EscapeFaults.{trailing}
-use Rattle.re_syntax.specs.ExtendedTokens.{ExtendedTokenFault, in_bracket, in_escape, needs_item, disallowed}
-use Rattle.re_syntax.proofs.lemmas.BracketsUnique.{heads, tails, apart, bracket_front, IsBracket-unique}
-use Rattle.re_syntax.proofs.lemmas.BracketFaultsUnique.{bracket_fault-unique, bracket-no_fault, bracket_fault_front}
-use Rattle.re_syntax.proofs.lemmas.CutsUnique.{SameToken, SameFault, IsExact}
-use Rattle.re_syntax.proofs.lemmas.ExtendedTokenReading.{dup_opens, no_opening}
-use Rattle.re_syntax.proofs.lemmas.EscapeLaws.{escape_fault-unique, escape-no_fault}
-use Rattle.re_syntax.proofs.lemmas.TokenParts.{closed-unique, same_times, closed_by, no_closed, never_allowed, disallowed-unique}
+use Rattle.re_syntax.{proofs.{Prelude.{EscapeFault, undefined, reference, ◌≡◌, ◌≢◌, ℕ, Bool, true, [], ◌∷◌, ◌++◌, Option, if◌then◌else◌, codes, refl, sym, ap, ◌∙◌, FaultKind, Extended, Text, is_in, OpensDuplication, opens_star, opens_plus, opens_question, opens_interval}, lemmas.{BracketsUnique.{heads, tails, apart, bracket_front, IsBracket-unique}, BracketFaultsUnique.{bracket_fault-unique, bracket-no_fault, bracket_fault_front}, CutsUnique.{SameToken, SameFault, IsExact}, ExtendedTokenReading.{dup_opens, no_opening}, EscapeLaws.{escape_fault-unique, escape-no_fault}, TokenParts.{closed-unique, same_times, closed_by, no_closed, never_allowed, disallowed-unique}}}, specs.{declared.tokens.ItemPlace.ItemPlace, ExtendedTokens.{Duplication, is_ordinary, star, plus, question, interval, ExtendedToken, opens, closes, parts, leads, repeats, bracket, period, dollar, escaped, ordinary, brace, ExtendedTokenFault, in_bracket, in_escape, needs_item, disallowed}, Tokens.{Token, times}, EscapeFaults.trailing}}
 
 -- the kind of what begins with this byte: all that may begin a duplication is of one kind
 abbrev kind_of : Bool → Text → ℕ

@@ -1,10 +1,5 @@
 -- Tokens of fixed strings, which have no fault, and what they spell.
-use Rattle.re_syntax.proofs.Prelude.{◌≡◌, Bool, [], ◌∷◌, map, refl, arith, Text, byte, sequence, Fixed, IsSpelled}
-use Rattle.re_syntax.specs.declared.tokens.ItemPlace.{ItemPlace}
-use Rattle.re_syntax.specs.Tokens.{Token, FixedToken, one_byte}
-use Rattle.re_syntax.proofs.lemmas.BracketsUnique.{heads, tails}
-use Rattle.re_syntax.proofs.lemmas.CutsUnique.{IsExact, SameToken}
-use Rattle.re_syntax.proofs.lemmas.SpelledParts.{ItemsRead, single, none, item, last, spells}
+use Rattle.re_syntax.{proofs.{Prelude.{◌≡◌, Bool, [], ◌∷◌, map, refl, arith, Text, byte, sequence, Fixed, IsSpelled}, lemmas.{BracketsUnique.{heads, tails}, CutsUnique.{IsExact, SameToken}, SpelledParts.{ItemsRead, single, none, item, last, spells}}}, specs.{declared.tokens.ItemPlace.ItemPlace, Tokens.{Token, FixedToken, one_byte}}}
 
 token-unique : {g : Bool} {p : ItemPlace} {t s u v : Text} {j k : Token} → FixedToken g p t u j → FixedToken g p s v k → t ≡ s → SameToken j k u v
 token-unique (one_byte b) (one_byte c) e = record { tokens = rw (heads e); rests = tails e }

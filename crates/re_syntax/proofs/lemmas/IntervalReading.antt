@@ -1,7 +1,6 @@
 -- Reading an interval from the left: a number ends where the digits end, and what follows
 -- determines the form.
-use Rattle.re_syntax.proofs.Prelude.{◌≡◌, ℕ, ◌+◌, ◌-◌, ◌<◌, ◌≤◌, [], ◌∷◌, ◌++◌, length, take, drop, Option, Some, None, MatchOption, IsTrue, codes, refl, sym, ap, ◌∙◌, arith, append_assoc, length-drop, and_parts, drop-drop, length-take, take-append-drop, list_all, Digit, Counts, Text, Begins, in_class, IsAfter, IsNumber, value, Interval, exactly, at_least, between, up_to, ClosedInterval, IsNoPart, capped, HasNoInterval, AreDigits, HasNoDigit, IsDigitCount, NumberStands, HasNoGreatest, GreatestStands, IntervalStands}
-use Rattle.re_syntax.proofs.lemmas.BracketsUnique.{heads, tails}
+use Rattle.re_syntax.proofs.{Prelude.{◌≡◌, ℕ, ◌+◌, ◌-◌, ◌<◌, ◌≤◌, [], ◌∷◌, ◌++◌, length, take, drop, Option, Some, None, MatchOption, IsTrue, codes, refl, sym, ap, ◌∙◌, arith, append_assoc, length-drop, and_parts, drop-drop, length-take, take-append-drop, list_all, Digit, Counts, Text, Begins, in_class, IsAfter, IsNumber, value, Interval, exactly, at_least, between, up_to, ClosedInterval, IsNoPart, capped, HasNoInterval, AreDigits, HasNoDigit, IsDigitCount, NumberStands, HasNoGreatest, GreatestStands, IntervalStands}, lemmas.BracketsUnique.{heads, tails}}
 
 -- the first of some digits is one
 digit_first : (b : ℕ) (t : Text) → AreDigits (b ∷ t) → IsTrue (in_class Digit b)

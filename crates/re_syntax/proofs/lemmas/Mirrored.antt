@@ -1,6 +1,5 @@
 -- Lists of open groups and levels, from the end of one and the front of the other.
-use Rattle.re_syntax.proofs.Prelude.{◌≡◌, List, [], ◌∷◌, ◌++◌, length, length-append, sym, ap, ◌∙◌, refl, arith}
-use Rattle.re_syntax.specs.Working.Mirrors.{Mirrors, neither, both}
+use Rattle.re_syntax.{proofs.Prelude.{◌≡◌, List, [], ◌∷◌, ◌++◌, length, length-append, sym, ap, ◌∙◌, refl, arith}, specs.Working.Mirrors.{Mirrors, neither, both}}
 
 -- a list with a last element is not empty
 pub no_last : {A : Type 0} (xs : List A) (x : A) → [] ≡ xs ++ (x ∷ []) → ⊥

@@ -1,7 +1,5 @@
 -- Each line has a list of its parts.
-use Rattle.re_syntax.proofs.Prelude.{ℕ, zero, suc, ◌+◌, ◌≤◌, ◌⊎◌, inl, inr, Bool, List, [], ◌∷◌, length, arith, dec_le, ℕ_discrete, map_dec, Text, Expression, Holds, IsFound, IsPart, ArePartsFrom, AreParts}
-use Rattle.re_trees.proofs.lemmas.Decisions.{dec_both, dec_MatchBool, dec_any, dec_bounded, least_below, greatest_below}
-use Rattle.re_trees.proofs.lemmas.HoldsDecided.{dec_holds}
+use Rattle.{re_syntax.proofs.Prelude.{ℕ, zero, suc, ◌+◌, ◌≤◌, ◌⊎◌, inl, inr, Bool, List, [], ◌∷◌, length, arith, dec_le, ℕ_discrete, map_dec, Text, Expression, Holds, IsFound, IsPart, ArePartsFrom, AreParts}, re_trees.proofs.lemmas.{Decisions.{dec_both, dec_MatchBool, dec_any, dec_bounded, least_below, greatest_below}, HoldsDecided.dec_holds}}
 
 module _ (expressions : List Expression) (line : Text) (whole : Bool) where
   -- whether a stretch is found is decided

@@ -1,21 +1,6 @@
 -- What is known at a place of a text, after one token more.
-use Rattle.re_syntax.proofs.Prelude.{zero, ◌⊎◌, ◌-◌, inl, inr, cases_lt, nat_lt, lt-ltb, drop-length, begin, append_assoc, append-nil, ◌≡◌, ◌≢◌, ℕ, suc, ◌+◌, ◌*◌, ◌<◌, ◌≤◌, max, List, [], ◌∷◌, ◌++◌, Option, length, length-append, drop, refl, sym, ap, ◌∙◌, subst, arith, TooDeep, UnclosedGroup, PatternFault, Syntax, Text, Expression, positions, cat, alt, choice, sequence, up_to_word, most_levels}
-use Rattle.std.specs.Prelude.{◌^◌}
-use Rattle.re_trees.specs.Holds.{copies}
-use Rattle.re_syntax.specs.declared.shape.OpenGroup.{OpenGroup}
-use Rattle.re_syntax.specs.declared.shape.Shape.{Shape}
-use Rattle.re_syntax.specs.declared.tokens.ItemPlace.{ItemPlace}
-use Rattle.re_syntax.specs.declared.tokens.ItemPlace.TheVariants.{First, AfterAnchor, Later}
+use Rattle.{re_syntax.{proofs.{Prelude.{zero, ◌⊎◌, ◌-◌, inl, inr, cases_lt, nat_lt, lt-ltb, drop-length, begin, append_assoc, append-nil, ◌≡◌, ◌≢◌, ℕ, suc, ◌+◌, ◌*◌, ◌<◌, ◌≤◌, max, List, [], ◌∷◌, ◌++◌, Option, length, length-append, drop, refl, sym, ap, ◌∙◌, subst, arith, TooDeep, UnclosedGroup, PatternFault, Syntax, Text, Expression, positions, cat, alt, choice, sequence, up_to_word, most_levels}, lemmas.{Built.{build-append, build-one}, Mirrored.{partner, none_mirrors, as_many}}}, specs.{declared.{shape.{OpenGroup.OpenGroup, Shape.Shape}, tokens.ItemPlace.{ItemPlace, TheVariants.{First, AfterAnchor, Later}}}, Tokens.{Token, opening, closing, bar, lead, atom, times}, Faults.IsAt, FirstFaults.{Around, Context, start, is_group, after, closed_group, whole, next, FirstFault, no_token, too_deep, unclosed, later, IsToken, IsTokenFault, IsFirstFault}, Working.{Builds.{Frame, Built, build_all, nothing_built, branches_of, repeat_last, left_group, with_item, level_positions, last_positions, rest_positions}, Mirrors.{Mirrors, neither, both}, ShapeSteps.{IsAround, Shows, Counts, Takes, Refuses, Reaches, Ends, EndsOpen}, TokenSteps.{Stands, token_of}}}}, std.specs.Prelude.◌^◌, re_trees.specs.Holds.copies}
 use Rattle.re_syntax.specs.declared.tokens.Token.{Token as Read}
-use Rattle.re_syntax.specs.Tokens.{Token, opening, closing, bar, lead, atom, times}
-use Rattle.re_syntax.specs.Faults.{IsAt}
-use Rattle.re_syntax.specs.FirstFaults.{Around, Context, start, is_group, after, closed_group, whole, next, FirstFault, no_token, too_deep, unclosed, later, IsToken, IsTokenFault, IsFirstFault}
-use Rattle.re_syntax.specs.Working.Builds.{Frame, Built, build_all, nothing_built, branches_of, repeat_last, left_group, with_item, level_positions, last_positions, rest_positions}
-use Rattle.re_syntax.specs.Working.Mirrors.{Mirrors, neither, both}
-use Rattle.re_syntax.specs.Working.ShapeSteps.{IsAround, Shows, Counts, Takes, Refuses, Reaches, Ends, EndsOpen}
-use Rattle.re_syntax.specs.Working.TokenSteps.{Stands, token_of}
-use Rattle.re_syntax.proofs.lemmas.Built.{build-append, build-one}
-use Rattle.re_syntax.proofs.lemmas.Mirrored.{partner, none_mirrors, as_many}
 
 -- Positions.
 

@@ -1,9 +1,5 @@
 -- Parts of a text, the tokens that lead through them, and what these spell.
-use Rattle.re_syntax.proofs.Prelude.{◌≡◌, ℕ, suc, max, ◌+◌, ◌≤◌, Bool, true, false, List, [], ◌∷◌, ◌++◌, length, Option, refl, arith, append_assoc, append-nil, Text, Expression, begin, repeat, sequence, choice, most_levels, Syntax, IsSpelled}
-use Rattle.re_syntax.specs.declared.tokens.ItemPlace.{ItemPlace}
-use Rattle.re_syntax.specs.declared.tokens.ItemPlace.TheVariants.{First, AfterAnchor, Later}
-use Rattle.re_syntax.specs.Tokens.{Token, opening, closing, bar, lead, atom, times}
-use Rattle.re_syntax.specs.FirstFaults.{Around, Context, is_group, IsToken, Cut, whole, next}
+use Rattle.re_syntax.{proofs.Prelude.{◌≡◌, ℕ, suc, max, ◌+◌, ◌≤◌, Bool, true, false, List, [], ◌∷◌, ◌++◌, length, Option, refl, arith, append_assoc, append-nil, Text, Expression, begin, repeat, sequence, choice, most_levels, Syntax, IsSpelled}, specs.{declared.tokens.ItemPlace.{ItemPlace, TheVariants.{First, AfterAnchor, Later}}, Tokens.{Token, opening, closing, bar, lead, atom, times}, FirstFaults.{Around, Context, is_group, IsToken, Cut, whole, next}}}
 use Rattle.re_syntax.specs.Spelled as grammar
 
 -- what is known in some groups, at a place and heights

@@ -1,17 +1,5 @@
 -- The laws of the definitions: one cut, one expression, one split, one list of parts.
-use Rattle.re_syntax.proofs.Prelude.{ap, FaultKind, Text, Expression, choice, Syntax, Basic, Extended, Fixed, IsSpelled, SpellsOne, HasOneSplit, HasOnePartList}
-use Rattle.re_syntax.specs.FirstFaults.{start, FirstFault}
-use Rattle.re_syntax.specs.Laws.{HasOneCut}
-use Rattle.re_syntax.specs.Spelled.{by_tokens}
-use Rattle.re_syntax.proofs.lemmas.BasicTokensUnique.{basic_exact}
-use Rattle.re_syntax.proofs.lemmas.Built.{branches-unique, cut_branches}
-use Rattle.re_syntax.proofs.lemmas.CutsUnique.{IsExact, cuts-unique, faults-unique, fault-no_cut}
-use Rattle.re_syntax.proofs.lemmas.ExtendedTokensUnique.{extended_exact}
-use Rattle.re_syntax.proofs.lemmas.FixedTokens.{fixed_exact}
-use Rattle.re_trees.proofs.lemmas.LinesLaws.{AreLines-lines_of, lines_of-unique, AreListed-list_of, list_of-unique}
-use Rattle.re_syntax.proofs.lemmas.PartsExist.{AreParts-exist}
-use Rattle.re_trees.proofs.lemmas.EndedLinesLaws.{AreEndedLines-ended_lines_of, ended_lines_of-unique}
-use Rattle.re_syntax.proofs.lemmas.PartsLaws.{ArePartsFrom-unique}
+use Rattle.{re_syntax.{proofs.{Prelude.{ap, FaultKind, Text, Expression, choice, Syntax, Basic, Extended, Fixed, IsSpelled, SpellsOne, HasOneSplit, HasOnePartList}, lemmas.{BasicTokensUnique.basic_exact, Built.{branches-unique, cut_branches}, CutsUnique.{IsExact, cuts-unique, faults-unique, fault-no_cut}, ExtendedTokensUnique.extended_exact, FixedTokens.fixed_exact, PartsExist.AreParts-exist, PartsLaws.ArePartsFrom-unique}}, specs.{FirstFaults.{start, FirstFault}, Laws.HasOneCut, Spelled.by_tokens}}, re_trees.proofs.lemmas.{LinesLaws.{AreLines-lines_of, lines_of-unique, AreListed-list_of, list_of-unique}, EndedLinesLaws.{AreEndedLines-ended_lines_of, ended_lines_of-unique}}}
 
 exact : (syntax : Syntax) → IsExact syntax
 exact Basic = basic_exact

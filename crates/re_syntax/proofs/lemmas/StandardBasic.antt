@@ -1,12 +1,8 @@
 -- Basic expressions of the standard alone spell the same here.
-use Rattle.re_syntax.proofs.Prelude.{ℕ, Bool, false, List, Option, refl, Basic, Text, Expression, IsAtEnd, of_text, of_group, IsSpelled, IsStandardBasic}
-use Rattle.re_syntax.specs.declared.tokens.ItemPlace.{ItemPlace}
+use Rattle.re_syntax.{proofs.{Prelude.{ℕ, Bool, false, List, Option, refl, Basic, Text, Expression, IsAtEnd, of_text, of_group, IsSpelled, IsStandardBasic}, lemmas.{BasicTokensUnique.at_end, SpelledParts.{ItemReads, ItemsRead, BranchesRead, spells}, StandardIntervals.interval-kept}}, specs.declared.tokens.ItemPlace.ItemPlace}
 use Rattle.re_syntax.specs.BasicTokens as basic
 use Rattle.re_syntax.specs.Working.StandardBasic.{Duplication, star, interval, IsAtEnd as StandardEnd, of_text as standard_of_text, of_group as standard_of_group, Items, none, leading, trailing, item, Item, bracket, period, escaped, ordinary, dollar, group, repeated, as_basic}
-use Rattle.re_syntax.proofs.lemmas.BasicTokensUnique.{at_end}
-use Rattle.re_syntax.proofs.lemmas.SpelledParts.{ItemReads, ItemsRead, BranchesRead, spells}
 use Rattle.re_syntax.proofs.lemmas.SpelledParts as parts
-use Rattle.re_syntax.proofs.lemmas.StandardIntervals.{interval-kept}
 
 end-kept : {t : Text} → StandardEnd t → IsAtEnd t
 end-kept standard_of_text = of_text

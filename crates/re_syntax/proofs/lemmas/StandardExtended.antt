@@ -1,12 +1,7 @@
 -- Extended expressions of the standard alone spell the same here, where they have no `{,`.
-use Rattle.re_syntax.proofs.Prelude.{ℕ, Bool, List, [], ◌∷◌, ◌++◌, Option, codes, refl, sym, ap, ◌∙◌, append_assoc, Extended, Text, Expression, HasNoOpenComma, IsSpelled, IsStandardExtended}
-use Rattle.re_syntax.specs.declared.tokens.ItemPlace.{ItemPlace}
+use Rattle.re_syntax.{proofs.{Prelude.{ℕ, Bool, List, [], ◌∷◌, ◌++◌, Option, codes, refl, sym, ap, ◌∙◌, append_assoc, Extended, Text, Expression, HasNoOpenComma, IsSpelled, IsStandardExtended}, lemmas.{BracketRests.{ComesAfter, after_two, beyond_byte, bracket_after}, SpelledParts.{ItemReads, ItemsRead, BranchesRead, spells}, StandardIntervals.{interval-kept, no_interval-kept}}}, specs.{declared.tokens.ItemPlace.ItemPlace, Working.StandardExtended.{Duplication, star, plus, question, interval, Branches, last, more, Items, none, anchor, item, Item, bracket, period, dollar, escaped, ordinary, brace, group, repeated, as_extended}}}
 use Rattle.re_syntax.specs.ExtendedTokens as extended
-use Rattle.re_syntax.specs.Working.StandardExtended.{Duplication, star, plus, question, interval, Branches, last, more, Items, none, anchor, item, Item, bracket, period, dollar, escaped, ordinary, brace, group, repeated, as_extended}
-use Rattle.re_syntax.proofs.lemmas.BracketRests.{ComesAfter, after_two, beyond_byte, bracket_after}
-use Rattle.re_syntax.proofs.lemmas.SpelledParts.{ItemReads, ItemsRead, BranchesRead, spells}
 use Rattle.re_syntax.proofs.lemmas.SpelledParts as parts
-use Rattle.re_syntax.proofs.lemmas.StandardIntervals.{interval-kept, no_interval-kept}
 
 -- what follows some bytes of a text without `{,` has none either
 lacks_after : {t u : Text} → HasNoOpenComma t → ComesAfter t u → HasNoOpenComma u

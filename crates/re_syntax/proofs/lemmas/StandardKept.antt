@@ -1,7 +1,5 @@
 -- What the standard alone makes of a text is what it spells here.
-use Rattle.re_syntax.proofs.Prelude.{Text, KeepsStandard}
-use Rattle.re_syntax.proofs.lemmas.StandardBasic.{basic-kept}
-use Rattle.re_syntax.proofs.lemmas.StandardExtended.{extended-kept}
+use Rattle.re_syntax.proofs.{Prelude.{Text, KeepsStandard}, lemmas.{StandardBasic.basic-kept, StandardExtended.extended-kept}}
 
 -- the law
 pub keeps_standard : (text : Text) → KeepsStandard text

@@ -1,8 +1,5 @@
 -- Parts of tokens and of their faults that basic and extended expressions share: each begins a text in one way.
-use Rattle.re_syntax.proofs.Prelude.{◌≡◌, ℕ, false, true, ◌∷◌, ◌++◌, Option, codes, refl, sym, ◌∙◌, arith, append_assoc, Digit, in_class, FaultKind, Text, Interval, ClosedInterval, HasNoInterval, IsAllowed, IsDisallowed, least_too_large, most_too_large, descending}
-use Rattle.re_syntax.specs.Tokens.{times}
-use Rattle.re_syntax.proofs.lemmas.CountsLaws.{not_allowed}
-use Rattle.re_syntax.proofs.lemmas.IntervalLaws.{lacks, cut-unique, Interval-unique, interval_lacks}
+use Rattle.re_syntax.{proofs.{Prelude.{◌≡◌, ℕ, false, true, ◌∷◌, ◌++◌, Option, codes, refl, sym, ◌∙◌, arith, append_assoc, Digit, in_class, FaultKind, Text, Interval, ClosedInterval, HasNoInterval, IsAllowed, IsDisallowed, least_too_large, most_too_large, descending}, lemmas.{CountsLaws.not_allowed, IntervalLaws.{lacks, cut-unique, Interval-unique, interval_lacks}}}, specs.Tokens.times}
 
 -- two closed intervals of one text
 pub record SameInterval (a b : ℕ) (x y : Option ℕ) (u v : Text) : Type 0 where

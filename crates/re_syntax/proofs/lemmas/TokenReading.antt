@@ -1,17 +1,7 @@
 -- Tokens and their faults in any syntax, by the bytes at their place.
-use Rattle.re_syntax.proofs.Prelude.{HasOne, ◌≡◌, ℕ, ◌+◌, ◌<◌, ◌≤◌, Bool, false, nat_eq, ◌∷◌, ◌++◌, length, drop, get_or, Option, sym, ◌∙◌, arith, append_assoc, length-drop, length-append, Digit, in_class, Syntax, FaultKind, Counts, Text, byte, IsBracketUpTo, IsAfter, IsAllowed, IsDisallowed, IsNoPart, IntervalStands, EscapeStands}
-use Rattle.re_syntax.specs.declared.tokens.ItemPlace.{ItemPlace}
+use Rattle.re_syntax.{proofs.{Prelude.{HasOne, ◌≡◌, ℕ, ◌+◌, ◌<◌, ◌≤◌, Bool, false, nat_eq, ◌∷◌, ◌++◌, length, drop, get_or, Option, sym, ◌∙◌, arith, append_assoc, length-drop, length-append, Digit, in_class, Syntax, FaultKind, Counts, Text, byte, IsBracketUpTo, IsAfter, IsAllowed, IsDisallowed, IsNoPart, IntervalStands, EscapeStands}, lemmas.{BracketsUnique.{heads, apart}, BracketLists.bracket-shortens, CountsLaws.{are_counts, disallowed_too}, Places.front_here}}, specs.{declared.tokens.{ItemPlace.ItemPlace, Atom.Atom}, Tokens.{atom, times}, FirstFaults.IsToken, Faults.IsAt, Working.TokenSteps.{Stands, token_of, atom_expression}}}
 use Rattle.re_syntax.specs.declared.tokens.Token.{Token as Read}
 use Rattle.re_syntax.specs.declared.tokens.Token.TheVariants.{Atom as Atomic, Times}
-use Rattle.re_syntax.specs.declared.tokens.Atom.{Atom}
-use Rattle.re_syntax.specs.Tokens.{atom, times}
-use Rattle.re_syntax.specs.FirstFaults.{IsToken}
-use Rattle.re_syntax.specs.Faults.{IsAt}
-use Rattle.re_syntax.specs.Working.TokenSteps.{Stands, token_of, atom_expression}
-use Rattle.re_syntax.proofs.lemmas.BracketsUnique.{heads, apart}
-use Rattle.re_syntax.proofs.lemmas.BracketLists.{bracket-shortens}
-use Rattle.re_syntax.proofs.lemmas.CountsLaws.{are_counts, disallowed_too}
-use Rattle.re_syntax.proofs.lemmas.Places.{front_here}
 
 module _ {syntax : Syntax} {g : Bool} {p : ItemPlace} {text : Text} {at : ℕ} where
   -- a token by the text from its place on

@@ -1,9 +1,7 @@
 -- What each step of reading a basic expression's tokens says.
-use Rattle.std.specs.Prelude.{◌≡◌, ℕ, ◌++◌, drop, codes}
-use Rattle.re_trees.specs.Bytes.{Text, Begins}
-use Rattle.re_syntax.specs.{Working.Ahead.IsAfter, declared.tokens.ItemPlace.ItemPlace}
-use Rattle.re_syntax.specs.{declared.tokens.ItemPlace.TheVariants.Later, BasicTokens.IsAtEnd}
-use Rattle.re_syntax.specs.BasicTokens.{NeedsItem}
+use Rattle.{std.specs.Prelude.{◌≡◌, ℕ, ◌++◌, drop, codes}, re_trees.specs.Bytes.{Text, Begins}}
+use Rattle.re_syntax.specs.declared.tokens.ItemPlace.{TheVariants.Later, ItemPlace}
+use Rattle.re_syntax.specs.{Working.Ahead.IsAfter, BasicTokens.{NeedsItem, IsAtEnd}}
 
 -- the text begins with nothing that opens a duplication
 pub record OpensNoDuplication (t : Text) : Type 0 where

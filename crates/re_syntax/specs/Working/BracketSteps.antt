@@ -1,13 +1,11 @@
 -- What each step of reading a bracket expression says: which part of the grammar is next to the
 -- cursor, or that there is none and where that shows.
 use Rattle.std.specs.Prelude.{◌≡◌, ◌≢◌, ℕ, ◌≤◌, ◌++◌, ◌⊎◌, drop, length, codes}
-use Rattle.re_syntax.specs.declared.bracket.ListPlace.TheVariants.{First, AfterPoint}
-use Rattle.re_syntax.specs.{declared.bracket.ListPlace.ListPlace, declared.cursor.Cursor.Cursor}
-use Rattle.re_syntax.specs.declared.fault.FaultKind.{FaultKind}
-use Rattle.re_syntax.specs.{declared.fault.PatternFault.PatternFault, BracketFaults.ElementFault}
-use Rattle.re_syntax.specs.{Faults.IsAt, Working.Cursors.left, Working.Cursors.Passes}
-use Rattle.re_trees.specs.{Bytes.Text, Bytes.Begins, Expression.Expression}
-use Rattle.re_syntax.specs.Brackets.{IsBracket}
+use Rattle.re_syntax.specs.{BracketFaults.ElementFault, declared.cursor.Cursor.Cursor}
+use Rattle.re_syntax.specs.declared.fault.{FaultKind.FaultKind, PatternFault.PatternFault}
+use Rattle.re_syntax.specs.declared.bracket.ListPlace.{TheVariants.{AfterPoint, First}, ListPlace}
+use Rattle.re_syntax.specs.{Brackets.IsBracket, Faults.IsAt, Working.Cursors.{left, Passes}}
+use Rattle.re_trees.specs.{Bytes.{Text, Begins}, Expression.Expression}
 
 -- the cursor's text from a place on
 abbrev pub from_place : ℕ → Cursor → Text

@@ -1,10 +1,10 @@
 -- What a machine builds of tokens, one after another, and what the code's levels mean of it.
 use Rattle.std.specs.Prelude.{◌≡◌, ℕ, ◌+◌, List, [], ◌∷◌, ◌++◌, Option, map}
-use Rattle.re_syntax.specs.Tokens.{Token, opening, closing, bar, lead, atom, times}
-use Rattle.re_syntax.specs.declared.building.TreeFrame.{TreeFrame}
-use Rattle.re_syntax.specs.{declared.building.Building.Building, Working.Mirrors.Mirrors}
+use Rattle.re_syntax.specs.Tokens.{times, bar, opening, atom, closing, Token, lead}
+use Rattle.re_syntax.specs.declared.building.{Building.Building, TreeFrame.TreeFrame}
+use Rattle.{re_syntax.specs.Working.Mirrors.Mirrors, re_trees.specs.Holds.positions}
 use Rattle.re_trees.specs.Expression.{Expression, begin, repeat, sequence, choice, cat}
-use Rattle.re_trees.specs.{Holds.positions, Working.Trees.expression_of}
+use Rattle.re_trees.specs.Working.Trees.{expression_of}
 
 -- a level that is built: its branches, and the items of the branch after them
 pub record Frame : Type 0 where

@@ -1,7 +1,6 @@
 -- Duplications at a place of a text. Each syntax says which texts are duplications.
 use Rattle.std.specs.Prelude.{◌≡◌, ℕ, ◌≤◌, ◌++◌, length, drop, Option}
-use Rattle.re_syntax.specs.declared.interval.Counts.{Counts}
-use Rattle.re_trees.specs.Bytes.{Text}
+use Rattle.{re_syntax.specs.declared.interval.Counts.Counts, re_trees.specs.Bytes.Text}
 
 -- a duplication goes from one place up to another
 pub record HasOne (IsDuplication : Text → ℕ → Option ℕ → Type 0) (text : Text) (at : ℕ)

@@ -1,7 +1,6 @@
 -- What reading a backslash and the byte after it says.
 use Rattle.std.specs.Prelude.{◌≡◌, ℕ, ◌+◌, ◌≤◌, ◌∷◌, ◌++◌, length, drop, IsTrue, codes}
-use Rattle.re_trees.specs.Bytes.{Text}
-use Rattle.re_syntax.specs.Escapes.{is_undefined}
+use Rattle.{re_trees.specs.Bytes.Text, re_syntax.specs.Escapes.is_undefined}
 
 -- an escape of a byte
 pub record EscapeStands (others text : Text) (at byte : ℕ) : Type 0 where

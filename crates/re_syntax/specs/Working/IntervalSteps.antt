@@ -1,12 +1,9 @@
 -- What each step of reading an interval says.
-use Rattle.std.specs.Prelude.{◌≡◌, ◌≢◌, ℕ, ◌+◌, ◌≤◌, min, [], ◌∷◌, ◌++◌, length, take, drop, Option, Some}
-use Rattle.std.specs.Prelude.{IsTrue, codes}
-use Rattle.std.specs.{List.list_all, Option.option_map}
-use Rattle.re_trees.specs.{declared.class.Class.TheVariants.Digit, Bytes.Text, Bytes.Begins}
-use Rattle.re_trees.specs.Bytes.{in_class}
-use Rattle.re_syntax.specs.Profile.{most_repeats}
+use Rattle.std.specs.{Prelude.{◌≡◌, ◌≢◌, ℕ, ◌+◌, ◌≤◌, min, []}, List.list_all, Option.option_map}
+use Rattle.std.specs.Prelude.{◌∷◌, ◌++◌, length, take, drop, Option, Some, IsTrue, codes}
+use Rattle.re_trees.specs.{Bytes.{Text, in_class, Begins}, declared.class.Class.TheVariants.Digit}
 use Rattle.re_syntax.specs.Intervals.{IsNumber, value, ClosedInterval}
-use Rattle.re_syntax.specs.declared.interval.Counts.{Counts}
+use Rattle.re_syntax.specs.{declared.interval.Counts.Counts, Profile.most_repeats}
 
 -- the text begins with a byte that no interval's form has
 pub record IsNoPart (t : Text) : Type 0 where

@@ -1,16 +1,14 @@
 -- What the shape of a text says of it, up to a place.
 use Rattle.std.specs.Prelude.{◌≡◌, ℕ, ◌+◌, ◌≤◌, List, ◌++◌, length, drop}
-use Rattle.re_syntax.specs.FirstFaults.{Around, Context, start, after, IsTooDeep, Cut, FirstFault}
-use Rattle.re_syntax.specs.FirstFaults.{IsCut, IsFirstFault}
-use Rattle.re_syntax.specs.Working.Builds.{Frame, Built, build, build_all, nothing_built}
-use Rattle.re_syntax.specs.Working.Builds.{level_positions, rest_positions, last_positions}
-use Rattle.re_syntax.specs.declared.fault.FaultKind.{FaultKind}
-use Rattle.re_syntax.specs.declared.fault.FaultKind.TheVariants.{TooDeep}
-use Rattle.re_syntax.specs.declared.fault.PatternFault.{PatternFault}
-use Rattle.re_syntax.specs.{declared.shape.OpenGroup.OpenGroup, declared.shape.Shape.Shape}
-use Rattle.re_syntax.specs.{declared.syntax.Syntax.Syntax, Profile.most_levels, Tokens.Token}
-use Rattle.re_syntax.specs.{Working.Counted.up_to_word, Working.Mirrors.Mirrors}
-use Rattle.re_trees.specs.{Bytes.Text, Expression.cat, Holds.positions}
+use Rattle.re_syntax.specs.{Profile.most_levels, Tokens.Token, FirstFaults.{start, Cut, Context}}
+use Rattle.re_syntax.specs.FirstFaults.{Around, FirstFault, after, IsCut, IsTooDeep, IsFirstFault}
+use Rattle.re_syntax.specs.Working.Builds.{rest_positions, build_all, Frame, nothing_built}
+use Rattle.re_syntax.specs.Working.Builds.{level_positions, Built, last_positions, build}
+use Rattle.re_syntax.specs.Working.{Counted.up_to_word, Mirrors.Mirrors}
+use Rattle.re_syntax.specs.declared.fault.FaultKind.{FaultKind, TheVariants.TooDeep}
+use Rattle.re_syntax.specs.declared.{fault.PatternFault.PatternFault, syntax.Syntax.Syntax}
+use Rattle.re_syntax.specs.declared.shape.{Shape.Shape, OpenGroup.OpenGroup}
+use Rattle.re_trees.specs.{Holds.positions, Expression.cat, Bytes.Text}
 
 -- a group that is open is one around a place of the text, and within the limit
 pub record IsAround (text : Text) (before : List OpenGroup) (group : OpenGroup)

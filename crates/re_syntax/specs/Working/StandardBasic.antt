@@ -2,14 +2,13 @@
 -- begins with a part, the text after the part, and what the part means; a number is the part's
 -- height: how deep groups and duplications are nested in it. The law that what the standard defines
 -- keeps its meaning uses this; no definition rests on it.
-use Rattle.std.specs.Prelude.{ℕ, suc, max, ◌≤◌, List, [], ◌∷◌, ◌++◌, Option, None, IsTrue, codes}
-use Rattle.re_trees.specs.Expression.{Expression, one_of, begin, end, repeat, byte, sequence}
-use Rattle.re_trees.specs.Bytes.{Text, any_but_nul}
+use Rattle.std.specs.Prelude.{Option, ◌≤◌, suc, IsTrue, None, ℕ, ◌++◌, ◌∷◌, codes, max, [], List}
+use Rattle.re_trees.specs.{Bytes.{Text, any_but_nul}, Expression.{byte, one_of, Expression}}
+use Rattle.re_trees.specs.Expression.{sequence, repeat, end, begin}
+use Rattle.re_syntax.specs.{BasicTokens.is_ordinary, Intervals.IsAllowed, Brackets.IsBracket}
 use Rattle.re_syntax.specs.declared.tokens.ItemPlace.TheVariants.{First, AfterAnchor, Later}
-use Rattle.re_syntax.specs.{declared.tokens.ItemPlace.ItemPlace, BasicTokens.is_ordinary}
-use Rattle.re_syntax.specs.{Brackets.IsBracket, Intervals.IsAllowed, Profile.most_levels}
-use Rattle.re_syntax.specs.{Profile.basic_escaped, Escapes.is_undefined}
-use Rattle.re_syntax.specs.Working.StandardIntervals.{Interval}
+use Rattle.re_syntax.specs.{declared.tokens.ItemPlace.ItemPlace, Working.StandardIntervals.Interval}
+use Rattle.re_syntax.specs.{Profile.{most_levels, basic_escaped}, Escapes.is_undefined}
 
 -- `*`, or an interval in `\{` and `\}` (XBD 9.3.6)
 pub data Duplication : Text → ℕ → Option ℕ → Type 0 where

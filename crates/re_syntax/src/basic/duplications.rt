@@ -1,8 +1,7 @@
 //! Duplications of basic expressions (XBD 9.3.6), with GNU grep's `\+` and `\?`.
 ghost use Rattle.std.specs.Prelude.{Bool, ◌≤◌, IfOk, IfErr, MatchOption, MatchBool, length, drop};
 ghost use Rattle.re_syntax.specs.BasicTokens.{Duplication, NeedsItem, BasicTokenFault};
-ghost use Rattle.re_syntax.specs.declared.tokens.ItemPlace.{ItemPlace};
-ghost use Rattle.re_syntax.specs.Faults.{IsAt};
+ghost use Rattle.re_syntax.specs.{declared.tokens.ItemPlace.ItemPlace, Faults.IsAt};
 ghost use Rattle.re_syntax.specs.Working.BasicSteps.{HasNoSign, OpensNoDuplication};
 ghost use Rattle.re_syntax.specs.Working.DuplicationSteps.{HasOne};
 

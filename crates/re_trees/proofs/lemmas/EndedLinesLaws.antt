@@ -1,6 +1,5 @@
 -- `ended_lines_of` gives the one list of lines that newlines end in an input.
-use Rattle.re_trees.proofs.Prelude.{◌≡◌, ℕ, ◌⊎◌, inl, inr, nat_eq, ◌≢◌, List, [], ◌∷◌, ◌++◌, All, if◌then◌else◌, refl, sym, ap, ◌∙◌, append_assoc, cond-false, ne_eqb, cases_eq, Text, newline, put_before_first, ended_lines_of, HasNoNewline, terminated, AreEndedLines}
-use Rattle.re_trees.proofs.lemmas.LinesLaws.{first_differs, rest_has_none, none_before, none_in_empty, all_cons, all_head, all_tail, all_none}
+use Rattle.re_trees.proofs.{Prelude.{◌≡◌, ℕ, ◌⊎◌, inl, inr, nat_eq, ◌≢◌, List, [], ◌∷◌, ◌++◌, All, if◌then◌else◌, refl, sym, ap, ◌∙◌, append_assoc, cond-false, ne_eqb, cases_eq, Text, newline, put_before_first, ended_lines_of, HasNoNewline, terminated, AreEndedLines}, lemmas.LinesLaws.{first_differs, rest_has_none, none_before, none_in_empty, all_cons, all_head, all_tail, all_none}}
 
 -- what the first line is, and what follows it
 pub ended_lines_of-line : (t rest : Text) → HasNoNewline t → ended_lines_of (t ++ newline ∷ rest) ≡ t ∷ ended_lines_of rest

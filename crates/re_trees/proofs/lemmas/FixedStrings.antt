@@ -1,6 +1,5 @@
 -- The sequence of a text's bytes holds where the text occurs.
-use Rattle.re_trees.proofs.Prelude.{◌≡◌, ℕ, zero, suc, ◌+◌, ◌≤◌, List, [], ◌∷◌, ◌++◌, length, map, Some, slice_get, drop, refl, ap, ◌∙◌, arith, eq-eqb, false, length-append, length-drop, eqb-true, Text, Expression, cat, byte, sequence, Holds, Matches}
-use Rattle.re_trees.proofs.lemmas.HoldsDecided.{Holds-le}
+use Rattle.re_trees.proofs.{Prelude.{◌≡◌, ℕ, zero, suc, ◌+◌, ◌≤◌, List, [], ◌∷◌, ◌++◌, length, map, Some, slice_get, drop, refl, ap, ◌∙◌, arith, eq-eqb, false, length-append, length-drop, eqb-true, Text, Expression, cat, byte, sequence, Holds, Matches}, lemmas.HoldsDecided.Holds-le}
 
 -- a sequence holds where its members do one after another
 pub sequence-cat : (line : Text) (es : List Expression) (i j : ℕ) → Holds line (sequence es) i j → Holds line (cat es) i j

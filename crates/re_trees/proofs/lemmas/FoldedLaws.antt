@@ -1,7 +1,6 @@
 -- Folding folds each part of a sequence or a choice. A tree whose parts are folded is the folded
 -- tree.
-use Rattle.re_trees.proofs.Prelude.{◌≡◌, ℕ, List, [], ◌∷◌, map, Option, Vec, Box, Global, refl, sym, ap, ◌∙◌, Expression, cat, alt, cat_more, alt_more, repeat, expression_of, folded, Tree, Cat, Alt, Repeat}
-use Rattle.re_trees.proofs.lemmas.ExpressionLaws.{expression-Cat, expression-Alt, expression-Repeat}
+use Rattle.re_trees.proofs.{Prelude.{◌≡◌, ℕ, List, [], ◌∷◌, map, Option, Vec, Box, Global, refl, sym, ap, ◌∙◌, Expression, cat, alt, cat_more, alt_more, repeat, expression_of, folded, Tree, Cat, Alt, Repeat}, lemmas.ExpressionLaws.{expression-Cat, expression-Alt, expression-Repeat}}
 
 -- a sequence
 pub folded-cat : (es : List Expression) → folded (cat es) ≡ cat (map folded es)

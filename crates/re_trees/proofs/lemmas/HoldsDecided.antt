@@ -1,6 +1,5 @@
 -- Whether an expression holds on a stretch, and whether it matches a line, is decided.
-use Rattle.re_trees.proofs.Prelude.{◌≡◌, ℕ, zero, suc, ◌+◌, ◌≤◌, inl, inr, Bool, true, false, IsTrue, length, slice_get, Option, Some, None, subst, arith, dec_le, ℕ_discrete, map_dec, Text, Expression, empty, one_of, none_of, begin, end, cat_none, cat_more, alt_none, alt_more, repeat, Turns, IsWithin, Holds, Matches}
-use Rattle.re_trees.proofs.lemmas.Decisions.{dec_not, dec_both, dec_either, dec_IsTrue, dec_IfSome, dec_holds_inside, dec_bounded}
+use Rattle.re_trees.proofs.{Prelude.{◌≡◌, ℕ, zero, suc, ◌+◌, ◌≤◌, inl, inr, Bool, true, false, IsTrue, length, slice_get, Option, Some, None, subst, arith, dec_le, ℕ_discrete, map_dec, Text, Expression, empty, one_of, none_of, begin, end, cat_none, cat_more, alt_none, alt_more, repeat, Turns, IsWithin, Holds, Matches}, lemmas.Decisions.{dec_not, dec_both, dec_either, dec_IsTrue, dec_IfSome, dec_holds_inside, dec_bounded}}
 
 -- turns of a relation whose stretches do not end before they begin
 module _ (R : ℕ → ℕ → Type 0) (R-le : (i j : ℕ) → R i j → i ≤ j) where

@@ -1,6 +1,5 @@
 -- How many nodes a sequence has, and a list of trees.
-use Rattle.re_trees.proofs.Prelude.{◌≡◌, ◌+◌, ℕ, List, [], ◌∷◌, ◌++◌, Vec, Global, sym, ap, ◌∙◌, arith, Tree, Tree-F, fold-roll-Tree, Cat, rolls-Cat}
-use Rattle.re_trees.specs.Working.Nodes.{nodes_of, node_count, nodes_of_all}
+use Rattle.re_trees.{proofs.Prelude.{◌≡◌, ◌+◌, ℕ, List, [], ◌∷◌, ◌++◌, Vec, Global, sym, ap, ◌∙◌, arith, Tree, Tree-F, fold-roll-Tree, Cat, rolls-Cat}, specs.Working.Nodes.{nodes_of, node_count, nodes_of_all}}
 
 -- a sequence
 pub nodes-Cat : (parts : Vec Tree Global) → nodes_of (Cat parts) ≡ 1 + nodes_of_all parts.items

@@ -1,6 +1,5 @@
 -- Sets of bytes, by the bits of their words.
-use Rattle.re_trees.proofs.Prelude.{◌≡◌, ◌≢◌, ℕ, zero, suc, ◌+◌, ◌-◌, ◌*◌, ◌/◌, ◌%◌, ◌^◌, ◌<◌, ◌≤◌, ◌⊎◌, inl, inr, max, min, Bool, true, false, not, ◌&&◌, ◌||◌, IsTrue, nat_eq, nat_lt, nat_le, refl, sym, ap, subst, ◌∙◌, arith, fun_ext, cases_eq, cases_lt, cond-true, cond-false, lt-ltb, le-ltb, le-leb, lt-leb, leb-true, true≢false, eq-eqb, ne_eqb, eqb-true, and_parts, and_from, and_left, and_right, if◌then◌else◌, bit_at-lt, bit_at-zero, bit_at_above, bit_at_and, bit_at_not, bit_at_or, bit_at_cat_low, bit_at_cat_high, bit_at_mask_below, bit_at_mask_inside, bit_at_mask_above, bit_at-pow_same, bit_at-pow_other, one_shl, bit_at-trailing_zeros, and_le_l, shr-shr, bit_at, bit_and, bit_or, bit_not, trailing_zeros, w128, ByteSet, Bytes, IsLowest, Some, Takes, closed, has_bit, members, nothing, only, other_case, range, union, without}
-use Rattle.re_trees.proofs.lemmas.UnionsLaws.{same_test}
+use Rattle.re_trees.proofs.{Prelude.{◌≡◌, ◌≢◌, ℕ, zero, suc, ◌+◌, ◌-◌, ◌*◌, ◌/◌, ◌%◌, ◌^◌, ◌<◌, ◌≤◌, ◌⊎◌, inl, inr, max, min, Bool, true, false, not, ◌&&◌, ◌||◌, IsTrue, nat_eq, nat_lt, nat_le, refl, sym, ap, subst, ◌∙◌, arith, fun_ext, cases_eq, cases_lt, cond-true, cond-false, lt-ltb, le-ltb, le-leb, lt-leb, leb-true, true≢false, eq-eqb, ne_eqb, eqb-true, and_parts, and_from, and_left, and_right, if◌then◌else◌, bit_at-lt, bit_at-zero, bit_at_above, bit_at_and, bit_at_not, bit_at_or, bit_at_cat_low, bit_at_cat_high, bit_at_mask_below, bit_at_mask_inside, bit_at_mask_above, bit_at-pow_same, bit_at-pow_other, one_shl, bit_at-trailing_zeros, and_le_l, shr-shr, bit_at, bit_and, bit_or, bit_not, trailing_zeros, w128, ByteSet, Bytes, IsLowest, Some, Takes, closed, has_bit, members, nothing, only, other_case, range, union, without}, lemmas.UnionsLaws.same_test}
 
 abbrev is_one : ℕ → Bool
 is_one n = nat_eq n 1

@@ -1,6 +1,5 @@
 -- What holds of some element of two lists joined.
-use Rattle.re_trees.proofs.Prelude.{List, [], ◌∷◌, ◌++◌, ◌⊎◌, inl, inr, Any}
-use Rattle.re_trees.proofs.lemmas.Decisions.{Any-first, Any-later, Any-cases, Any-none}
+use Rattle.re_trees.proofs.{Prelude.{List, [], ◌∷◌, ◌++◌, ◌⊎◌, inl, inr, Any}, lemmas.Decisions.{Any-first, Any-later, Any-cases, Any-none}}
 
 -- P holds of an element of two lists where it holds of one of the first
 pub Any-left : {A : Type 0} (P : A → Type 0) (xs ys : List A) → Any P xs → Any P (xs ++ ys)

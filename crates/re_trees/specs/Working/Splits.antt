@@ -1,6 +1,5 @@
 -- The texts that a splitter has not returned yet.
-use Rattle.std.specs.Prelude.{List, [], Option, Some, None}
-use Rattle.std.specs.Borrow.{Bor}
+use Rattle.std.specs.{Prelude.{List, [], Option, Some, None}, Borrow.Bor}
 use Rattle.re_trees.specs.{Bytes.Text, Lines.list_of}
 
 abbrev pub texts_of_rest : Option (Bor Text) → List Text

@@ -1,12 +1,9 @@
 -- What the code's sets of bytes and trees mean.
 use Rattle.std.specs.Prelude.{◌≡◌, ℕ, ◌-◌, ◌<◌, Bool, ◌&&◌, not, nat_lt, nat_eq, if◌then◌else◌}
-use Rattle.std.specs.Prelude.{Option, MatchOption, IsTrue}
-use Rattle.std.specs.Int.{bit_at}
+use Rattle.std.specs.{Prelude.{Option, MatchOption, IsTrue}, Int.bit_at}
 use Rattle.re_trees.specs.Expression.{Expression, empty, one_of, none_of, begin, end, repeat, cat}
-use Rattle.re_trees.specs.Expression.{alt}
-use Rattle.re_trees.specs.{Bytes.Bytes, Bytes.nothing, declared.bytes.ByteSet.ByteSet}
-use Rattle.re_trees.specs.{declared.tree.Tree.Tree, declared.tree.Tree.TheOpen.Tree-F}
-use Rattle.re_trees.specs.declared.tree.Tree.TheFolds.{fold-Tree}
+use Rattle.re_trees.specs.{Expression.alt, Bytes.{Bytes, nothing}, declared.bytes.ByteSet.ByteSet}
+use Rattle.re_trees.specs.declared.tree.Tree.{Tree, TheOpen.Tree-F, TheFolds.fold-Tree}
 
 -- the bit at this place is 1
 abbrev pub has_bit : ℕ → ℕ → Bool

@@ -1,5 +1,4 @@
-use Rattle.line_finds.proofs.Prelude.{◌<◌, ℕ, All-map, sym, pair_of}
-use Rattle.line_finds.proofs.lemmas.PairLaws.{all_left}
+use Rattle.line_finds.proofs.{Prelude.{◌<◌, ℕ, All-map, sym, pair_of}, lemmas.PairLaws.all_left}
 use Rattle.line_finds.proofs.matches.drop_patterns.Goals as goal
 
 pub returns-then-all_before : goal.returns-then-all_before

@@ -1,5 +1,4 @@
-use Rattle.line_finds.proofs.Prelude.{◌∙◌, Match, lowered_pair}
-use Rattle.line_finds.proofs.lemmas.MappedLemmas.{mapped_next, mapped_all}
+use Rattle.line_finds.proofs.{Prelude.{◌∙◌, Match, lowered_pair}, lemmas.MappedLemmas.{mapped_next, mapped_all}}
 use Rattle.line_finds.proofs.matches.lower_each.Goals as goal
 
 pub loop-pair-preserved : goal.loop-pair-preserved

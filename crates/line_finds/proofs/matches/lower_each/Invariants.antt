@@ -1,5 +1,4 @@
-use Rattle.line_finds.proofs.Prelude.{◌≡◌, lowered_pair}
-use Rattle.line_finds.proofs.lemmas.MappedLemmas.{mapped_to}
+use Rattle.line_finds.proofs.{Prelude.{◌≡◌, lowered_pair}, lemmas.MappedLemmas.mapped_to}
 use Rattle.line_finds.proofs.matches.lower_each.Given as goal
 
 -- the first are lowered, and the others are as they were

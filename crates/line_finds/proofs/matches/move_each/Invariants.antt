@@ -1,5 +1,4 @@
-use Rattle.line_finds.proofs.Prelude.{◌≡◌, moved_pair}
-use Rattle.line_finds.proofs.lemmas.MappedLemmas.{mapped_to}
+use Rattle.line_finds.proofs.{Prelude.{◌≡◌, moved_pair}, lemmas.MappedLemmas.mapped_to}
 use Rattle.line_finds.proofs.matches.move_each.Given as goal
 
 -- the first are moved, and the others are as they were

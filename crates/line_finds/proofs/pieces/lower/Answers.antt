@@ -1,5 +1,4 @@
-use Rattle.line_finds.proofs.Prelude.{ℕ, ◌-◌, ◌∙◌}
-use Rattle.line_finds.proofs.lemmas.MappedLemmas.{mapped_next, mapped_all}
+use Rattle.line_finds.proofs.{Prelude.{ℕ, ◌-◌, ◌∙◌}, lemmas.MappedLemmas.{mapped_next, mapped_all}}
 use Rattle.line_finds.proofs.pieces.lower.Goals as goal
 
 pub loop-start-preserved : goal.loop-start-preserved

@@ -1,5 +1,4 @@
-use Rattle.line_finds.proofs.Prelude.{◌≡◌, ◌-◌}
-use Rattle.line_finds.proofs.lemmas.MappedLemmas.{mapped_to}
+use Rattle.line_finds.proofs.{Prelude.{◌≡◌, ◌-◌}, lemmas.MappedLemmas.mapped_to}
 use Rattle.line_finds.proofs.pieces.lower.Given as goal
 
 abbrev pub invariant-loop-start : goal.invariant-loop-start

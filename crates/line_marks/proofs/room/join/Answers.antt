@@ -1,5 +1,4 @@
-use Rattle.line_marks.proofs.Prelude.{arith}
-use Rattle.line_marks.proofs.lemmas.RoomLemmas.{few_joined, joined_lose}
+use Rattle.line_marks.proofs.{Prelude.arith, lemmas.RoomLemmas.{few_joined, joined_lose}}
 use Rattle.line_marks.proofs.room.join.Goals as goal
 
 pub joined-one-requires : goal.joined-one-requires

@@ -1,5 +1,4 @@
-use Rattle.line_marks.proofs.Prelude.{arith}
-use Rattle.line_marks.proofs.lemmas.RoomLemmas.{lowered_at}
+use Rattle.line_marks.proofs.{Prelude.arith, lemmas.RoomLemmas.lowered_at}
 use Rattle.line_marks.proofs.room.lower.Goals as goal
 
 pub returns : goal.returns

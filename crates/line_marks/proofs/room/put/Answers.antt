@@ -1,5 +1,4 @@
-use Rattle.line_marks.proofs.Prelude.{◌+◌, length, ap, rules, arith, length-append, length-drop, length-take, Stretch}
-use Rattle.line_marks.proofs.lemmas.RoomLemmas.{led_length, put_at}
+use Rattle.line_marks.proofs.{Prelude.{◌+◌, length, ap, rules, arith, length-append, length-drop, length-take, Stretch}, lemmas.RoomLemmas.{led_length, put_at}}
 use Rattle.line_marks.proofs.room.put.Goals as goal
 
 pub insert-requires : goal.insert-requires

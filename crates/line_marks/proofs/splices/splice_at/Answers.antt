@@ -1,5 +1,4 @@
-use Rattle.line_marks.proofs.Prelude.{length, ap, arith, drop-drop, length-drop, Stretch}
-use Rattle.line_marks.proofs.lemmas.ReplaceLemmas.{counted_at, few_added, spliced_list}
+use Rattle.line_marks.proofs.{Prelude.{length, ap, arith, drop-drop, length-drop, Stretch}, lemmas.ReplaceLemmas.{counted_at, few_added, spliced_list}}
 use Rattle.line_marks.proofs.splices.splice_at.Goals as goal
 
 pub make_room-requires : goal.make_room-requires

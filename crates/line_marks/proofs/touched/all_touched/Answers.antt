@@ -1,5 +1,4 @@
-use Rattle.line_marks.proofs.Prelude.{arith}
-use Rattle.line_marks.proofs.lemmas.TakeLemmas.{few_wide, takes_all}
+use Rattle.line_marks.proofs.{Prelude.arith, lemmas.TakeLemmas.{few_wide, takes_all}}
 use Rattle.line_marks.proofs.touched.all_touched.Goals as goal
 
 pub widened-requires : goal.widened-requires

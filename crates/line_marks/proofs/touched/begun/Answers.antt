@@ -1,5 +1,4 @@
-use Rattle.line_marks.proofs.Prelude.{arith}
-use Rattle.line_marks.proofs.lemmas.TakeLemmas.{far_first, no_first, takes_idle}
+use Rattle.line_marks.proofs.{Prelude.arith, lemmas.TakeLemmas.{far_first, no_first, takes_idle}}
 use Rattle.line_marks.proofs.touched.begun.Goals as goal
 
 pub returns-in_default : goal.returns-in_default

@@ -1,5 +1,4 @@
-use Rattle.line_marks.proofs.Prelude.{length, drop_all, take_all, arith}
-use Rattle.line_marks.proofs.lemmas.PlaceLemmas.{passes_more, reached_at}
+use Rattle.line_marks.proofs.{Prelude.{length, drop_all, take_all, arith}, lemmas.PlaceLemmas.{passes_more, reached_at}}
 use Rattle.line_marks.proofs.touched.place_of.Goals as goal
 
 pub loop-many-preserved : goal.loop-many-preserved

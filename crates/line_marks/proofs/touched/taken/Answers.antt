@@ -1,5 +1,4 @@
-use Rattle.line_marks.proofs.Prelude.{refl, arith}
-use Rattle.line_marks.proofs.lemmas.TakeLemmas.{few_both, has_lead, near_next, near_none, takes_next, takes_wider}
+use Rattle.line_marks.proofs.{Prelude.{refl, arith}, lemmas.TakeLemmas.{few_both, has_lead, near_next, near_none, takes_next, takes_wider}}
 use Rattle.line_marks.proofs.touched.taken.Goals as goal
 
 pub loop-k-init : goal.loop-k-init

@@ -1,5 +1,4 @@
-use Rattle.re_auto.proofs.Prelude.{arith}
-use Rattle.re_auto.proofs.lemmas.BitLemmas.{or_has}
+use Rattle.re_auto.proofs.{Prelude.arith, lemmas.BitLemmas.or_has}
 use Rattle.re_auto.proofs.bits.add.Goals as goal
 
 pub returns-clause-added : goal.returns-clause-added

@@ -1,5 +1,4 @@
-use Rattle.re_auto.proofs.Prelude.{arith}
-use Rattle.re_auto.proofs.lemmas.BitLemmas.{at_word, word_added, all_added, chained}
+use Rattle.re_auto.proofs.{Prelude.arith, lemmas.BitLemmas.{at_word, word_added, all_added, chained}}
 use Rattle.re_auto.proofs.bits.add_rows.Goals as goal
 
 pub add_rows_of_word-requires-clause-rows : goal.add_rows_of_word-requires-clause-rows

@@ -1,5 +1,4 @@
-use Rattle.re_auto.proofs.Prelude.{arith, ◌+◌, ◌*◌, length, inl, refl, slice_get-get_or, Has, row_of}
-use Rattle.re_auto.proofs.lemmas.BitLemmas.{one_added, none_left, chained}
+use Rattle.re_auto.proofs.{Prelude.{arith, ◌+◌, ◌*◌, length, inl, refl, slice_get-get_or, Has, row_of}, lemmas.BitLemmas.{one_added, none_left, chained}}
 use Rattle.re_auto.proofs.bits.add_rows_of_word.Goals as goal
 
 pub row-requires : goal.row-requires

@@ -1,5 +1,4 @@
-use Rattle.re_auto.proofs.Prelude.{◌∙◌, Has}
-use Rattle.re_auto.proofs.lemmas.BitLemmas.{row_added, row_long}
+use Rattle.re_auto.proofs.{Prelude.{◌∙◌, Has}, lemmas.BitLemmas.{row_added, row_long}}
 use Rattle.re_auto.proofs.bits.add_to_row.Goals as goal
 
 pub returns-clause-added : goal.returns-clause-added

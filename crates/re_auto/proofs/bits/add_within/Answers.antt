@@ -1,5 +1,4 @@
-use Rattle.re_auto.proofs.Prelude.{arith, ◌≡◌, get_or-set_same, get_or-set_other}
-use Rattle.re_auto.proofs.lemmas.RangeLemmas.{added_within}
+use Rattle.re_auto.proofs.{Prelude.{arith, ◌≡◌, get_or-set_same, get_or-set_other}, lemmas.RangeLemmas.added_within}
 use Rattle.re_auto.proofs.bits.add_within.Goals as goal
 
 pub returns-then-first-range-clause-added : goal.returns-then-first-range-clause-added

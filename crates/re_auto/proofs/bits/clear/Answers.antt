@@ -1,5 +1,4 @@
-use Rattle.re_auto.proofs.Prelude.{arith, refl}
-use Rattle.re_auto.proofs.lemmas.BitLemmas.{all_zero}
+use Rattle.re_auto.proofs.{Prelude.{arith, refl}, lemmas.BitLemmas.all_zero}
 use Rattle.re_auto.proofs.bits.clear.Goals as goal
 
 pub returns-clause-none : goal.returns-clause-none

@@ -1,5 +1,4 @@
-use Rattle.re_auto.proofs.Prelude.{◌≡◌, rules, tests, ◌≢◌, cases_from_all, YieldsList-from_slice}
-use Rattle.re_auto.proofs.lemmas.BitLemmas.{clear_says}
+use Rattle.re_auto.proofs.{Prelude.{◌≡◌, rules, tests, ◌≢◌, cases_from_all, YieldsList-from_slice}, lemmas.BitLemmas.clear_says}
 use Rattle.re_auto.proofs.bits.is_clear.Goals as goal
 
 pub returns : goal.returns

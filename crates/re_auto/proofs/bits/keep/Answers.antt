@@ -1,5 +1,4 @@
-use Rattle.re_auto.proofs.Prelude.{arith}
-use Rattle.re_auto.proofs.lemmas.BitLemmas.{and_has}
+use Rattle.re_auto.proofs.{Prelude.arith, lemmas.BitLemmas.and_has}
 use Rattle.re_auto.proofs.bits.keep.Goals as goal
 
 pub returns-clause-kept : goal.returns-clause-kept

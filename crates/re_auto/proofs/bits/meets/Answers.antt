@@ -1,5 +1,4 @@
-use Rattle.re_auto.proofs.Prelude.{arith, refl, true≢false, sym}
-use Rattle.re_auto.proofs.lemmas.BitLemmas.{common, no_common}
+use Rattle.re_auto.proofs.{Prelude.{arith, refl, true≢false, sym}, lemmas.BitLemmas.{common, no_common}}
 use Rattle.re_auto.proofs.bits.meets.Goals as goal
 
 pub returns-then-a-k-ne0 : goal.returns-then-a-k-ne0

@@ -1,5 +1,4 @@
-use Rattle.re_auto.proofs.Prelude.{arith}
-use Rattle.re_auto.proofs.lemmas.BitLemmas.{lowest}
+use Rattle.re_auto.proofs.{Prelude.arith, lemmas.BitLemmas.lowest}
 use Rattle.re_auto.proofs.bits.take_lowest.Goals as goal
 
 pub returns : goal.returns

@@ -1,5 +1,4 @@
-use Rattle.re_auto.proofs.Prelude.{IsTrue, part_of}
-use Rattle.re_auto.proofs.lemmas.SetsByChains.{fronts, fronts_back}
+use Rattle.re_auto.proofs.{Prelude.{IsTrue, part_of}, lemmas.SetsByChains.{fronts, fronts_back}}
 use Rattle.re_auto.proofs.laws.fronts_decide.Goals as goal
 
 pub returns : goal.returns

@@ -1,5 +1,4 @@
-use Rattle.re_auto.proofs.Prelude.{arith}
-use Rattle.re_auto.proofs.lemmas.RangeLemmas.{not_before}
+use Rattle.re_auto.proofs.{Prelude.arith, lemmas.RangeLemmas.not_before}
 use Rattle.re_auto.proofs.ranges.first_word.Goals as goal
 
 pub returns-then-row-k-ne0 : goal.returns-then-row-k-ne0

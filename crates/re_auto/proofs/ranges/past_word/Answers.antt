@@ -1,5 +1,4 @@
-use Rattle.re_auto.proofs.Prelude.{arith}
-use Rattle.re_auto.proofs.lemmas.RangeLemmas.{not_from}
+use Rattle.re_auto.proofs.{Prelude.arith, lemmas.RangeLemmas.not_from}
 use Rattle.re_auto.proofs.ranges.past_word.Goals as goal
 
 pub returns-then-row-past-ne0-clause-past : goal.returns-then-row-past-ne0-clause-past

@@ -1,6 +1,5 @@
-use Rattle.re_auto.proofs.Prelude.{◌≡◌, ◌++◌, ◌∷◌, [], length, length-append, ap, arith, rules, row_of, Covers}
+use Rattle.re_auto.proofs.{Prelude.{◌≡◌, ◌++◌, ◌∷◌, [], length, length-append, ap, arith, rules, row_of, Covers}, lemmas.{RangeLemmas.one_more, RowLemmas.row_within}}
 use Rattle.re_auto.proofs.ranges.ranges_of.Goals as goal
-use Rattle.re_auto.proofs.lemmas.{RangeLemmas.one_more, RowLemmas.row_within}
 
 pub row-requires : goal.row-requires
 row-requires c = rw c.requires.table (row_within c.rows.r c.args.rows c.args.width (omega arith))

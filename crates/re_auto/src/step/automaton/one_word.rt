@@ -1,14 +1,9 @@
 //! Sets of positions that are one word: there are from 1 to 64 positions.
 ghost use Rattle.std.specs.Prelude.{◌≡◌, ℕ, suc, ◌<◌, ◌↔◌, ◌⊎◌, Some, IsTrue, slice_get};
-ghost use Rattle.re_trees.specs.Bytes.{Text};
-ghost use Rattle.re_trees.specs.Working.Trees.{expression_of};
-ghost use Rattle.re_trees.specs.Holds.{positions};
-ghost use Rattle.re_auto.specs.Working.Bits.{InWord};
-ghost use Rattle.re_meter.specs.Meters.{many_built};
-ghost use Rattle.re_auto.specs.Working.Positions.{part_of};
-ghost use Rattle.re_auto.specs.Working.SteppedSets.{MayBegin, IsNext};
-ghost use Rattle.re_auto.specs.Working.StateSets.{IsMadeFor, StandsAt, IsNextSet};
-ghost use Rattle.re_auto.specs.Working.Tables.{HasOneWord};
+ghost use Rattle.re_trees.specs.{Working.Trees.expression_of, Bytes.Text, Holds.positions};
+ghost use Rattle.re_auto.specs.Working.{Tables.HasOneWord, SteppedSets.{MayBegin, IsNext}};
+ghost use Rattle.re_auto.specs.Working.{Bits.InWord, StateSets.{IsNextSet, StandsAt, IsMadeFor}};
+ghost use Rattle.{re_auto.specs.Working.Positions.part_of, re_meter.specs.Meters.many_built};
 
 use crate::bits;
 use crate::mode::Mode;

@@ -1,9 +1,4 @@
-use Rattle.re_ends.proofs.Prelude.{arith, ap, length, refl, set, sym, ◌+◌, ◌-◌, ◌++◌, ◌∷◌, [], ◌∙◌}
-use Rattle.std.proofs.lemmas.Grind.{flat_map-append}
-use Rattle.std.proofs.lemmas.List.{get_or_read_under}
-use Rattle.re_ends.specs.declared.list.Run.{Run}
-use Rattle.re_ends.specs.Working.Groups.{numbers, numbers_of}
-use Rattle.re_ends.proofs.lemmas.ListLaws.{few_runs, run_added}
+use Rattle.{re_ends.{proofs.{Prelude.{arith, ap, length, refl, set, sym, ◌+◌, ◌-◌, ◌++◌, ◌∷◌, [], ◌∙◌}, lemmas.ListLaws.{few_runs, run_added}}, specs.{declared.list.Run.Run, Working.Groups.{numbers, numbers_of}}}, std.proofs.lemmas.{Grind.flat_map-append, List.get_or_read_under}}
 use Rattle.re_ends.proofs.groups.add_number.Goals as goal
 
 pub returns-then-last-number-clause-added : goal.returns-then-last-number-clause-added

@@ -1,5 +1,4 @@
-use Rattle.re_ends.proofs.Prelude.{ℕ, ◌<◌, slice_index, Has}
-use Rattle.re_ends.specs.Working.Groups.{Names}
+use Rattle.re_ends.{proofs.Prelude.{ℕ, ◌<◌, slice_index, Has}, specs.Working.Groups.Names}
 use Rattle.re_ends.proofs.groups.first_in.Given as goal
 
 -- no position of the pieces before is in the set

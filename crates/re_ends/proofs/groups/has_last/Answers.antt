@@ -1,5 +1,4 @@
-use Rattle.re_ends.proofs.Prelude.{arith, length, ◌-◌}
-use Rattle.std.proofs.lemmas.Bool.{eqb-true, eq-eqb}
+use Rattle.{re_ends.proofs.Prelude.{arith, length, ◌-◌}, std.proofs.lemmas.Bool.{eqb-true, eq-eqb}}
 use Rattle.re_ends.proofs.lemmas.ClosingLaws as laws
 use Rattle.re_ends.proofs.groups.has_last.Goals as goal
 

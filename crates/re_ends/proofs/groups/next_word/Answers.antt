@@ -1,7 +1,4 @@
-use Rattle.re_ends.proofs.Prelude.{arith, ap, inl, inr, ℕ, List, ◌≡◌, ◌/◌, ◌<◌, ◌≤◌, Has, cases_lt, get_or}
-use Rattle.std.specs.Prelude.{◌%◌}
-use Rattle.std.specs.Int.{bit_at}
-use Rattle.std.proofs.lemmas.Nat.Bits.{bit_at-zero}
+use Rattle.{re_ends.proofs.Prelude.{arith, ap, inl, inr, ℕ, List, ◌≡◌, ◌/◌, ◌<◌, ◌≤◌, Has, cases_lt, get_or}, std.{specs.{Prelude.◌%◌, Int.bit_at}, proofs.lemmas.Nat.Bits.bit_at-zero}}
 use Rattle.re_ends.proofs.groups.next_word.Goals as goal
 
 -- where the words between are 0, no member is in them

@@ -1,7 +1,5 @@
-use Rattle.re_ends.proofs.Prelude.{arith, ◌≡◌, ◌++◌, ◌∷◌, []}
-use Rattle.std.specs.Prelude.{vec_capacity}
+use Rattle.{re_ends.proofs.{Prelude.{arith, ◌≡◌, ◌++◌, ◌∷◌, []}, groups.put_piece.Goals.After-push}, std.specs.Prelude.vec_capacity}
 use Rattle.re_ends.proofs.lemmas.ClosingLaws as laws
-use Rattle.re_ends.proofs.groups.put_piece.Goals.{After-push}
 use Rattle.re_ends.proofs.groups.put_piece.Goals as goal
 
 put : (c : After-push) → c.push.new.self.items ≡ c.args.row.now.items ++ c.args.piece ∷ []

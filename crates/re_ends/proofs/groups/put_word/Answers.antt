@@ -1,7 +1,4 @@
-use Rattle.re_ends.proofs.Prelude.{arith, inl, inr, ◌≡◌, ◌+◌, ◌*◌, ◌/◌, ◌<◌, ◌↔◌, ◌⊎◌, ℕ}
-use Rattle.std.specs.Prelude.{◌%◌, ◌^◌}
-use Rattle.std.specs.Int.{bit_at}
-use Rattle.re_ends.specs.Working.Groups.{Names}
+use Rattle.{re_ends.{proofs.Prelude.{arith, inl, inr, ◌≡◌, ◌+◌, ◌*◌, ◌/◌, ◌<◌, ◌↔◌, ◌⊎◌, ℕ}, specs.Working.Groups.Names}, std.specs.{Prelude.{◌%◌, ◌^◌}, Int.bit_at}}
 use Rattle.re_ends.proofs.lemmas.ClosingLaws as laws
 use Rattle.re_ends.proofs.groups.put_word.Goals as goal
 

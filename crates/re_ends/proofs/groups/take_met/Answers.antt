@@ -1,7 +1,4 @@
-use Rattle.re_ends.proofs.Prelude.{arith, ℕ, inl, inr, refl, ◌∙◌, ◌≡◌, ◌<◌, ◌≤◌, ◌+◌, ◌*◌, ◌/◌, length-set, subst, sym, Has, cases_lt, get_or}
-use Rattle.std.specs.Prelude.{◌%◌}
-use Rattle.std.proofs.lemmas.Nat.{and_le_l}
-use Rattle.std.proofs.lemmas.Bool.{cases_eq}
+use Rattle.{re_ends.proofs.Prelude.{arith, ℕ, inl, inr, refl, ◌∙◌, ◌≡◌, ◌<◌, ◌≤◌, ◌+◌, ◌*◌, ◌/◌, length-set, subst, sym, Has, cases_lt, get_or}, std.{specs.Prelude.◌%◌, proofs.lemmas.{Nat.and_le_l, Bool.cases_eq}}}
 use Rattle.re_ends.proofs.lemmas.ClosingLaws as laws
 use Rattle.re_ends.proofs.groups.take_met.Goals as goal
 

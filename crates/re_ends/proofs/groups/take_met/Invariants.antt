@@ -1,7 +1,4 @@
-use Rattle.re_ends.proofs.Prelude.{ℕ, ◌-◌, ◌/◌, ◌<◌, ◌≤◌, ◌⊎◌, ◌↔◌, ◌≡◌, length, Has}
-use Rattle.std.specs.Prelude.{vec_capacity}
-use Rattle.re_ends.specs.Working.Groups.{In}
-use Rattle.re_ends.specs.Working.Closing.{AreMembers}
+use Rattle.{re_ends.{proofs.Prelude.{ℕ, ◌-◌, ◌/◌, ◌<◌, ◌≤◌, ◌⊎◌, ◌↔◌, ◌≡◌, length, Has}, specs.Working.{Groups.In, Closing.AreMembers}}, std.specs.Prelude.vec_capacity}
 use Rattle.re_ends.proofs.groups.take_met.Given as goal
 
 -- those of the words before k are taken

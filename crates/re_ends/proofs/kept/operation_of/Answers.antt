@@ -1,6 +1,4 @@
-use Rattle.re_ends.proofs.Prelude.{arith, ◌≡◌, ◌+◌, ◌-◌, length, sym, ap}
-use Rattle.re_ends.specs.Working.Groups.{numbers_of}
-use Rattle.re_ends.proofs.lemmas.KeptLaws.{get_left, get_last, no_run, one_run}
+use Rattle.re_ends.{proofs.{Prelude.{arith, ◌≡◌, ◌+◌, ◌-◌, length, sym, ap}, lemmas.KeptLaws.{get_left, get_last, no_run, one_run}}, specs.Working.Groups.numbers_of}
 use Rattle.re_ends.proofs.kept.operation_of.Goals as goal
 
 pub returns-then-count-eq0-clause-op : goal.returns-then-count-eq0-clause-op

@@ -1,8 +1,4 @@
-use Rattle.std.proofs.Common.{rules}
-use Rattle.re_ends.proofs.Prelude.{slice_index, ◌∙◌, arith, ap, get_or, refl, suc, ◌≡◌, ◌+◌, ◌-◌, ◌<◌, ◌≤◌, length}
-use Rattle.re_ends.specs.declared.list.Run.{Run}
-use Rattle.re_ends.proofs.lemmas.ListLaws.{joined_fits, joined_next, last_joined, no_runs, AreJoined}
-use Rattle.re_ends.proofs.list.join_runs.Goals.{In-runs}
+use Rattle.{std.proofs.Common.rules, re_ends.{proofs.{Prelude.{slice_index, ◌∙◌, arith, ap, get_or, refl, suc, ◌≡◌, ◌+◌, ◌-◌, ◌<◌, ◌≤◌, length}, lemmas.ListLaws.{joined_fits, joined_next, last_joined, no_runs, AreJoined}, list.join_runs.Goals.In-runs}, specs.declared.list.Run.Run}}
 use Rattle.re_ends.proofs.list.join_runs.Goals as goal
 
 abbrev none : Run

@@ -1,5 +1,4 @@
-use Rattle.re_ends.proofs.Prelude.{◌≡◌, ◌<◌, ◌≤◌, length, expression_of}
-use Rattle.re_ends.specs.Working.EndTables.{Adds, IsAtRow}
+use Rattle.re_ends.{proofs.Prelude.{◌≡◌, ◌<◌, ◌≤◌, length, expression_of}, specs.Working.EndTables.{Adds, IsAtRow}}
 use Rattle.re_ends.proofs.pass.walk_rows.Given as goal
 
 -- the pass is at this place, and those from it on have their ends

@@ -1,7 +1,4 @@
-use Rattle.re_ends.proofs.Prelude.{arith, inl, inr, ◌≡◌, ◌⊎◌, ◌%◌, ◌/◌, ◌∙◌, length-set, cases_lt}
-use Rattle.std.proofs.lemmas.Nat.Bits.{bit_at_lowest}
-use Rattle.re_ends.proofs.lemmas.PrecedingLaws.{before_added, not_first, word_added}
-use Rattle.re_ends.proofs.preceding.add_before.Goals.{then-members-eq0-via-then-members-eq0, then-members-eq0-via-else-members-eq0+then-k-eq0}
+use Rattle.{re_ends.proofs.{Prelude.{arith, inl, inr, ◌≡◌, ◌⊎◌, ◌%◌, ◌/◌, ◌∙◌, length-set, cases_lt}, lemmas.PrecedingLaws.{before_added, not_first, word_added}, preceding.add_before.Goals.{then-members-eq0-via-then-members-eq0, then-members-eq0-via-else-members-eq0+then-k-eq0}}, std.proofs.lemmas.Nat.Bits.bit_at_lowest}
 use Rattle.re_ends.proofs.preceding.add_before.Goals as goal
 
 pub returns-then-members-eq0-clause-covers : goal.returns-then-members-eq0-clause-covers

@@ -1,5 +1,4 @@
-use Rattle.re_ends.proofs.Prelude.{arith, inl, inr, ◌∙◌}
-use Rattle.re_ends.proofs.preceding.add_chained.Goals.{then-is_only, else-is_only}
+use Rattle.re_ends.proofs.{Prelude.{arith, inl, inr, ◌∙◌}, preceding.add_chained.Goals.{then-is_only, else-is_only}}
 use Rattle.re_ends.proofs.preceding.add_chained.Goals as goal
 
 pub positions-preserved : goal.positions-preserved

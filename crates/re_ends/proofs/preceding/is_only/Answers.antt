@@ -1,5 +1,4 @@
-use Rattle.re_ends.proofs.Prelude.{arith, eqb-true}
-use Rattle.re_ends.proofs.lemmas.PrecedingLaws.{only_one}
+use Rattle.re_ends.proofs.{Prelude.{arith, eqb-true}, lemmas.PrecedingLaws.only_one}
 use Rattle.re_ends.proofs.preceding.is_only.Goals as goal
 
 pub returns : goal.returns

@@ -1,7 +1,4 @@
-use Rattle.re_ends.proofs.Prelude.{arith, inl, inr, length, refl, ◌≡◌, expression_of, cases_lt}
-use Rattle.re_auto.proofs.lemmas.FillingLemmas.{none_in_row}
-use Rattle.re_auto.proofs.lemmas.Numbered.{part_numbered}
-use Rattle.re_auto.proofs.lemmas.RowLemmas.{row_within}
+use Rattle.{re_ends.proofs.Prelude.{arith, inl, inr, length, refl, ◌≡◌, expression_of, cases_lt}, re_auto.proofs.lemmas.{FillingLemmas.none_in_row, Numbered.part_numbered, RowLemmas.row_within}}
 use Rattle.re_ends.proofs.preceding.turn.Goals as goal
 
 pub positions-init : goal.positions-init

@@ -1,6 +1,4 @@
-use Rattle.re_strings.proofs.Prelude.{arith}
-use Rattle.re_strings.proofs.lemmas.SetSteps.{goes_on, falls_back}
-use Rattle.re_strings.proofs.lemmas.SetTries.{ascends}
+use Rattle.re_strings.proofs.{Prelude.arith, lemmas.{SetSteps.{goes_on, falls_back}, SetTries.ascends}}
 use Rattle.re_strings.proofs.aho_corasick.step.Goals as goal
 
 pub nodes-init : goal.nodes-init

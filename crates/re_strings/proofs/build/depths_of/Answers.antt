@@ -1,5 +1,4 @@
-use Rattle.re_strings.proofs.Prelude.{rules, ◌≡◌, ℕ, ◌+◌, ◌<◌, ◌≤◌, inl, inr, [], ◌∷◌, length, slice_index, refl, sym, ap, ◌∙◌, arith, length-append, cases_lt}
-use Rattle.re_strings.proofs.lemmas.SetSearch.{row_read}
+use Rattle.re_strings.proofs.{Prelude.{rules, ◌≡◌, ℕ, ◌+◌, ◌<◌, ◌≤◌, inl, inr, [], ◌∷◌, length, slice_index, refl, sym, ap, ◌∙◌, arith, length-append, cases_lt}, lemmas.SetSearch.row_read}
 use Rattle.re_strings.proofs.build.depths_of.Goals as goal
 
 pub nodes-preserved : goal.nodes-preserved

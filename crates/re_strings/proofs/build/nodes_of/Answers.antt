@@ -1,5 +1,4 @@
-use Rattle.re_strings.proofs.Prelude.{map}
-use Rattle.re_strings.proofs.lemmas.SetTable.{nodes_right}
+use Rattle.re_strings.proofs.{Prelude.map, lemmas.SetTable.nodes_right}
 use Rattle.re_strings.proofs.build.nodes_of.Goals as goal
 
 pub returns-clause-right : goal.returns-clause-right

@@ -1,5 +1,4 @@
-use Rattle.re_strings.proofs.Prelude.{arith, Labels}
-use Rattle.re_strings.proofs.lemmas.SetLeaps.{same_leaps}
+use Rattle.re_strings.proofs.{Prelude.{arith, Labels}, lemmas.SetLeaps.same_leaps}
 use Rattle.re_strings.proofs.build.table_of.Goals as goal
 
 pub returns-clause-right : goal.returns-clause-right

@@ -1,5 +1,4 @@
-use Rattle.re_strings.proofs.Prelude.{◌≡◌, ℕ, ◌+◌, ◌<◌, ◌≤◌, ◌++◌, ◌∷◌, [], inl, inr, take, length, map, slice_get, sym, ap, ◌∙◌, arith, append_assoc, get_or_default, All-push, cases_lt, Branch, IsBranch, branch_at, no_branch, text_at}
-use Rattle.re_strings.proofs.lemmas.SetBranches.{run_after, run_branch, run_text, child_more, found_still, found_last, run_found, row_done, longer}
+use Rattle.re_strings.proofs.{Prelude.{◌≡◌, ℕ, ◌+◌, ◌<◌, ◌≤◌, ◌++◌, ◌∷◌, [], inl, inr, take, length, map, slice_get, sym, ap, ◌∙◌, arith, append_assoc, get_or_default, All-push, cases_lt, Branch, IsBranch, branch_at, no_branch, text_at}, lemmas.SetBranches.{run_after, run_branch, run_text, child_more, found_still, found_last, run_found, row_done, longer}}
 use Rattle.re_strings.proofs.growth.expand.Goals as goal
 
 pub runs-preserved-in_ok-add_branch : goal.runs-preserved-in_ok-add_branch

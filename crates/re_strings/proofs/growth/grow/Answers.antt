@@ -1,5 +1,4 @@
-use Rattle.re_strings.proofs.Prelude.{rules, ◌≡◌, ◌<◌, ◌++◌, ◌∷◌, [], length, map, sym, ap, ◌∙◌, arith, length-map}
-use Rattle.re_strings.proofs.lemmas.SetBranches.{rows_at_first, rows_more}
+use Rattle.re_strings.proofs.{Prelude.{rules, ◌≡◌, ◌<◌, ◌++◌, ◌∷◌, [], length, map, sym, ap, ◌∙◌, arith, length-map}, lemmas.SetBranches.{rows_at_first, rows_more}}
 use Rattle.re_strings.proofs.growth.grow.Goals as goal
 
 pub nodes-init : goal.nodes-init

@@ -1,5 +1,4 @@
-use Rattle.re_strings.proofs.Prelude.{◌≡◌, ◌+◌, ◌≤◌, inl, inr, [], map, slice_index, subst, arith, get_or-map, length-map, cases_lt, text_at, pair_row}
-use Rattle.re_strings.proofs.lemmas.SetLeaps.{leaps_by_places}
+use Rattle.re_strings.proofs.{Prelude.{◌≡◌, ◌+◌, ◌≤◌, inl, inr, [], map, slice_index, subst, arith, get_or-map, length-map, cases_lt, text_at, pair_row}, lemmas.SetLeaps.leaps_by_places}
 use Rattle.re_strings.proofs.leaps.leaps_of.Goals as goal
 
 pub strings-init : goal.strings-init

@@ -1,6 +1,4 @@
-use Rattle.re_strings.proofs.Prelude.{◌≡◌, ◌+◌, ◌-◌, ◌<◌, slice_index, arith}
-use Rattle.re_strings.proofs.lemmas.SetSteps.{may_at_first}
-use Rattle.re_strings.proofs.lemmas.SetTries.{ascends}
+use Rattle.re_strings.proofs.{Prelude.{◌≡◌, ◌+◌, ◌-◌, ◌<◌, slice_index, arith}, lemmas.{SetSteps.may_at_first, SetTries.ascends}}
 use Rattle.re_strings.proofs.links.fallback.Goals as goal
 
 pub returns-clause-before : goal.returns-clause-before

@@ -1,6 +1,4 @@
-use Rattle.re_strings.proofs.Prelude.{rules, ◌≡◌, ◌+◌, ◌<◌, [], ◌∷◌, ◌++◌, length, slice_index, sym, ap, ◌∙◌, arith, length-append, get_or_default_zero, StandsFor, own_or}
-use Rattle.re_strings.proofs.lemmas.SetLinks.{own_or_within, linked_more, linked_right}
-use Rattle.re_strings.proofs.lemmas.SetSearch.{row_read}
+use Rattle.re_strings.proofs.{Prelude.{rules, ◌≡◌, ◌+◌, ◌<◌, [], ◌∷◌, ◌++◌, length, slice_index, sym, ap, ◌∙◌, arith, length-append, get_or_default_zero, StandsFor, own_or}, lemmas.{SetLinks.{own_or_within, linked_more, linked_right}, SetSearch.row_read}}
 use Rattle.re_strings.proofs.links.link_children.Goals as goal
 
 pub children-preserved : goal.children-preserved

@@ -1,5 +1,4 @@
-use Rattle.re_strings.proofs.Prelude.{ap, ◌∙◌, ◌∷◌, [], ◌++◌, arith, ◌≡◌, length, slice_index}
-use Rattle.re_strings.proofs.lemmas.SetLinks.{root_linked, root_linked_right}
+use Rattle.re_strings.proofs.{Prelude.{ap, ◌∙◌, ◌∷◌, [], ◌++◌, arith, ◌≡◌, length, slice_index}, lemmas.SetLinks.{root_linked, root_linked_right}}
 use Rattle.re_strings.proofs.links.links_of.Goals as goal
 
 pub nodes-init : goal.nodes-init

@@ -1,6 +1,4 @@
-use Rattle.re_strings.proofs.Prelude.{rules, ◌≡◌, ◌+◌, ◌<◌, length, arith, OccursAt}
-use Rattle.re_strings.proofs.lemmas.SetEnds.{adds_more_ends, same_ends_added}
-use Rattle.re_strings.proofs.lemmas.OverlapLaws.{one_place_put}
+use Rattle.re_strings.proofs.{Prelude.{rules, ◌≡◌, ◌+◌, ◌<◌, length, arith, OccursAt}, lemmas.{SetEnds.{adds_more_ends, same_ends_added}, OverlapLaws.one_place_put}}
 use Rattle.re_strings.proofs.occurrences.add_occurrences.Goals as goal
 
 pub places-preserved : goal.places-preserved

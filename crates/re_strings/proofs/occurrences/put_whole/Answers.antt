@@ -1,5 +1,4 @@
-use Rattle.re_strings.proofs.Prelude.{◌≡◌, ◌+◌, ◌<◌}
-use Rattle.re_strings.proofs.lemmas.SetEnds.{same_ends_added}
+use Rattle.re_strings.proofs.{Prelude.{◌≡◌, ◌+◌, ◌<◌}, lemmas.SetEnds.same_ends_added}
 use Rattle.re_strings.proofs.occurrences.put_whole.Goals as goal
 
 pub returns-then-length-whole : goal.returns-then-length-whole

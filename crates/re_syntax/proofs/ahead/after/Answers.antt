@@ -1,5 +1,4 @@
-use Rattle.re_syntax.proofs.lemmas.AheadLaws.{is_after}
-use Rattle.re_syntax.proofs.lemmas.CursorsLaws.{begins-drop, begins_not}
+use Rattle.re_syntax.proofs.lemmas.{AheadLaws.is_after, CursorsLaws.{begins-drop, begins_not}}
 use Rattle.re_syntax.proofs.ahead.after.Goals as goal
 
 pub returns-then-starts_with : goal.returns-then-starts_with

@@ -1,10 +1,4 @@
-use Rattle.re_syntax.proofs.Prelude.{◌≡◌, ◌≢◌, err_from_is_err_and, get_or, drop, refl, codes, rules, arith, Begins, HasNoTail, HasNoTimes}
-use Rattle.re_syntax.specs.declared.tokens.ItemPlace.TheVariants.{First}
-use Rattle.re_syntax.specs.BasicTokens.{leads, trails, repeats, bracket, in_bracket}
-use Rattle.re_syntax.proofs.lemmas.BasicTokenReading.{dup_length, single}
-use Rattle.re_syntax.proofs.lemmas.BracketFaultsReading.{fault_as}
-use Rattle.re_syntax.proofs.lemmas.Places.{byte_here, front_here}
-use Rattle.re_syntax.proofs.lemmas.TokenReading.{bytes_stand, byte_stands, bracket_stands, times_stand}
+use Rattle.re_syntax.{proofs.{Prelude.{◌≡◌, ◌≢◌, err_from_is_err_and, get_or, drop, refl, codes, rules, arith, Begins, HasNoTail, HasNoTimes}, lemmas.{BasicTokenReading.{dup_length, single}, BracketFaultsReading.fault_as, Places.{byte_here, front_here}, TokenReading.{bytes_stand, byte_stands, bracket_stands, times_stand}}}, specs.{declared.tokens.ItemPlace.TheVariants.First, BasicTokens.{leads, trails, repeats, bracket, in_bracket}}}
 use Rattle.re_syntax.proofs.basic.basic_token.Goals as goal
 
 pub returns-in-Some-clause-read : goal.returns-in-Some-clause-read

@@ -1,8 +1,4 @@
-use Rattle.re_syntax.proofs.Prelude.{arith, codes, drop, rules, Begins, err_from_is_err_and}
-use Rattle.re_syntax.specs.BasicTokens.{opens, closes, parts, escaped, in_escape, unopened}
-use Rattle.re_syntax.proofs.lemmas.BasicTokenReading.{escape_allowed}
-use Rattle.re_syntax.proofs.lemmas.BracketFaultsReading.{fault_as}
-use Rattle.re_syntax.proofs.lemmas.TokenReading.{bytes_stand, escape_stands}
+use Rattle.re_syntax.{proofs.{Prelude.{arith, codes, drop, rules, Begins, err_from_is_err_and}, lemmas.{BasicTokenReading.escape_allowed, BracketFaultsReading.fault_as, TokenReading.{bytes_stand, escape_stands}}}, specs.BasicTokens.{opens, closes, parts, escaped, in_escape, unopened}}
 use Rattle.re_syntax.proofs.basic.escape_token.Goals as goal
 
 pub returns-in-Some-clause-read : goal.returns-in-Some-clause-read

@@ -1,6 +1,4 @@
-use Rattle.re_syntax.proofs.Prelude.{drop, drop-length, IsAtEnd, of_text, of_group, of_branch}
-use Rattle.re_syntax.proofs.lemmas.BasicTokenReading.{not_at_end}
-use Rattle.re_syntax.proofs.lemmas.Places.{either_found, some_found, nothing_found}
+use Rattle.re_syntax.proofs.{Prelude.{drop, drop-length, IsAtEnd, of_text, of_group, of_branch}, lemmas.{BasicTokenReading.not_at_end, Places.{either_found, some_found, nothing_found}}}
 use Rattle.re_syntax.proofs.basic.is_at_end.Goals as goal
 
 pub returns-then-at-text : goal.returns-then-at-text

@@ -1,5 +1,4 @@
-use Rattle.re_syntax.proofs.Prelude.{err_from_is_err_and}
-use Rattle.re_syntax.specs.BasicTokens.{needs_item}
+use Rattle.re_syntax.{proofs.Prelude.err_from_is_err_and, specs.BasicTokens.needs_item}
 use Rattle.re_syntax.proofs.basic.read_times.Goals as goal
 
 pub returns-then-needs_item-clause-refused : goal.returns-then-needs_item-clause-refused

@@ -1,6 +1,4 @@
-use Rattle.re_syntax.proofs.Prelude.{ap, ◌∙◌, err_from_is_err_and}
-use Rattle.re_syntax.proofs.lemmas.BracketFaultsReading.{exact_at}
-use Rattle.re_syntax.proofs.lemmas.BracketWhole.{next_byte, left_at, up_to}
+use Rattle.re_syntax.proofs.{Prelude.{ap, ◌∙◌, err_from_is_err_and}, lemmas.{BracketFaultsReading.exact_at, BracketWhole.{next_byte, left_at, up_to}}}
 use Rattle.re_syntax.proofs.bracket.atom_at.Goals as goal
 
 pub read_next_bracket-requires : goal.read_next_bracket-requires

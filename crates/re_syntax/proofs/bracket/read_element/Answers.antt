@@ -1,8 +1,4 @@
-use Rattle.re_syntax.proofs.Prelude.{◌∙◌}
-use Rattle.re_syntax.specs.BracketFaults.{ElementFault, no_class, no_equivalence}
-use Rattle.re_syntax.specs.Working.BracketSteps.{from_place}
-use Rattle.re_syntax.proofs.lemmas.BracketNamed.{class_passed, equivalence_passed}
-use Rattle.re_syntax.proofs.lemmas.BracketFaultsReading.{fault_here}
+use Rattle.re_syntax.{proofs.{Prelude.◌∙◌, lemmas.{BracketNamed.{class_passed, equivalence_passed}, BracketFaultsReading.fault_here}}, specs.{BracketFaults.{ElementFault, no_class, no_equivalence}, Working.BracketSteps.from_place}}
 use Rattle.re_syntax.proofs.bracket.read_element.Goals as goal
 
 pub returns-in-Some-clause-read : goal.returns-in-Some-clause-read

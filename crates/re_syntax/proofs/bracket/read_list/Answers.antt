@@ -1,7 +1,4 @@
-use Rattle.re_syntax.proofs.Prelude.{◌∙◌, err_from_is_err_and}
-use Rattle.re_syntax.specs.BracketFaults.{here}
-use Rattle.re_syntax.proofs.lemmas.BracketFaultsReading.{fault_as, list_fault}
-use Rattle.re_syntax.proofs.lemmas.BracketLists.{goes_on-first, goes_on-next, goes_on-last, element-shortens}
+use Rattle.re_syntax.{proofs.{Prelude.{◌∙◌, err_from_is_err_and}, lemmas.{BracketFaultsReading.{fault_as, list_fault}, BracketLists.{goes_on-first, goes_on-next, goes_on-last, element-shortens}}}, specs.BracketFaults.here}
 use Rattle.re_syntax.proofs.bracket.read_list.Goals as goal
 
 pub returns-in_err-set-clause-refused : goal.returns-in_err-set-clause-refused

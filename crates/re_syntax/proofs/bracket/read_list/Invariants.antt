@@ -1,6 +1,4 @@
-use Rattle.re_syntax.proofs.Prelude.{◌≡◌, length, left, members}
-use Rattle.re_syntax.specs.Working.BracketSteps.{from_place}
-use Rattle.re_syntax.proofs.lemmas.BracketLists.{GoesOn}
+use Rattle.re_syntax.{proofs.{Prelude.{◌≡◌, length, left, members}, lemmas.BracketLists.GoesOn}, specs.Working.BracketSteps.from_place}
 use Rattle.re_syntax.proofs.bracket.read_list.Given as goal
 
 -- the elements up to the cursor were read, and the set has what they add

@@ -1,7 +1,4 @@
-use Rattle.re_syntax.proofs.Prelude.{◌∙◌, ◌∷◌, ap, err_from_is_err_and}
-use Rattle.re_syntax.specs.BracketFaults.{matching, non_matching}
-use Rattle.re_syntax.proofs.lemmas.BracketFaultsReading.{opened_fault, opening_in}
-use Rattle.re_syntax.proofs.lemmas.BracketWhole.{passes_since, complement_stands, set_stands}
+use Rattle.re_syntax.{proofs.{Prelude.{◌∙◌, ◌∷◌, ap, err_from_is_err_and}, lemmas.{BracketFaultsReading.{opened_fault, opening_in}, BracketWhole.{passes_since, complement_stands, set_stands}}}, specs.BracketFaults.{matching, non_matching}}
 use Rattle.re_syntax.proofs.bracket.read_next_bracket.Goals as goal
 
 pub read_list-requires : goal.read_list-requires

@@ -1,7 +1,4 @@
-use Rattle.re_syntax.proofs.lemmas.BracketPoints.{symbol_passed, byte_passed}
-use Rattle.re_syntax.proofs.lemmas.BracketFaultsReading.{fault_here}
-use Rattle.re_syntax.specs.BracketFaults.{PointFault, symbol, ended}
-use Rattle.re_syntax.specs.Working.BracketSteps.{from_place}
+use Rattle.re_syntax.{proofs.lemmas.{BracketPoints.{symbol_passed, byte_passed}, BracketFaultsReading.fault_here}, specs.{BracketFaults.{PointFault, symbol, ended}, Working.BracketSteps.from_place}}
 use Rattle.re_syntax.proofs.bracket.read_point.Goals as goal
 
 pub returns-in-Some-clause-read : goal.returns-in-Some-clause-read

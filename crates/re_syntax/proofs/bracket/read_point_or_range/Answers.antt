@@ -1,7 +1,4 @@
-use Rattle.re_syntax.proofs.Prelude.{◌∙◌, err_from_is_err_and}
-use Rattle.re_syntax.proofs.lemmas.BracketElements.{alone_stands, range_stands}
-use Rattle.re_syntax.specs.BracketFaults.{no_point}
-use Rattle.re_syntax.proofs.lemmas.BracketFaultsReading.{fault_as, stray_before, range_before}
+use Rattle.re_syntax.{proofs.{Prelude.{◌∙◌, err_from_is_err_and}, lemmas.{BracketElements.{alone_stands, range_stands}, BracketFaultsReading.{fault_as, stray_before, range_before}}}, specs.BracketFaults.no_point}
 use Rattle.re_syntax.proofs.bracket.read_point_or_range.Goals as goal
 
 pub returns-in-None-clause-read : goal.returns-in-None-clause-read

@@ -1,6 +1,4 @@
-use Rattle.re_syntax.proofs.Prelude.{inl, inr, err_from_is_err_and}
-use Rattle.re_syntax.specs.BracketFaults.{no_end, of_class, descends}
-use Rattle.re_syntax.proofs.lemmas.BracketFaultsReading.{bad_range_at, fault_as}
+use Rattle.re_syntax.{proofs.{Prelude.{inl, inr, err_from_is_err_and}, lemmas.BracketFaultsReading.{bad_range_at, fault_as}}, specs.BracketFaults.{no_end, of_class, descends}}
 use Rattle.re_syntax.proofs.bracket.read_range_end.Goals as goal
 
 pub returns-then-skip-clause-refused : goal.returns-then-skip-clause-refused

@@ -1,6 +1,4 @@
-use Rattle.re_syntax.proofs.Prelude.{◌≢◌, [], sym, ◌∙◌, left}
-use Rattle.re_syntax.specs.BracketFaults.{cut_off, stray}
-use Rattle.re_syntax.proofs.lemmas.BracketFaultsReading.{hyphen_within}
+use Rattle.re_syntax.{proofs.{Prelude.{◌≢◌, [], sym, ◌∙◌, left}, lemmas.BracketFaultsReading.hyphen_within}, specs.BracketFaults.{cut_off, stray}}
 use Rattle.re_syntax.proofs.bracket.stray_hyphen.Goals as goal
 
 pub returns-in-Some : goal.returns-in-Some

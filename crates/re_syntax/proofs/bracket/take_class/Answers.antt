@@ -1,6 +1,4 @@
-use Rattle.re_syntax.proofs.Prelude.{◌∙◌, ◌++◌, codes, arith, below_more, Begins, class_name, left}
-use Rattle.re_syntax.proofs.lemmas.ClassNames.{each_class}
-use Rattle.re_syntax.proofs.lemmas.BracketPoints.{not_begins_along}
+use Rattle.re_syntax.proofs.{Prelude.{◌∙◌, ◌++◌, codes, arith, below_more, Begins, class_name, left}, lemmas.{ClassNames.each_class, BracketPoints.not_begins_along}}
 use Rattle.re_syntax.proofs.bracket.take_class.Goals as goal
 
 pub loop-class-preserved : goal.loop-class-preserved

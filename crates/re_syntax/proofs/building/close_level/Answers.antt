@@ -1,5 +1,4 @@
-use Rattle.re_syntax.proofs.Prelude.{◌∙◌, ap, ◌++◌, ◌∷◌, [], expression_of}
-use Rattle.re_syntax.proofs.lemmas.BuildingLaws.{left_means}
+use Rattle.re_syntax.proofs.{Prelude.{◌∙◌, ap, ◌++◌, ◌∷◌, [], expression_of}, lemmas.BuildingLaws.left_means}
 use Rattle.re_syntax.proofs.building.close_level.Goals as goal
 
 pub returns-clause-built : goal.returns-clause-built

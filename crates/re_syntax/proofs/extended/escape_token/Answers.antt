@@ -1,8 +1,4 @@
-use Rattle.re_syntax.proofs.Prelude.{err_from_is_err_and}
-use Rattle.re_syntax.specs.ExtendedTokens.{in_escape}
-use Rattle.re_syntax.specs.ExtendedTokens.{escaped}
-use Rattle.re_syntax.proofs.lemmas.BracketFaultsReading.{fault_as}
-use Rattle.re_syntax.proofs.lemmas.TokenReading.{escape_stands}
+use Rattle.re_syntax.{proofs.{Prelude.err_from_is_err_and, lemmas.{BracketFaultsReading.fault_as, TokenReading.escape_stands}}, specs.ExtendedTokens.{in_escape, escaped}}
 use Rattle.re_syntax.proofs.extended.escape_token.Goals as goal
 
 pub returns-in_err-byte-clause-refused : goal.returns-in_err-byte-clause-refused

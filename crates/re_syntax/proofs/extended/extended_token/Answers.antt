@@ -1,10 +1,4 @@
-use Rattle.re_syntax.proofs.Prelude.{err_from_is_err_and, ◌≢◌, get_or, drop, refl, rules, OpensDuplication}
-use Rattle.re_syntax.specs.ExtendedTokens.{in_bracket}
-use Rattle.re_syntax.specs.ExtendedTokens.{opens, parts, leads, repeats, bracket, dollar}
-use Rattle.re_syntax.proofs.lemmas.BracketFaultsReading.{fault_as}
-use Rattle.re_syntax.proofs.lemmas.ExtendedTokenReading.{dup_length, single}
-use Rattle.re_syntax.proofs.lemmas.Places.{byte_here, front_here}
-use Rattle.re_syntax.proofs.lemmas.TokenReading.{byte_stands, bracket_stands, times_stand}
+use Rattle.re_syntax.{proofs.{Prelude.{err_from_is_err_and, ◌≢◌, get_or, drop, refl, rules, OpensDuplication}, lemmas.{BracketFaultsReading.fault_as, ExtendedTokenReading.{dup_length, single}, Places.{byte_here, front_here}, TokenReading.{byte_stands, bracket_stands, times_stand}}}, specs.ExtendedTokens.{in_bracket, opens, parts, leads, repeats, bracket, dollar}}
 use Rattle.re_syntax.proofs.extended.extended_token.Goals as goal
 
 pub returns-in-Some-clause-read : goal.returns-in-Some-clause-read

@@ -1,9 +1,4 @@
-use Rattle.re_syntax.proofs.Prelude.{refl, opens_interval}
-use Rattle.re_syntax.specs.declared.tokens.ItemPlace.TheVariants.{Later}
-use Rattle.re_syntax.specs.ExtendedTokens.{interval}
-use Rattle.re_syntax.specs.ExtendedTokens.{ExtendedTokenFault, disallowed}
-use Rattle.re_syntax.proofs.lemmas.ExtendedTokenReading.{none_at_end, sign_stands, none_without_brace, none_without_interval}
-use Rattle.re_syntax.proofs.lemmas.TokenReading.{closing_no_part, interval_stands, bad_interval}
+use Rattle.re_syntax.{proofs.{Prelude.{refl, opens_interval}, lemmas.{ExtendedTokenReading.{none_at_end, sign_stands, none_without_brace, none_without_interval}, TokenReading.{closing_no_part, interval_stands, bad_interval}}}, specs.{declared.tokens.ItemPlace.TheVariants.Later, ExtendedTokens.{interval, ExtendedTokenFault, disallowed}}}
 use Rattle.re_syntax.proofs.extended.read_duplication.Goals as goal
 
 pub read_interval-requires-clause-closes : goal.read_interval-requires-clause-closes

@@ -1,5 +1,4 @@
-use Rattle.re_syntax.proofs.Prelude.{err_from_is_err_and}
-use Rattle.re_syntax.specs.ExtendedTokens.{needs_item}
+use Rattle.re_syntax.{proofs.Prelude.err_from_is_err_and, specs.ExtendedTokens.needs_item}
 use Rattle.re_syntax.proofs.extended.read_times.Goals as goal
 
 pub returns-then-opens_duplication-clause-refused : goal.returns-then-opens_duplication-clause-refused

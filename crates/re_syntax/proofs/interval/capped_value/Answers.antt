@@ -1,5 +1,4 @@
-use Rattle.re_syntax.proofs.Prelude.{◌+◌, ◌-◌, ◌*◌, min, take, get_or, sym, ap, ◌∙◌, value}
-use Rattle.re_syntax.proofs.lemmas.DigitsLaws.{value_after-take, capped-step}
+use Rattle.re_syntax.proofs.{Prelude.{◌+◌, ◌-◌, ◌*◌, min, take, get_or, sym, ap, ◌∙◌, value}, lemmas.DigitsLaws.{value_after-take, capped-step}}
 use Rattle.re_syntax.proofs.interval.capped_value.Goals as goal
 
 pub loop-digit-preserved : goal.loop-digit-preserved

@@ -1,5 +1,4 @@
-use Rattle.re_syntax.proofs.Prelude.{rules, get_or}
-use Rattle.re_syntax.proofs.lemmas.DigitsLaws.{counted, counted-all, digit_from, not_digit}
+use Rattle.re_syntax.proofs.{Prelude.{rules, get_or}, lemmas.DigitsLaws.{counted, counted-all, digit_from, not_digit}}
 use Rattle.re_syntax.proofs.interval.digit_count.Goals as goal
 
 pub returns-in-Some : goal.returns-in-Some

@@ -1,5 +1,4 @@
-use Rattle.re_syntax.proofs.Prelude.{arith, take_rest}
-use Rattle.re_syntax.proofs.lemmas.IntervalReading.{number_stands, same_front}
+use Rattle.re_syntax.proofs.{Prelude.{arith, take_rest}, lemmas.IntervalReading.{number_stands, same_front}}
 use Rattle.re_syntax.proofs.interval.read_number.Goals as goal
 
 pub returns : goal.returns

@@ -1,7 +1,4 @@
-use Rattle.re_syntax.proofs.Prelude.{[], sym, ◌∙◌, choice, err_from_is_err_and}
-use Rattle.re_syntax.specs.Working.Builds.{branches_of, build_all, nothing_built}
-use Rattle.re_syntax.proofs.lemmas.BuildingLaws.{built_spelled}
-use Rattle.re_syntax.proofs.lemmas.ShapeLaws.{reaches_start, at_end, positions-choice, positions-branches}
+use Rattle.re_syntax.{proofs.{Prelude.{[], sym, ◌∙◌, choice, err_from_is_err_and}, lemmas.{BuildingLaws.built_spelled, ShapeLaws.{reaches_start, at_end, positions-choice, positions-branches}}}, specs.Working.Builds.{branches_of, build_all, nothing_built}}
 use Rattle.re_syntax.proofs.reading.count_positions.Goals as goal
 
 pub tokens-init : goal.tokens-init

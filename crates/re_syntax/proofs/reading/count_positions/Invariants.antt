@@ -1,6 +1,4 @@
-use Rattle.re_syntax.proofs.Prelude.{List, ◌-◌, length}
-use Rattle.re_syntax.specs.Tokens.{Token}
-use Rattle.re_syntax.specs.Working.ShapeSteps.{Reaches}
+use Rattle.re_syntax.{proofs.Prelude.{List, ◌-◌, length}, specs.{Tokens.Token, Working.ShapeSteps.Reaches}}
 use Rattle.re_syntax.proofs.reading.count_positions.Given as goal
 
 -- the text was cut up to a place, where the shape is known

@@ -1,5 +1,4 @@
-use Rattle.re_syntax.proofs.Prelude.{err_from_is_err_and}
-use Rattle.re_syntax.proofs.lemmas.ShapeLaws.{reaches_on, fault_met, deep_met}
+use Rattle.re_syntax.proofs.{Prelude.err_from_is_err_and, lemmas.ShapeLaws.{reaches_on, fault_met, deep_met}}
 use Rattle.re_syntax.proofs.reading.next_token.Goals as goal
 
 pub returns-in_err-token-clause-refused : goal.returns-in_err-token-clause-refused

@@ -1,8 +1,4 @@
-use Rattle.re_syntax.proofs.Prelude.{[], inr, sym, ap, ◌∙◌, up_to_word, err_from_is_err_and}
-use Rattle.re_syntax.specs.Working.Builds.{build_all, nothing_built}
-use Rattle.re_syntax.proofs.lemmas.BuildingLaws.{builds_more, built_spelled}
-use Rattle.re_syntax.proofs.lemmas.ShapeLaws.{reaches_start, at_end, positions-choice, positions-branches}
-use Rattle.re_syntax.proofs.lemmas.SpelledUnique.{spells_one}
+use Rattle.re_syntax.{proofs.{Prelude.{[], inr, sym, ap, ◌∙◌, up_to_word, err_from_is_err_and}, lemmas.{BuildingLaws.{builds_more, built_spelled}, ShapeLaws.{reaches_start, at_end, positions-choice, positions-branches}, SpelledUnique.spells_one}}, specs.Working.Builds.{build_all, nothing_built}}
 use Rattle.re_syntax.proofs.reading.read.Goals as goal
 
 pub tokens-init : goal.tokens-init

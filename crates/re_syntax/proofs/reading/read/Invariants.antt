@@ -1,7 +1,4 @@
-use Rattle.re_syntax.proofs.Prelude.{List, ◌-◌, length}
-use Rattle.re_syntax.specs.Tokens.{Token}
-use Rattle.re_syntax.specs.Working.Builds.{Builds, build_all, nothing_built}
-use Rattle.re_syntax.specs.Working.ShapeSteps.{Reaches}
+use Rattle.re_syntax.{proofs.Prelude.{List, ◌-◌, length}, specs.{Tokens.Token, Working.{Builds.{Builds, build_all, nothing_built}, ShapeSteps.Reaches}}}
 use Rattle.re_syntax.proofs.reading.read.Given as goal
 
 -- the text was cut up to a place, where the shape is known, and this is built of the tokens

@@ -1,6 +1,4 @@
-use Rattle.re_syntax.proofs.Prelude.{refl}
-use Rattle.re_syntax.specs.Tokens.{one_byte}
-use Rattle.re_syntax.proofs.lemmas.TokenReading.{byte_stands}
+use Rattle.re_syntax.{proofs.{Prelude.refl, lemmas.TokenReading.byte_stands}, specs.Tokens.one_byte}
 use Rattle.re_syntax.proofs.reading.token_at.Goals as goal
 
 pub returns-in-Basic-clause-read : goal.returns-in-Basic-clause-read

@@ -1,5 +1,4 @@
-use Rattle.re_syntax.proofs.Prelude.{refl, ap, arith, length}
-use Rattle.re_syntax.specs.Working.Mirrors.{neither}
+use Rattle.re_syntax.{proofs.Prelude.{refl, ap, arith, length}, specs.Working.Mirrors.neither}
 use Rattle.re_syntax.proofs.shape.at_start.Goals as goal
 
 pub returns-clause-shows : goal.returns-clause-shows

@@ -1,5 +1,4 @@
-use Rattle.re_syntax.proofs.Prelude.{refl, rules, [], ◌≡◌}
-use Rattle.re_syntax.proofs.lemmas.ShapeLaws.{group_left, none_left}
+use Rattle.re_syntax.proofs.{Prelude.{refl, rules, [], ◌≡◌}, lemmas.ShapeLaws.{group_left, none_left}}
 use Rattle.re_syntax.proofs.shape.close_group.Goals as goal
 
 pub returns-in_default : goal.returns-in_default

@@ -1,5 +1,4 @@
-use Rattle.re_syntax.proofs.Prelude.{rules, [], ◌≡◌}
-use Rattle.re_syntax.proofs.lemmas.ShapeLaws.{ends_whole}
+use Rattle.re_syntax.proofs.{Prelude.{rules, [], ◌≡◌}, lemmas.ShapeLaws.ends_whole}
 use Rattle.re_syntax.proofs.shape.ended.Goals as goal
 
 pub returns-in-None-clause-whole : goal.returns-in-None-clause-whole

@@ -1,5 +1,4 @@
-use Rattle.re_syntax.proofs.Prelude.{refl}
-use Rattle.re_syntax.proofs.lemmas.ShapeLaws.{group_taken, group_refused}
+use Rattle.re_syntax.proofs.{Prelude.refl, lemmas.ShapeLaws.{group_taken, group_refused}}
 use Rattle.re_syntax.proofs.shape.open_group.Goals as goal
 
 pub returns-then-len-eq-MOST_LEVELS-clause-refused : goal.returns-then-len-eq-MOST_LEVELS-clause-refused

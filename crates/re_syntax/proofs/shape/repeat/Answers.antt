@@ -1,5 +1,4 @@
-use Rattle.re_syntax.proofs.Prelude.{refl}
-use Rattle.re_syntax.proofs.lemmas.ShapeLaws.{item_taken, item_refused}
+use Rattle.re_syntax.proofs.{Prelude.refl, lemmas.ShapeLaws.{item_taken, item_refused}}
 use Rattle.re_syntax.proofs.shape.repeat.Goals as goal
 
 pub returns-then-shape-len-ge-MOST_LEVELS-clause-refused : goal.returns-then-shape-len-ge-MOST_LEVELS-clause-refused

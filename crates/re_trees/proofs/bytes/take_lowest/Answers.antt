@@ -1,5 +1,4 @@
-use Rattle.re_trees.proofs.Prelude.{arith}
-use Rattle.re_trees.proofs.lemmas.SetBits.{lowest}
+use Rattle.re_trees.proofs.{Prelude.arith, lemmas.SetBits.lowest}
 use Rattle.re_trees.proofs.bytes.take_lowest.Goals as goal
 
 pub returns : goal.returns

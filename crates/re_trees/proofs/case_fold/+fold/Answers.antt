@@ -1,5 +1,4 @@
-use Rattle.re_trees.proofs.Prelude.{◌≡◌, rules, map, ap, ◌∙◌, Box, Global, Tree, expression_of, folded, the_lemmas}
-use Rattle.re_trees.proofs.lemmas.FoldedLaws.{folded-Cat, folded-Alt, folded-Repeat}
+use Rattle.re_trees.proofs.{Prelude.{◌≡◌, rules, map, ap, ◌∙◌, Box, Global, Tree, expression_of, folded, the_lemmas}, lemmas.FoldedLaws.{folded-Cat, folded-Alt, folded-Repeat}}
 use Rattle.re_trees.proofs.case_fold.+fold.Goals as goal
 
 pub fold_tree-returns-in-Cat : goal.fold_tree-returns-in-Cat

@@ -1,6 +1,4 @@
-use Rattle.re_trees.proofs.Prelude.{ap, ◌∙◌, arith, Cat}
-use Rattle.re_trees.specs.Working.Nodes.{nodes_of_all, nodes_left}
-use Rattle.re_trees.proofs.lemmas.NodesLaws.{nodes-Cat, nodes_and_one}
+use Rattle.re_trees.{proofs.{Prelude.{ap, ◌∙◌, arith, Cat}, lemmas.NodesLaws.{nodes-Cat, nodes_and_one}}, specs.Working.Nodes.{nodes_of_all, nodes_left}}
 use Rattle.re_trees.proofs.tree.with_rest.Goals as goal
 
 pub returns-in-Some : goal.returns-in-Some

@@ -1,5 +1,4 @@
-use Rattle.line_finds.proofs.Prelude.{◌≡◌, ◌+◌, ◌-◌, false, ◌∙◌, length, replicate, sym, ap, arith, numbers_at, finds_at, paired_before}
-use Rattle.line_finds.proofs.lemmas.FoundLaws.{found_same, grown, cut_off}
+use Rattle.line_finds.proofs.{Prelude.{◌≡◌, ◌+◌, ◌-◌, false, ◌∙◌, length, replicate, sym, ap, arith, numbers_at, finds_at, paired_before}, lemmas.FoundLaws.{found_same, grown, cut_off}}
 use Rattle.line_finds.proofs.found.Found.add_part.Goals as goal
 
 pub renew-self-inside-requires : goal.renew-self-inside-requires

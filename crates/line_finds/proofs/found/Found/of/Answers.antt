@@ -1,5 +1,4 @@
-use Rattle.line_finds.proofs.Prelude.{arith}
-use Rattle.line_finds.proofs.lemmas.FoundLaws.{counted}
+use Rattle.line_finds.proofs.{Prelude.arith, lemmas.FoundLaws.counted}
 use Rattle.line_finds.proofs.found.Found.of.Goals as goal
 
 pub invariant_of-result : goal.invariant_of-result

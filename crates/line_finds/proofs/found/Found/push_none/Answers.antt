@@ -1,5 +1,4 @@
-use Rattle.line_finds.proofs.Prelude.{◌≡◌, ◌+◌, ◌∷◌, [], false, ◌∙◌, length, ap, subst, arith, length-append, finds_at, no_finds}
-use Rattle.line_finds.proofs.lemmas.FoundLaws.{marks_next, paired_next, below_next, found_none}
+use Rattle.line_finds.proofs.{Prelude.{◌≡◌, ◌+◌, ◌∷◌, [], false, ◌∙◌, length, ap, subst, arith, length-append, finds_at, no_finds}, lemmas.FoundLaws.{marks_next, paired_next, below_next, found_none}}
 use Rattle.line_finds.proofs.found.Found.push_none.Goals as goal
 
 pub invariant_of-self-2 : goal.invariant_of-self-2

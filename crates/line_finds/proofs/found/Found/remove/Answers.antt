@@ -1,5 +1,4 @@
-use Rattle.line_finds.proofs.Prelude.{◌≡◌, ◌+◌, ◌-◌, ◌≤◌, [], ◌∙◌, length, get_or, ap, arith, length-take, finds_at}
-use Rattle.line_finds.proofs.lemmas.FoundLaws.{found_same, kept_before, kept_after, kept_few}
+use Rattle.line_finds.proofs.{Prelude.{◌≡◌, ◌+◌, ◌-◌, ◌≤◌, [], ◌∙◌, length, get_or, ap, arith, length-take, finds_at}, lemmas.FoundLaws.{found_same, kept_before, kept_after, kept_few}}
 use Rattle.line_finds.proofs.found.Found.remove.Goals as goal
 
 pub invariant_of-self : goal.invariant_of-self

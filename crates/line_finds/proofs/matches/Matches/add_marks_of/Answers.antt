@@ -1,5 +1,4 @@
-use Rattle.line_finds.proofs.Prelude.{◌≡◌, pairs_of}
-use Rattle.line_finds.proofs.lemmas.MarkLaws.{marked_of_is}
+use Rattle.line_finds.proofs.{Prelude.{◌≡◌, pairs_of}, lemmas.MarkLaws.marked_of_is}
 use Rattle.line_finds.proofs.matches.Matches.add_marks_of.Goals as goal
 
 pub returns-clause-marks : goal.returns-clause-marks

@@ -1,5 +1,4 @@
-use Rattle.line_finds.proofs.Prelude.{length, ap, arith, length-map, pair_of}
-use Rattle.line_finds.proofs.lemmas.PairLaws.{added_old, added_new, added_below, cut_back}
+use Rattle.line_finds.proofs.{Prelude.{length, ap, arith, length-map, pair_of}, lemmas.PairLaws.{added_old, added_new, added_below, cut_back}}
 use Rattle.line_finds.proofs.matches.Matches.add_part.Goals as goal
 
 pub returns-in-Err-clause-err : goal.returns-in-Err-clause-err

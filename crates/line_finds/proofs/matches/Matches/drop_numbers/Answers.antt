@@ -1,5 +1,4 @@
-use Rattle.line_finds.proofs.Prelude.{◌∙◌, ap, numbers_at, is_other, left_numbers, lowered, pairs_of}
-use Rattle.line_finds.proofs.lemmas.PairLaws.{left_numbers_are, left_below_too, all_left}
+use Rattle.line_finds.proofs.{Prelude.{◌∙◌, ap, numbers_at, is_other, left_numbers, lowered, pairs_of}, lemmas.PairLaws.{left_numbers_are, left_below_too, all_left}}
 use Rattle.line_finds.proofs.matches.Matches.drop_numbers.Goals as goal
 
 pub returns-clause-numbers : goal.returns-clause-numbers

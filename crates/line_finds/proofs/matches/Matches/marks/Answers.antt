@@ -1,5 +1,4 @@
-use Rattle.line_finds.proofs.Prelude.{◌∙◌}
-use Rattle.line_finds.proofs.lemmas.MarkLaws.{all_below, marks_are}
+use Rattle.line_finds.proofs.{Prelude.◌∙◌, lemmas.MarkLaws.{all_below, marks_are}}
 use Rattle.line_finds.proofs.matches.Matches.marks.Goals as goal
 
 pub mark_lines-requires : goal.mark_lines-requires

@@ -1,5 +1,4 @@
-use Rattle.line_finds.proofs.Prelude.{◌∙◌}
-use Rattle.line_finds.proofs.lemmas.MarkLaws.{all_below, marks_of_are}
+use Rattle.line_finds.proofs.{Prelude.◌∙◌, lemmas.MarkLaws.{all_below, marks_of_are}}
 use Rattle.line_finds.proofs.matches.Matches.marks_of.Goals as goal
 
 pub returns-clause-marks : goal.returns-clause-marks

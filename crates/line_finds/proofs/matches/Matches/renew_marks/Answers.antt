@@ -1,5 +1,4 @@
-use Rattle.line_finds.proofs.Prelude.{length}
-use Rattle.line_finds.proofs.lemmas.MarkLaws.{marks_are}
+use Rattle.line_finds.proofs.{Prelude.length, lemmas.MarkLaws.marks_are}
 use Rattle.line_finds.proofs.matches.Matches.renew_marks.Goals as goal
 
 pub returns-clause-marks : goal.returns-clause-marks

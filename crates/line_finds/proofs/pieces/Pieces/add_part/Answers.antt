@@ -1,5 +1,4 @@
-use Rattle.line_finds.proofs.Prelude.{◌∙◌, ◌+◌, ◌-◌, ◌++◌, ap, arith, length, map, sym}
-use Rattle.line_finds.proofs.lemmas.PieceLemmas.{are_of, are_lists, are_joined, begins_in_order, begins_within, many_starts, seen_as, holds}
+use Rattle.line_finds.proofs.{Prelude.{◌∙◌, ◌+◌, ◌-◌, ◌++◌, ap, arith, length, map, sym}, lemmas.PieceLemmas.{are_of, are_lists, are_joined, begins_in_order, begins_within, many_starts, seen_as, holds}}
 use Rattle.line_finds.proofs.pieces.Pieces.add_part.Goals as goal
 
 pub part-requires-clause-in_order : goal.part-requires-clause-in_order

@@ -1,5 +1,4 @@
-use Rattle.line_finds.proofs.Prelude.{◌+◌, ◌∙◌, ap, arith, length}
-use Rattle.line_finds.proofs.lemmas.PieceLemmas.{are_of, begins_in_order, begins_within, list_between}
+use Rattle.line_finds.proofs.{Prelude.{◌+◌, ◌∙◌, ap, arith, length}, lemmas.PieceLemmas.{are_of, begins_in_order, begins_within, list_between}}
 use Rattle.line_finds.proofs.pieces.Pieces.at.Goals as goal
 
 pub part-requires-clause-in_order : goal.part-requires-clause-in_order

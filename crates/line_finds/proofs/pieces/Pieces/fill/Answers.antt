@@ -1,5 +1,4 @@
-use Rattle.line_finds.proofs.Prelude.{◌∙◌}
-use Rattle.line_finds.proofs.lemmas.PieceLemmas.{are_of, are_filled, are_lists, seen_as}
+use Rattle.line_finds.proofs.{Prelude.◌∙◌, lemmas.PieceLemmas.{are_of, are_filled, are_lists, seen_as}}
 use Rattle.line_finds.proofs.pieces.Pieces.fill.Goals as goal
 
 pub invariant_of-self-2 : goal.invariant_of-self-2

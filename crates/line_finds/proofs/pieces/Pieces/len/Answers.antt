@@ -1,5 +1,4 @@
-use Rattle.line_finds.proofs.Prelude.{◌∙◌}
-use Rattle.line_finds.proofs.lemmas.PieceLemmas.{are_of, many_starts}
+use Rattle.line_finds.proofs.{Prelude.◌∙◌, lemmas.PieceLemmas.{are_of, many_starts}}
 use Rattle.line_finds.proofs.pieces.Pieces.len.Goals as goal
 
 pub returns : goal.returns

@@ -1,5 +1,4 @@
-use Rattle.line_finds.proofs.Prelude.{arith, ◌+◌, ◌∙◌, ◌++◌, ◌∷◌, [], sym}
-use Rattle.line_finds.proofs.lemmas.PieceLemmas.{are_of, are_pushed, are_lists, seen_as, holds}
+use Rattle.line_finds.proofs.{Prelude.{arith, ◌+◌, ◌∙◌, ◌++◌, ◌∷◌, [], sym}, lemmas.PieceLemmas.{are_of, are_pushed, are_lists, seen_as, holds}}
 use Rattle.line_finds.proofs.pieces.Pieces.push.Goals as goal
 
 pub invariant_of-self-else-is_err : goal.invariant_of-self-else-is_err

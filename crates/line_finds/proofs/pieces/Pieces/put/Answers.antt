@@ -1,5 +1,4 @@
-use Rattle.line_finds.proofs.Prelude.{◌≡◌, ℕ, ◌≤◌, ◌∙◌, [], ap, arith, get_or, length}
-use Rattle.line_finds.proofs.lemmas.PieceLemmas.{is_with, put_at, many_with, on_err, only_empty, filled_up}
+use Rattle.line_finds.proofs.{Prelude.{◌≡◌, ℕ, ◌≤◌, ◌∙◌, [], ap, arith, get_or, length}, lemmas.PieceLemmas.{is_with, put_at, many_with, on_err, only_empty, filled_up}}
 use Rattle.line_finds.proofs.pieces.Pieces.put.Goals as goal
 
 pub returns-clause-put : goal.returns-clause-put

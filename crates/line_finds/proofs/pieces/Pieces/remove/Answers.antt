@@ -1,5 +1,4 @@
-use Rattle.line_finds.proofs.Prelude.{◌≡◌, ◌∙◌, ◌++◌, ap, arith, drop, drop_min, length, min, take, take_min}
-use Rattle.line_finds.proofs.lemmas.PieceLemmas.{are_of, many_starts, begins_in_order, begins_within, are_without, are_lists, seen_as}
+use Rattle.line_finds.proofs.{Prelude.{◌≡◌, ◌∙◌, ◌++◌, ap, arith, drop, drop_min, length, min, take, take_min}, lemmas.PieceLemmas.{are_of, many_starts, begins_in_order, begins_within, are_without, are_lists, seen_as}}
 use Rattle.line_finds.proofs.pieces.Pieces.remove.Goals as goal
 
 pub drain-requires-clause-start_le_end : goal.drain-requires-clause-start_le_end

@@ -1,5 +1,4 @@
-use Rattle.line_finds.proofs.Prelude.{◌∙◌, arith}
-use Rattle.line_finds.proofs.lemmas.PieceLemmas.{are_of, start_of, end_of}
+use Rattle.line_finds.proofs.{Prelude.{◌∙◌, arith}, lemmas.PieceLemmas.{are_of, start_of, end_of}}
 use Rattle.line_finds.proofs.pieces.Pieces.start.Goals as goal
 
 pub returns-then-k-len-clause-start : goal.returns-then-k-len-clause-start

@@ -1,5 +1,4 @@
-use Rattle.line_marks.proofs.Prelude.{◌≡◌, ◌≤◌, ◌+◌, ap, arith, refl, Marked}
-use Rattle.line_marks.proofs.lemmas.ReplaceLemmas.{idle_mark, replaced_mark}
+use Rattle.line_marks.proofs.{Prelude.{◌≡◌, ◌≤◌, ◌+◌, ap, arith, refl, Marked}, lemmas.ReplaceLemmas.{idle_mark, replaced_mark}}
 use Rattle.line_marks.proofs.mark.Mark.splice.Goals as goal
 
 pub returns-then-most-eq0 : goal.returns-then-most-eq0

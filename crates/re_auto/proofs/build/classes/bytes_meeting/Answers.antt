@@ -1,5 +1,4 @@
-use Rattle.re_auto.proofs.Prelude.{arith, ℕ, length-set, ◌∙◌, Has, row_of}
-use Rattle.re_auto.proofs.lemmas.ClassLemmas.{one_marked}
+use Rattle.re_auto.proofs.{Prelude.{arith, ℕ, length-set, ◌∙◌, Has, row_of}, lemmas.ClassLemmas.one_marked}
 use Rattle.re_auto.proofs.build.classes.bytes_meeting.Goals as goal
 
 pub bytes-preserved : goal.bytes-preserved

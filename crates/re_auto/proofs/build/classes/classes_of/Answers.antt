@@ -1,6 +1,5 @@
-use Rattle.re_auto.proofs.Prelude.{rules, arith, cases_lt, inl, inr, ◌≡◌, ◌+◌, ◌<◌, ◌++◌, ◌∷◌, [], length, length-append, max, get_or, sym, ap, ◌∙◌, row_of}
+use Rattle.re_auto.proofs.{Prelude.{rules, arith, cases_lt, inl, inr, ◌≡◌, ◌+◌, ◌<◌, ◌++◌, ◌∷◌, [], length, length-append, max, get_or, sym, ap, ◌∙◌, row_of}, lemmas.{RowLemmas.row_within, ClassLemmas.pushed}}
 use Rattle.re_auto.proofs.build.classes.classes_of.Goals as goal
-use Rattle.re_auto.proofs.lemmas.{RowLemmas.row_within, ClassLemmas.pushed}
 
 pub row-requires : goal.row-requires
 row-requires c = rw c.requires (row_within c.bytes.c 256 c.args.width (omega arith))

@@ -1,5 +1,4 @@
-use Rattle.re_auto.proofs.Prelude.{IfOk-weaker}
-use Rattle.re_auto.proofs.lemmas.BitLemmas.{zeros_are}
+use Rattle.re_auto.proofs.{Prelude.IfOk-weaker, lemmas.BitLemmas.zeros_are}
 use Rattle.re_auto.proofs.build.ends.blank_set.Goals as goal
 
 pub returns : goal.returns

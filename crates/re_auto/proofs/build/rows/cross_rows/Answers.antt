@@ -1,6 +1,5 @@
-use Rattle.re_auto.proofs.Prelude.{arith}
+use Rattle.re_auto.proofs.{Prelude.arith, lemmas.{BitLemmas.{at_word, word_added, all_added, chained}, RowLemmas.one_row}}
 use Rattle.re_auto.proofs.build.rows.cross_rows.Goals as goal
-use Rattle.re_auto.proofs.lemmas.{BitLemmas.at_word, BitLemmas.word_added, BitLemmas.all_added, BitLemmas.chained, RowLemmas.one_row}
 
 pub cross_word-requires-clause-rows : goal.cross_word-requires-clause-rows
 cross_word-requires-clause-rows c = λ b lt h. rw c.words.invariant.0 (c.requires.rows _ ((at_word c.args.last.now c.words.k b lt).1 h))

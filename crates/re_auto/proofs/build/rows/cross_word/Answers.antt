@@ -1,5 +1,4 @@
-use Rattle.re_auto.proofs.Prelude.{arith, ◌≡◌, ◌+◌, ◌*◌, inl, Has, row_of}
-use Rattle.re_auto.proofs.lemmas.BitLemmas.{one_added, chained}
+use Rattle.re_auto.proofs.{Prelude.{arith, ◌≡◌, ◌+◌, ◌*◌, inl, Has, row_of}, lemmas.BitLemmas.{one_added, chained}}
 use Rattle.re_auto.proofs.build.rows.cross_word.Goals as goal
 
 pub add_to_row-requires-clause-room : goal.add_to_row-requires-clause-room

@@ -1,5 +1,4 @@
-use Rattle.re_auto.proofs.Prelude.{◌≡◌, ℕ, ◌+◌, ◌*◌, ◌≤◌, length, Has, row_of}
-use Rattle.re_auto.proofs.lemmas.BitLemmas.{AreAmong, AddsUp}
+use Rattle.re_auto.proofs.{Prelude.{◌≡◌, ℕ, ◌+◌, ◌*◌, ◌≤◌, length, Has, row_of}, lemmas.BitLemmas.{AreAmong, AddsUp}}
 use Rattle.re_auto.proofs.build.rows.cross_word.Given as goal
 
 -- what is already added and what is left to add are together the whole

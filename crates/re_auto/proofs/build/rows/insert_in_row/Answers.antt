@@ -1,5 +1,4 @@
-use Rattle.re_auto.proofs.Prelude.{◌∙◌, ◌≡◌}
-use Rattle.re_auto.proofs.lemmas.BitLemmas.{row_added, row_long}
+use Rattle.re_auto.proofs.{Prelude.{◌∙◌, ◌≡◌}, lemmas.BitLemmas.{row_added, row_long}}
 use Rattle.re_auto.proofs.build.rows.insert_in_row.Goals as goal
 
 pub returns-clause-added : goal.returns-clause-added

@@ -1,6 +1,5 @@
-use Rattle.re_auto.proofs.Prelude.{arith, ◌∙◌, members}
+use Rattle.re_auto.proofs.{Prelude.{arith, ◌∙◌, members}, lemmas.{BitLemmas.chained, RowLemmas.{row_within, marked, all_marked}}}
 use Rattle.re_auto.proofs.build.rows.mark_takers.Goals as goal
-use Rattle.re_auto.proofs.lemmas.{BitLemmas.chained, RowLemmas.row_within, RowLemmas.marked, RowLemmas.all_marked}
 
 pub loop-c-preserved : goal.loop-c-preserved
 loop-c-preserved c = (

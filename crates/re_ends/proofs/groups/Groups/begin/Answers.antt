@@ -1,5 +1,4 @@
-use Rattle.re_ends.proofs.Prelude.{arith, ap, sym, ◌∙◌, ◌≡◌, length, with_items_is}
-use Rattle.re_ends.specs.Working.Groups.{numbers_of}
+use Rattle.re_ends.{proofs.Prelude.{arith, ap, sym, ◌∙◌, ◌≡◌, length, with_items_is}, specs.Working.Groups.numbers_of}
 use Rattle.re_ends.proofs.lemmas.ClosingLaws as laws
 use Rattle.re_ends.proofs.groups.Groups.begin.Goals as goal
 

@@ -1,5 +1,4 @@
-use Rattle.re_ends.proofs.Prelude.{arith, ap, ℕ, ◌∙◌, ◌∷◌, [], length, length-append, sym, true≢false, with_items_is}
-use Rattle.re_ends.specs.Working.Groups.{In, numbers_of}
+use Rattle.re_ends.{proofs.Prelude.{arith, ap, ℕ, ◌∙◌, ◌∷◌, [], length, length-append, sym, true≢false, with_items_is}, specs.Working.Groups.{In, numbers_of}}
 use Rattle.re_ends.proofs.lemmas.ClosingLaws as laws
 use Rattle.re_ends.proofs.groups.Groups.close.Goals as goal
 

@@ -1,7 +1,4 @@
-use Rattle.re_ends.proofs.Prelude.{arith, ap, refl, inl, inr, sym, ℕ, zero, suc, part_of, false, true≢false, ◌∙◌, ◌≡◌, ◌+◌, ◌-◌, ◌<◌, length, slice_index, cases_lt, with_items_is}
-use Rattle.std.proofs.Math.Dec.{eqb}
-use Rattle.std.proofs.lemmas.Bool.{eqb-true}
-use Rattle.re_ends.specs.Working.Groups.{group_of, half_of}
+use Rattle.{re_ends.{proofs.Prelude.{arith, ap, refl, inl, inr, sym, ℕ, zero, suc, part_of, false, true≢false, ◌∙◌, ◌≡◌, ◌+◌, ◌-◌, ◌<◌, length, slice_index, cases_lt, with_items_is}, specs.Working.Groups.{group_of, half_of}}, std.proofs.{Math.Dec.eqb, lemmas.Bool.eqb-true}}
 use Rattle.re_ends.proofs.lemmas.ClosingLaws as laws
 use Rattle.re_ends.proofs.groups.Groups.close_all.Goals as goal
 

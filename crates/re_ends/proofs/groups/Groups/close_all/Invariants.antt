@@ -1,6 +1,4 @@
-use Rattle.re_ends.proofs.Prelude.{◌-◌, ◌<◌, ◌≡◌, slice_index}
-use Rattle.re_ends.specs.Working.Closing.{AreMet, AreNoneMet, Byte}
-use Rattle.re_ends.specs.Working.Groups.{group_of}
+use Rattle.re_ends.{proofs.Prelude.{◌-◌, ◌<◌, ◌≡◌, slice_index}, specs.Working.{Closing.{AreMet, AreNoneMet, Byte}, Groups.group_of}}
 use Rattle.re_ends.proofs.groups.Groups.close_all.Given as goal
 
 -- the pieces before are met

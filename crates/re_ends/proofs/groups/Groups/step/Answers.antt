@@ -1,7 +1,4 @@
-use Rattle.re_ends.proofs.Prelude.{arith, ap, refl, suc, sym, ◌∙◌, ◌≡◌, length, expression_of, with_items_is}
-use Rattle.re_auto.proofs.lemmas.BitLemmas.{within}
-use Rattle.re_ends.specs.Working.Closing.{AreClosed, Byte}
-use Rattle.re_ends.specs.Working.Groups.{AreGroupsFor}
+use Rattle.{re_ends.{proofs.Prelude.{arith, ap, refl, suc, sym, ◌∙◌, ◌≡◌, length, expression_of, with_items_is}, specs.Working.{Closing.{AreClosed, Byte}, Groups.AreGroupsFor}}, re_auto.proofs.lemmas.BitLemmas.within}
 use Rattle.re_ends.proofs.lemmas.ClosingLaws as laws
 use Rattle.re_ends.proofs.groups.Groups.step.Goals as goal
 

@@ -1,5 +1,4 @@
-use Rattle.re_ends.proofs.Prelude.{◌≡◌, ◌<◌, length, slice_index}
-use Rattle.re_ends.specs.Working.Groups.{group_of}
+use Rattle.re_ends.{proofs.Prelude.{◌≡◌, ◌<◌, length, slice_index}, specs.Working.Groups.group_of}
 use Rattle.re_ends.proofs.lemmas.ClosingLaws as laws
 use Rattle.re_ends.proofs.groups.Groups.turn.Goals as goal
 

@@ -1,5 +1,4 @@
-use Rattle.re_ends.proofs.Prelude.{arith, ap, ◌≡◌, ◌+◌, ◌*◌, ◌≤◌, sym, length, ◌∙◌, expression_of}
-use Rattle.std.specs.Prelude.{◌^◌}
+use Rattle.{re_ends.proofs.Prelude.{arith, ap, ◌≡◌, ◌+◌, ◌*◌, ◌≤◌, sym, length, ◌∙◌, expression_of}, std.specs.Prelude.◌^◌}
 use Rattle.re_ends.proofs.lemmas.KeptLaws as laws
 use Rattle.re_ends.proofs.kept.KeptSteps.add.Goals as goal
 

@@ -1,10 +1,4 @@
-use Rattle.re_ends.proofs.Prelude.{arith, ap, length, sym, ◌<◌, ◌∙◌, ◌-◌}
-use Rattle.std.proofs.Common.{rules}
-use Rattle.std.specs.List.{range_with_len}
-use Rattle.std.proofs.lemmas.Option.{get_or_from_slice_get, slice_get_within}
-use Rattle.re_ends.specs.Working.Groups.{numbers_of}
-use Rattle.re_ends.specs.Working.KeptSteps.{listed, unknown}
-use Rattle.re_ends.proofs.lemmas.ListLaws.{run_within}
+use Rattle.{re_ends.{proofs.{Prelude.{arith, ap, length, sym, ◌<◌, ◌∙◌, ◌-◌}, lemmas.ListLaws.run_within}, specs.Working.{Groups.numbers_of, KeptSteps.{listed, unknown}}}, std.{proofs.{Common.rules, lemmas.Option.{get_or_from_slice_get, slice_get_within}}, specs.List.range_with_len}}
 use Rattle.re_ends.proofs.kept.KeptSteps.apply.Goals as goal
 
 pub cut-requires-clause-room : goal.cut-requires-clause-room

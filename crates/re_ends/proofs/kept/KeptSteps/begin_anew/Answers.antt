@@ -1,10 +1,5 @@
-use Rattle.re_ends.proofs.Prelude.{arith, ap, get_or, refl, slice_get, sym, length, length-replicate, set, take, ◌++◌, ◌≡◌, ◌*◌, ◌≤◌, ◌∙◌, expression_of, positions}
-use Rattle.std.specs.Prelude.{vec_capacity}
-use Rattle.std.proofs.lemmas.List.{length-take}
-use Rattle.re_auto.proofs.lemmas.RowLemmas.{row_within}
-use Rattle.re_ends.specs.Working.KeptSteps.{no_step}
+use Rattle.{re_ends.{proofs.{Prelude.{arith, ap, get_or, refl, slice_get, sym, length, length-replicate, set, take, ◌++◌, ◌≡◌, ◌*◌, ◌≤◌, ◌∙◌, expression_of, positions}, kept.KeptSteps.begin_anew.Goals.After-extend_from_slice}, specs.Working.KeptSteps.no_step}, std.{specs.Prelude.vec_capacity, proofs.lemmas.List.length-take}, re_auto.proofs.lemmas.RowLemmas.row_within}
 use Rattle.re_ends.proofs.lemmas.KeptLaws as laws
-use Rattle.re_ends.proofs.kept.KeptSteps.begin_anew.Goals.{After-extend_from_slice}
 use Rattle.re_ends.proofs.kept.KeptSteps.begin_anew.Goals as goal
 
 third : (c : After-extend_from_slice) → (positions (expression_of c.args.automaton.now) ≤ vec_capacity c.extend_from_slice.new.self) × (c.extend_from_slice.new.self.items ≡ c.args.row.now)

@@ -1,9 +1,4 @@
-use Rattle.re_ends.proofs.Prelude.{length, arith, sym, ◌∙◌, ◌≡◌, Bool, true, false, false≢true, refl}
-use Rattle.std.proofs.lemmas.Option.{slice_get_read}
-use Rattle.std.specs.Cmp.Lexicographic.{same_text}
-use Rattle.std.proofs.Common.{not}
-use Rattle.re_auto.proofs.lemmas.RowLemmas.{row_within}
-use Rattle.re_ends.proofs.lemmas.KeptLaws.{row_at}
+use Rattle.{re_ends.proofs.{Prelude.{length, arith, sym, ◌∙◌, ◌≡◌, Bool, true, false, false≢true, refl}, lemmas.KeptLaws.row_at}, std.{proofs.{lemmas.Option.slice_get_read, Common.not}, specs.Cmp.Lexicographic.same_text}, re_auto.proofs.lemmas.RowLemmas.row_within}
 use Rattle.re_ends.proofs.kept.KeptSteps.find.Goals as goal
 
 not_false : (b : Bool) → false ≡ not b → true ≡ b

@@ -1,9 +1,5 @@
-use Rattle.re_ends.proofs.Prelude.{arith, false, set, sym, ◌+◌, ◌≡◌, slice_index, expression_of, Has, part_of, positions}
-use Rattle.re_ends.specs.Working.Groups.{numbers_of}
-use Rattle.re_ends.specs.Working.KeptSteps.{AreRight}
-use Rattle.re_ends.proofs.lemmas.GroupLaws.{first_alike}
+use Rattle.re_ends.{proofs.{Prelude.{arith, false, set, sym, ◌+◌, ◌≡◌, slice_index, expression_of, Has, part_of, positions}, lemmas.GroupLaws.first_alike, kept.KeptSteps.put.Goals.After-index}, specs.Working.{Groups.numbers_of, KeptSteps.AreRight}}
 use Rattle.re_ends.proofs.lemmas.KeptLaws as laws
-use Rattle.re_ends.proofs.kept.KeptSteps.put.Goals.{After-index}
 use Rattle.re_ends.proofs.kept.KeptSteps.put.Goals as goal
 
 pub returns-in_default-clause-sound : goal.returns-in_default-clause-sound

@@ -1,5 +1,4 @@
-use Rattle.re_ends.proofs.Prelude.{arith, ◌∙◌}
-use Rattle.re_ends.proofs.lemmas.KeptLaws.{row_inside, row_read}
+use Rattle.re_ends.proofs.{Prelude.{arith, ◌∙◌}, lemmas.KeptLaws.{row_inside, row_read}}
 use Rattle.re_ends.proofs.kept.KeptSteps.row.Goals as goal
 
 pub index-requires : goal.index-requires

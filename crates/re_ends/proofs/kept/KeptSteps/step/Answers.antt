@@ -1,7 +1,4 @@
-use Rattle.re_ends.proofs.Prelude.{arith, ◌+◌, ◌∙◌, ap, get_or, refl}
-use Rattle.std.proofs.lemmas.List.{get_or_read_under}
-use Rattle.re_ends.specs.Working.KeptSteps.{no_step}
-use Rattle.re_ends.proofs.lemmas.KeptLaws.{cell_within, class_read}
+use Rattle.{re_ends.{proofs.{Prelude.{arith, ◌+◌, ◌∙◌, ap, get_or, refl}, lemmas.KeptLaws.{cell_within, class_read}}, specs.Working.KeptSteps.no_step}, std.proofs.lemmas.List.get_or_read_under}
 use Rattle.re_ends.proofs.kept.KeptSteps.step.Goals as goal
 
 pub returns-clause-is : goal.returns-clause-is

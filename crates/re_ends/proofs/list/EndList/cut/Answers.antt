@@ -1,6 +1,4 @@
-use Rattle.re_ends.proofs.Prelude.{arith, ap, sym, length, length-append, take, drop, ◌≡◌, ◌+◌, ◌-◌, ◌∙◌, ◌++◌, ◌∷◌, []}
-use Rattle.std.proofs.lemmas.List.{drop-drop, drop-take, length-take, take-take}
-use Rattle.std.proofs.lemmas.Simd.{pick_l-range_with_len}
+use Rattle.{re_ends.proofs.Prelude.{arith, ap, sym, length, length-append, take, drop, ◌≡◌, ◌+◌, ◌-◌, ◌∙◌, ◌++◌, ◌∷◌, []}, std.proofs.lemmas.{List.{drop-drop, drop-take, length-take, take-take}, Simd.pick_l-range_with_len}}
 use Rattle.re_ends.proofs.list.EndList.cut.Goals as goal
 
 pub invariant_of-self : goal.invariant_of-self

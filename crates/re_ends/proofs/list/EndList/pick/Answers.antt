@@ -1,7 +1,4 @@
-use Rattle.re_ends.proofs.Prelude.{arith, ap, sym, length, length-append, map, slice_index, take, drop, ◌≡◌, ◌+◌, ◌<◌, ◌∙◌, ◌++◌, ◌∷◌, [], with_items_is}
-use Rattle.std.proofs.lemmas.List.{ext_get_or, get_or-drop, get_or-map, get_or-take, length-drop, length-map, length-take}
-use Rattle.re_ends.specs.Working.Groups.{numbers_of}
-use Rattle.re_ends.proofs.list.EndList.pick.Goals.{After-self}
+use Rattle.{re_ends.{proofs.{Prelude.{arith, ap, sym, length, length-append, map, slice_index, take, drop, ◌≡◌, ◌+◌, ◌<◌, ◌∙◌, ◌++◌, ◌∷◌, [], with_items_is}, list.EndList.pick.Goals.After-self}, specs.Working.Groups.numbers_of}, std.proofs.lemmas.List.{ext_get_or, get_or-drop, get_or-map, get_or-take, length-drop, length-map, length-take}}
 use Rattle.re_ends.proofs.list.EndList.pick.Goals as goal
 
 -- the ends that there are, and how many

@@ -1,6 +1,4 @@
-use Rattle.re_ends.proofs.Prelude.{arith, ap, length, take, drop, refl, ◌≡◌, ◌+◌, ◌<◌, ◌∙◌, ◌∷◌, ◌++◌, [], with_items_is}
-use Rattle.std.proofs.lemmas.List.{drop-set-add, length-drop, length-take, take_more_set}
-use Rattle.re_ends.proofs.list.EndList.put_last.Goals.{then-self-len, else-self-len}
+use Rattle.{re_ends.proofs.{Prelude.{arith, ap, length, take, drop, refl, ◌≡◌, ◌+◌, ◌<◌, ◌∙◌, ◌∷◌, ◌++◌, [], with_items_is}, list.EndList.put_last.Goals.{then-self-len, else-self-len}}, std.proofs.lemmas.List.{drop-set-add, length-drop, length-take, take_more_set}}
 use Rattle.re_ends.proofs.list.EndList.put_last.Goals as goal
 
 pub returns-clause-last : goal.returns-clause-last

@@ -1,5 +1,4 @@
-use Rattle.re_ends.proofs.Prelude.{arith, [], inl, inr, expression_of}
-use Rattle.re_ends.proofs.lemmas.GroupLaws.{stand_begin}
+use Rattle.re_ends.proofs.{Prelude.{arith, [], inl, inr, expression_of}, lemmas.GroupLaws.stand_begin}
 use Rattle.re_ends.proofs.pass.Pass.begin.Goals as goal
 
 pub returns-clause-at : goal.returns-clause-at

@@ -1,5 +1,4 @@
-use Rattle.re_ends.proofs.Prelude.{◌+◌, ◌≤◌, expression_of}
-use Rattle.re_ends.specs.Working.EndTables.{IsAt, AddsFrom}
+use Rattle.re_ends.{proofs.Prelude.{◌+◌, ◌≤◌, expression_of}, specs.Working.EndTables.{IsAt, AddsFrom}}
 use Rattle.re_ends.proofs.pass.Pass.go_back.Given as goal
 
 -- the pass is at this place, and those from it on have their ends

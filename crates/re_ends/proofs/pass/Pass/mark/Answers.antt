@@ -1,6 +1,4 @@
-use Rattle.re_ends.proofs.Prelude.{arith, expression_of, part_of, positions, is_begin, is_end, Has}
-use Rattle.re_ends.proofs.lemmas.GroupLaws.{first_alike}
-use Rattle.re_ends.proofs.lemmas.KeptLaws.{row_is}
+use Rattle.re_ends.proofs.{Prelude.{arith, expression_of, part_of, positions, is_begin, is_end, Has}, lemmas.{GroupLaws.first_alike, KeptLaws.row_is}}
 use Rattle.re_ends.proofs.lemmas.TableLaws as laws
 use Rattle.re_ends.proofs.pass.Pass.mark.Goals as goal
 

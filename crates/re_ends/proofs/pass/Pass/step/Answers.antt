@@ -1,11 +1,5 @@
-use Rattle.re_ends.proofs.Prelude.{arith, ap, length, sym, false, ℕ, ◌-◌, ◌∙◌, expression_of, is_end}
-use Rattle.re_ends.specs.declared.kept.KeptSteps.{KeptSteps}
-use Rattle.re_ends.specs.Working.Groups.{numbers_of}
-use Rattle.re_ends.specs.Working.KeptSteps.{IsRowIn}
-use Rattle.re_ends.specs.Working.EndTables.{IsAtRow}
-use Rattle.re_ends.proofs.lemmas.KeptLaws.{row_is}
+use Rattle.re_ends.{proofs.{Prelude.{arith, ap, length, sym, false, ℕ, ◌-◌, ◌∙◌, expression_of, is_end}, lemmas.KeptLaws.row_is, pass.Pass.step.Goals.After-pick}, specs.{declared.kept.KeptSteps.KeptSteps, Working.{Groups.numbers_of, KeptSteps.IsRowIn, EndTables.IsAtRow}}}
 use Rattle.re_ends.proofs.lemmas.TableLaws as laws
-use Rattle.re_ends.proofs.pass.Pass.step.Goals.{After-pick}
 use Rattle.re_ends.proofs.pass.Pass.step.Goals as goal
 
 pub step-requires-clause-after : goal.step-requires-clause-after

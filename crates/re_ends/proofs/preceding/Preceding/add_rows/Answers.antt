@@ -1,5 +1,4 @@
-use Rattle.re_ends.proofs.Prelude.{arith, ◌+◌, ◌*◌, ◌∙◌, inl, refl, Has, part_of}
-use Rattle.re_auto.proofs.lemmas.BitLemmas.{one_added, none_left, chained}
+use Rattle.{re_ends.proofs.Prelude.{arith, ◌+◌, ◌*◌, ◌∙◌, inl, refl, Has, part_of}, re_auto.proofs.lemmas.BitLemmas.{one_added, none_left, chained}}
 use Rattle.re_ends.proofs.preceding.Preceding.add_rows.Goals as goal
 
 pub bits-init : goal.bits-init

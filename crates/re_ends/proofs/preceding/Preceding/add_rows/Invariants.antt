@@ -1,6 +1,4 @@
-use Rattle.re_ends.proofs.Prelude.{◌≡◌, ℕ, ◌+◌, ◌*◌, length, Covers, Expression, Has, part_of}
-use Rattle.re_ends.specs.Working.Preceding.{ArePrecedingFor}
-use Rattle.re_auto.proofs.lemmas.BitLemmas.{AreAmong, AddsUp}
+use Rattle.{re_ends.{proofs.Prelude.{◌≡◌, ℕ, ◌+◌, ◌*◌, length, Covers, Expression, Has, part_of}, specs.Working.Preceding.ArePrecedingFor}, re_auto.proofs.lemmas.BitLemmas.{AreAmong, AddsUp}}
 use Rattle.re_ends.proofs.preceding.Preceding.add_rows.Given as goal
 
 -- what is already added and what is left to add are together the whole

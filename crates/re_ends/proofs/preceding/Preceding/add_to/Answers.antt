@@ -1,6 +1,4 @@
-use Rattle.re_ends.proofs.Prelude.{arith, refl, subst, inl, inr, ℕ, suc, ◌≡◌, ◌+◌, ◌*◌, ◌<◌, ◌∙◌, ◌↔◌, ◌⊎◌, bit_and, bit_at, bit_not, part_of, w64}
-use Rattle.std.proofs.lemmas.List.{get_or_read_under}
-use Rattle.re_ends.proofs.lemmas.PrecedingLaws.{in_second, word_split}
+use Rattle.{re_ends.proofs.{Prelude.{arith, refl, subst, inl, inr, ℕ, suc, ◌≡◌, ◌+◌, ◌*◌, ◌<◌, ◌∙◌, ◌↔◌, ◌⊎◌, bit_and, bit_at, bit_not, part_of, w64}, lemmas.PrecedingLaws.{in_second, word_split}}, std.proofs.lemmas.List.get_or_read_under}
 use Rattle.re_ends.proofs.preceding.Preceding.add_to.Goals as goal
 
 pub add_rows-requires-clause-made : goal.add_rows-requires-clause-made

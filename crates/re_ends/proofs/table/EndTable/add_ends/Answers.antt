@@ -1,6 +1,4 @@
-use Rattle.re_ends.proofs.Prelude.{arith, inl, inr, drop, length, ◌≡◌, ◌-◌, ◌∙◌, sym}
-use Rattle.std.specs.Prelude.{slice_range}
-use Rattle.std.proofs.lemmas.List.{length-drop, length-take}
+use Rattle.{re_ends.proofs.Prelude.{arith, inl, inr, drop, length, ◌≡◌, ◌-◌, ◌∙◌, sym}, std.{specs.Prelude.slice_range, proofs.lemmas.List.{length-drop, length-take}}}
 use Rattle.re_ends.proofs.table.EndTable.add_ends.Goals as goal
 
 pub returns-clause-added : goal.returns-clause-added

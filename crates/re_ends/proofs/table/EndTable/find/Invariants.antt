@@ -1,5 +1,4 @@
-use Rattle.re_ends.proofs.Prelude.{◌≡◌, ◌+◌, ◌≤◌, length, expression_of}
-use Rattle.re_ends.specs.Working.EndTables.{piece, IsAt, IsFirstFrom}
+use Rattle.re_ends.{proofs.Prelude.{◌≡◌, ◌+◌, ◌≤◌, length, expression_of}, specs.Working.EndTables.{piece, IsAt, IsFirstFrom}}
 use Rattle.re_ends.proofs.table.EndTable.find.Given as goal
 
 -- the pass is at this place, and the first stretch from it on is known

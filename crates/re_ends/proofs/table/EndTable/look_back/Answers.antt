@@ -1,5 +1,4 @@
-use Rattle.re_ends.proofs.Prelude.{arith, ap, ◌∙◌, slice_index, with_items_is, expression_of}
-use Rattle.re_ends.proofs.lemmas.KeptLaws.{blank_at}
+use Rattle.re_ends.proofs.{Prelude.{arith, ap, ◌∙◌, slice_index, with_items_is, expression_of}, lemmas.KeptLaws.blank_at}
 use Rattle.re_ends.proofs.lemmas.TableLaws as laws
 use Rattle.re_ends.proofs.table.EndTable.look_back.Goals as goal
 

@@ -1,5 +1,4 @@
-use Rattle.re_steps.proofs.Prelude.{◌≡◌, ◌++◌, replicate, ap, ◌∙◌, take-replicate, unknown}
-use Rattle.re_steps.proofs.lemmas.PairLemmas.{mirrors_longer}
+use Rattle.re_steps.proofs.{Prelude.{◌≡◌, ◌++◌, replicate, ap, ◌∙◌, take-replicate, unknown}, lemmas.PairLemmas.mirrors_longer}
 use Rattle.re_steps.proofs.pairs.Pairs.add_row.Goals as goal
 
 pub invariant_of-self-2 : goal.invariant_of-self-2

@@ -1,5 +1,4 @@
-use Rattle.re_steps.proofs.Prelude.{sym, ◌∙◌, arith}
-use Rattle.re_steps.proofs.lemmas.PairLemmas.{lost_within, mirrors_lost, mirrors_kept}
+use Rattle.re_steps.proofs.{Prelude.{sym, ◌∙◌, arith}, lemmas.PairLemmas.{lost_within, mirrors_lost, mirrors_kept}}
 use Rattle.re_steps.proofs.pairs.Pairs.put.Goals as goal
 
 pub index_mut-requires : goal.index_mut-requires

@@ -1,5 +1,4 @@
-use Rattle.re_steps.proofs.Prelude.{add-one, expression_of}
-use Rattle.re_steps.proofs.lemmas.StageLaws.{goes_to, goes_built}
+use Rattle.re_steps.proofs.{Prelude.{add-one, expression_of}, lemmas.StageLaws.{goes_to, goes_built}}
 use Rattle.re_steps.proofs.sets.SetPair.pass.Goals as goal
 
 pub returns-then-not-begins-clause-goes : goal.returns-then-not-begins-clause-goes

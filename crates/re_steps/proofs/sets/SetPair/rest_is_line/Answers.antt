@@ -1,5 +1,4 @@
-use Rattle.re_steps.proofs.Prelude.{◌≡◌, inl, inr, refl, arith, add-one, Search, Whole}
-use Rattle.re_steps.proofs.lemmas.StageLaws.{goes_built}
+use Rattle.re_steps.proofs.{Prelude.{◌≡◌, inl, inr, refl, arith, add-one, Search, Whole}, lemmas.StageLaws.goes_built}
 use Rattle.re_steps.proofs.sets.SetPair.rest_is_line.Goals as goal
 
 pub places-preserved : goal.places-preserved

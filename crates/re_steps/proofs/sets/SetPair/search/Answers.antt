@@ -1,5 +1,4 @@
-use Rattle.re_steps.proofs.Prelude.{inl, refl, Stage}
-use Rattle.re_steps.proofs.lemmas.StageLaws.{goes_nowhere}
+use Rattle.re_steps.proofs.{Prelude.{inl, refl, Stage}, lemmas.StageLaws.goes_nowhere}
 use Rattle.re_steps.proofs.sets.SetPair.search.Goals as goal
 
 pub returns-clause-searches : goal.returns-clause-searches

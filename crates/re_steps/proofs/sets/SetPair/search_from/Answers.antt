@@ -1,5 +1,4 @@
-use Rattle.re_steps.proofs.Prelude.{refl, expression_of, Stage}
-use Rattle.re_steps.proofs.lemmas.StageLaws.{goes_alike}
+use Rattle.re_steps.proofs.{Prelude.{refl, expression_of, Stage}, lemmas.StageLaws.goes_alike}
 use Rattle.re_steps.proofs.sets.SetPair.search_from.Goals as goal
 
 pub returns-clause-finishes : goal.returns-clause-finishes

@@ -1,6 +1,4 @@
-use Rattle.re_steps.proofs.Prelude.{◌≡◌, ◌++◌, ◌∷◌, [], length, length-append, replicate, refl, ap, ◌∙◌, arith, get_or_append_left, unknown}
-use Rattle.re_steps.proofs.lemmas.StateSetKeys.{new_last, new_number}
-use Rattle.re_steps.proofs.lemmas.RowLaws.{sound_longer, get_left, get_last}
+use Rattle.re_steps.proofs.{Prelude.{◌≡◌, ◌++◌, ◌∷◌, [], length, length-append, replicate, refl, ap, ◌∙◌, arith, get_or_append_left, unknown}, lemmas.{StateSetKeys.{new_last, new_number}, RowLaws.{sound_longer, get_left, get_last}}}
 use Rattle.re_steps.proofs.table.StepTable.add.Goals as goal
 
 keys_of : (c : goal.In_ok-number) → c.insert_full.new.self.keys ≡ c.args.self.now.sets.keys ++ c.args.set ∷ []

@@ -1,7 +1,4 @@
-use Rattle.re_steps.proofs.Prelude.{arith, ◌≡◌, ◌*◌, inl, inr, refl, Stage, IsPlain, IsRowOf, cache_of, expression_in}
-use Rattle.re_steps.proofs.lemmas.StageLaws.{goes_to}
-use Rattle.re_steps.proofs.lemmas.RowLaws.{row_zero}
-use Rattle.re_steps.proofs.lemmas.WalkLaws.{under_low, under_high, is_whole, is_search}
+use Rattle.re_steps.proofs.{Prelude.{arith, ◌≡◌, ◌*◌, inl, inr, refl, Stage, IsPlain, IsRowOf, cache_of, expression_in}, lemmas.{StageLaws.goes_to, RowLaws.row_zero, WalkLaws.{under_low, under_high, is_whole, is_search}}}
 use Rattle.re_steps.proofs.table.StepTable.arrive.Goals as goal
 
 pub returns-then-place-asked-clause-leads : goal.returns-then-place-asked-clause-leads

@@ -1,5 +1,4 @@
-use Rattle.re_steps.proofs.Prelude.{arith, refl, ◌∙◌, slice_get_within, expression_in}
-use Rattle.re_steps.proofs.lemmas.RowLaws.{first_later, says_cell, row_small}
+use Rattle.re_steps.proofs.{Prelude.{arith, refl, ◌∙◌, slice_get_within, expression_in}, lemmas.RowLaws.{first_later, says_cell, row_small}}
 use Rattle.re_steps.proofs.table.StepTable.begin_anew.Goals as goal
 
 pub number_of-requires-clause-made : goal.number_of-requires-clause-made

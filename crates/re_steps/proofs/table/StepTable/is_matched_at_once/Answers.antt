@@ -1,6 +1,4 @@
-use Rattle.re_steps.proofs.Prelude.{arith, ◌≡◌, ◌<◌, ◌⊎◌, ℕ, inl, inr, length, eq-eqb, refl, sym, ◌∙◌, false≢true, Text, expression_in}
-use Rattle.re_steps.proofs.lemmas.RowLaws.{mark_of_set}
-use Rattle.re_steps.proofs.lemmas.WalkLaws.{is_search}
+use Rattle.re_steps.proofs.{Prelude.{arith, ◌≡◌, ◌<◌, ◌⊎◌, ℕ, inl, inr, length, eq-eqb, refl, sym, ◌∙◌, false≢true, Text, expression_in}, lemmas.{RowLaws.mark_of_set, WalkLaws.is_search}}
 use Rattle.re_steps.proofs.table.StepTable.is_matched_at_once.Goals as goal
 
 positive : (line : Text) → (length line ≡ 0 → ⊥) → 0 < length line

@@ -1,6 +1,4 @@
-use Rattle.re_steps.proofs.Prelude.{arith, ◌≡◌, ◌+◌, ◌*◌, ℕ, List, slice_index, sym, ap, ◌∙◌, slice_get_within, StepTable, Rows, IsRowOf, AreSound, expression_in}
-use Rattle.re_steps.proofs.lemmas.RowLaws.{first_later, cell_within, sound_held, says_cell, set_of_row, row_small}
-use Rattle.re_steps.proofs.lemmas.WalkLaws.{holds_no_other}
+use Rattle.re_steps.proofs.{Prelude.{arith, ◌≡◌, ◌+◌, ◌*◌, ℕ, List, slice_index, sym, ap, ◌∙◌, slice_get_within, StepTable, Rows, IsRowOf, AreSound, expression_in}, lemmas.{RowLaws.{first_later, cell_within, sound_held, says_cell, set_of_row, row_small}, WalkLaws.holds_no_other}}
 use Rattle.re_steps.proofs.table.StepTable.learn.Goals as goal
 
 pub advance-requires-clause-from : goal.advance-requires-clause-from

@@ -1,5 +1,4 @@
-use Rattle.re_steps.proofs.Prelude.{◌≡◌, ◌++◌, ◌∷◌, [], List, true, inl, inr, refl, sym, ap, ◌∙◌, false≢true, Text, Expression, Mode, StateSet, StandsAt, expression_in}
-use Rattle.re_steps.proofs.lemmas.RowLaws.{get_cases}
+use Rattle.re_steps.proofs.{Prelude.{◌≡◌, ◌++◌, ◌∷◌, [], List, true, inl, inr, refl, sym, ap, ◌∙◌, false≢true, Text, Expression, Mode, StateSet, StandsAt, expression_in}, lemmas.RowLaws.get_cases}
 use Rattle.re_steps.proofs.table.StepTable.make_rows.Goals as goal
 
 -- the set of a line's first place has its mark

@@ -1,7 +1,4 @@
-use Rattle.re_steps.proofs.Prelude.{◌≡◌, None, Some, sym, ◌∙◌, expression_in}
-use Rattle.re_steps.proofs.lemmas.StateSetKeys.{found_set, no_set}
-use Rattle.re_steps.proofs.lemmas.StageLaws.{same_trans}
-use Rattle.re_steps.proofs.lemmas.RowLaws.{made_same}
+use Rattle.re_steps.proofs.{Prelude.{◌≡◌, None, Some, sym, ◌∙◌, expression_in}, lemmas.{StateSetKeys.{found_set, no_set}, StageLaws.same_trans, RowLaws.made_same}}
 use Rattle.re_steps.proofs.table.StepTable.number_of.Goals as goal
 
 pub returns-in-Some-clause-number : goal.returns-in-Some-clause-number

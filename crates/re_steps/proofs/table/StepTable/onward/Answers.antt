@@ -1,5 +1,4 @@
-use Rattle.re_steps.proofs.Prelude.{arith, ◌∙◌, ◌+◌, ◌-◌, ◌<◌, length, sym, add-one, slice_get-get_or}
-use Rattle.re_steps.proofs.lemmas.WalkLaws.{walked_is, arrives_on}
+use Rattle.re_steps.proofs.{Prelude.{arith, ◌∙◌, ◌+◌, ◌-◌, ◌<◌, length, sym, add-one, slice_get-get_or}, lemmas.WalkLaws.{walked_is, arrives_on}}
 use Rattle.re_steps.proofs.table.StepTable.onward.Goals as goal
 
 pub returns-in-Some-clause-arrives : goal.returns-in-Some-clause-arrives

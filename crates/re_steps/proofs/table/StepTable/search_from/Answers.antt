@@ -1,5 +1,4 @@
-use Rattle.re_steps.proofs.Prelude.{arith, ◌≡◌, length, inr, refl, ◌∙◌}
-use Rattle.re_steps.proofs.lemmas.RowLaws.{row_inside, mark_of_row}
+use Rattle.re_steps.proofs.{Prelude.{arith, ◌≡◌, length, inr, refl, ◌∙◌}, lemmas.RowLaws.{row_inside, mark_of_row}}
 use Rattle.re_steps.proofs.table.StepTable.search_from.Goals as goal
 
 pub places-init : goal.places-init

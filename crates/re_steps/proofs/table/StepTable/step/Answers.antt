@@ -1,6 +1,4 @@
-use Rattle.re_steps.proofs.Prelude.{arith, ◌≡◌, ◌<◌, Option, None, Some, IfSome, refl, sym, ◌∙◌, IfNone, unknown, IsRow, cell_at, cache_of, row_under, expression_in}
-use Rattle.re_steps.proofs.lemmas.StageLaws.{nothing_held}
-use Rattle.re_steps.proofs.lemmas.WalkLaws.{lands_held, lands_learned, lands_alone, row_below}
+use Rattle.re_steps.proofs.{Prelude.{arith, ◌≡◌, ◌<◌, Option, None, Some, IfSome, refl, sym, ◌∙◌, IfNone, unknown, IsRow, cell_at, cache_of, row_under, expression_in}, lemmas.{StageLaws.nothing_held, WalkLaws.{lands_held, lands_learned, lands_alone, row_below}}}
 use Rattle.re_steps.proofs.table.StepTable.step.Goals as goal
 
 -- what holds of each value that an option may have

@@ -1,5 +1,4 @@
-use Rattle.re_steps.proofs.Prelude.{arith, ◌≡◌, suc, ◌+◌, ◌-◌, ◌<◌, slice_index, subst, add-one, cell_at, walked, IsAt}
-use Rattle.re_steps.proofs.lemmas.WalkLaws.{comes_on, walked_on, walked_none}
+use Rattle.re_steps.proofs.{Prelude.{arith, ◌≡◌, suc, ◌+◌, ◌-◌, ◌<◌, slice_index, subst, add-one, cell_at, walked, IsAt}, lemmas.WalkLaws.{comes_on, walked_on, walked_none}}
 use Rattle.re_steps.proofs.table.StepTable.walk.Goals as goal
 
 pub places-preserved : goal.places-preserved

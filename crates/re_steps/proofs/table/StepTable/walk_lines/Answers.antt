@@ -1,9 +1,5 @@
-use Rattle.re_steps.proofs.Prelude.{arith, false, Text, Matches, ◌≡◌, ◌<◌, slice_index, sym, expression_in, cell_at}
-use Rattle.re_runs.proofs.lemmas.BlockLemmas.{passes_none}
-use Rattle.re_steps.proofs.lemmas.RowLaws.{cell_within}
-use Rattle.re_steps.proofs.lemmas.LineWalks.{marked, walks_from, walks_on, walks_over}
+use Rattle.{re_steps.proofs.{Prelude.{arith, false, Text, Matches, ◌≡◌, ◌<◌, slice_index, sym, expression_in, cell_at}, lemmas.{RowLaws.cell_within, LineWalks.{marked, walks_from, walks_on, walks_over}}, table.StepTable.walk_lines.Goals.{then-byte-eq10+then-lines-most, else-byte-eq10+then-cell-ge-LIMIT}}, re_runs.proofs.lemmas.BlockLemmas.passes_none}
 use Rattle.re_steps.proofs.table.StepTable.walk_lines.Goals as goal
-use Rattle.re_steps.proofs.table.StepTable.walk_lines.Goals.{then-byte-eq10+then-lines-most, else-byte-eq10+then-cell-ge-LIMIT}
 
 pub places-init : goal.places-init
 places-init c =

@@ -1,7 +1,4 @@
-use Rattle.re_strings.proofs.Prelude.{◌≡◌, ℕ, ◌+◌, ◌<◌, ◌≤◌, length, slice_index, refl, sym, subst, ◌∙◌, arith, length-map, AddsEnds, Labels, List, Text, IsTableOf, StandsAtNode, StepsOn, EndsWith, Occurs, key, keys}
-use Rattle.re_strings.proofs.lemmas.KeyLaws.{key_at}
-use Rattle.re_strings.proofs.lemmas.SetSearch.{byte_read, node_length, nothing_read}
-use Rattle.re_strings.proofs.lemmas.SetEnds.{OccursBy, adds_no_ends, adds_more_ends, same_ends_added, one_place_more}
+use Rattle.re_strings.proofs.{Prelude.{◌≡◌, ℕ, ◌+◌, ◌<◌, ◌≤◌, length, slice_index, refl, sym, subst, ◌∙◌, arith, length-map, AddsEnds, Labels, List, Text, IsTableOf, StandsAtNode, StepsOn, EndsWith, Occurs, key, keys}, lemmas.{KeyLaws.key_at, SetSearch.{byte_read, node_length, nothing_read}, SetEnds.{OccursBy, adds_no_ends, adds_more_ends, same_ends_added, one_place_more}}}
 use Rattle.re_strings.proofs.aho_corasick.AhoCorasick.add_ends.Goals as goal
 
 pub places-init : goal.places-init

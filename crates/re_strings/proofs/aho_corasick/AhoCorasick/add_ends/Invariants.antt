@@ -1,5 +1,4 @@
-use Rattle.re_strings.proofs.Prelude.{◌<◌, length, AddsEnds, Labels, IsTableOf, StandsAtNode, keys}
-use Rattle.re_strings.proofs.lemmas.SetEnds.{OccursBy}
+use Rattle.re_strings.proofs.{Prelude.{◌<◌, length, AddsEnds, Labels, IsTableOf, StandsAtNode, keys}, lemmas.SetEnds.OccursBy}
 use Rattle.re_strings.proofs.aho_corasick.AhoCorasick.add_ends.Given as goal
 
 abbrev pub invariant-places : goal.invariant-places

@@ -1,5 +1,4 @@
-use Rattle.re_strings.proofs.Prelude.{◌≡◌, ℕ, ◌-◌, ◌<◌, length, slice_index, arith, dec_le, length-map, key, keys, Labels, IsTableOf, Occurs}
-use Rattle.re_strings.proofs.lemmas.SetSearch.{row_read, longest_ends_since, none_up_to, stands_at_first}
+use Rattle.re_strings.proofs.{Prelude.{◌≡◌, ℕ, ◌-◌, ◌<◌, length, slice_index, arith, dec_le, length-map, key, keys, Labels, IsTableOf, Occurs}, lemmas.SetSearch.{row_read, longest_ends_since, none_up_to, stands_at_first}}
 use Rattle.re_strings.proofs.aho_corasick.AhoCorasick.ended_by.Goals as goal
 
 pub places-init : goal.places-init

@@ -1,5 +1,4 @@
-use Rattle.re_strings.proofs.Prelude.{slice_index, sym, ap, ◌∙◌, arith}
-use Rattle.re_strings.proofs.lemmas.SetSearch.{row_read}
+use Rattle.re_strings.proofs.{Prelude.{slice_index, sym, ap, ◌∙◌, arith}, lemmas.SetSearch.row_read}
 use Rattle.re_strings.proofs.aho_corasick.AhoCorasick.ending.Goals as goal
 
 pub returns : goal.returns

@@ -1,6 +1,4 @@
-use Rattle.re_strings.proofs.Prelude.{◌≡◌, ◌-◌, ◌<◌, inl, inr, length, refl, sym, ◌∙◌, arith, false≢true, cases_lt, length-map, none-some, key, keys}
-use Rattle.re_strings.proofs.lemmas.SetSearch.{stands_at_first, row_read, best_at_first, best_on, best_settled}
-use Rattle.re_strings.proofs.lemmas.SetReached.{begun_on, settled}
+use Rattle.re_strings.proofs.{Prelude.{◌≡◌, ◌-◌, ◌<◌, inl, inr, length, refl, sym, ◌∙◌, arith, false≢true, cases_lt, length-map, none-some, key, keys}, lemmas.{SetSearch.{stands_at_first, row_read, best_at_first, best_on, best_settled}, SetReached.{begun_on, settled}}}
 use Rattle.re_strings.proofs.aho_corasick.AhoCorasick.find_by.Goals as goal
 
 pub places-init : goal.places-init

@@ -1,5 +1,4 @@
-use Rattle.re_strings.proofs.Prelude.{◌≡◌, ◌<◌, ◌≤◌, ◌-◌, length, Labels, IsTableOf, StandsSince, IsBestOccurrence, keys}
-use Rattle.re_strings.proofs.lemmas.SetReached.{IsBegun}
+use Rattle.re_strings.proofs.{Prelude.{◌≡◌, ◌<◌, ◌≤◌, ◌-◌, length, Labels, IsTableOf, StandsSince, IsBestOccurrence, keys}, lemmas.SetReached.IsBegun}
 use Rattle.re_strings.proofs.aho_corasick.AhoCorasick.find_by.Given as goal
 
 abbrev pub invariant-places : goal.invariant-places

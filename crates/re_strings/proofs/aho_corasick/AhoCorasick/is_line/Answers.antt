@@ -1,6 +1,4 @@
-use Rattle.re_strings.proofs.Prelude.{[], ◌∷◌, ◌++◌, slice_index, sym, ap, ◌∙◌, arith, key, keys, false≢true, length-map}
-use Rattle.re_strings.proofs.lemmas.KeyLaws.{key_at}
-use Rattle.re_strings.proofs.lemmas.SetSearch.{goes_on_in_line, ends_whole, all_read, one_more_byte}
+use Rattle.re_strings.proofs.{Prelude.{[], ◌∷◌, ◌++◌, slice_index, sym, ap, ◌∙◌, arith, key, keys, false≢true, length-map}, lemmas.{KeyLaws.key_at, SetSearch.{goes_on_in_line, ends_whole, all_read, one_more_byte}}}
 use Rattle.re_strings.proofs.aho_corasick.AhoCorasick.is_line.Goals as goal
 
 pub returns-in_default : goal.returns-in_default

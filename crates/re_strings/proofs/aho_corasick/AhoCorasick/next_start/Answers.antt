@@ -1,5 +1,4 @@
-use Rattle.re_strings.proofs.Prelude.{◌≡◌, length, arith, length-map, NoneBegins, key, keys}
-use Rattle.re_strings.proofs.lemmas.SetLeaps.{leap_stands, leap_between}
+use Rattle.re_strings.proofs.{Prelude.{◌≡◌, length, arith, length-map, NoneBegins, key, keys}, lemmas.SetLeaps.{leap_stands, leap_between}}
 use Rattle.re_strings.proofs.aho_corasick.AhoCorasick.next_start.Goals as goal
 
 pub returns-clause-stands : goal.returns-clause-stands

@@ -1,6 +1,4 @@
-use Rattle.re_strings.proofs.Prelude.{◌≡◌, ◌<◌, length, slice_index, sym, subst, ◌∙◌, arith, length-map, StandsAtNode, key, keys}
-use Rattle.re_strings.proofs.lemmas.KeyLaws.{key_at}
-use Rattle.re_strings.proofs.lemmas.SetSearch.{byte_read, stands_after}
+use Rattle.re_strings.proofs.{Prelude.{◌≡◌, ◌<◌, length, slice_index, sym, subst, ◌∙◌, arith, length-map, StandsAtNode, key, keys}, lemmas.{KeyLaws.key_at, SetSearch.{byte_read, stands_after}}}
 use Rattle.re_strings.proofs.aho_corasick.AhoCorasick.pass.Goals as goal
 
 pub returns-then-start-line-clause-between : goal.returns-then-start-line-clause-between

@@ -1,6 +1,4 @@
-use Rattle.re_strings.proofs.Prelude.{◌≡◌, ℕ, ◌+◌, ◌<◌, length, refl, arith, EndsWith}
-use Rattle.re_strings.proofs.lemmas.SetSearch.{row_read}
-use Rattle.re_strings.proofs.lemmas.SetEnds.{PutsLonger, adds_no_ends, adds_more_ends, same_ends_added, first_output, none_longer, next_output, output_put, all_put}
+use Rattle.re_strings.proofs.{Prelude.{◌≡◌, ℕ, ◌+◌, ◌<◌, length, refl, arith, EndsWith}, lemmas.{SetSearch.row_read, SetEnds.{PutsLonger, adds_no_ends, adds_more_ends, same_ends_added, first_output, none_longer, next_output, output_put, all_put}}}
 use Rattle.re_strings.proofs.aho_corasick.AhoCorasick.put_outputs.Goals as goal
 
 pub outputs-init : goal.outputs-init

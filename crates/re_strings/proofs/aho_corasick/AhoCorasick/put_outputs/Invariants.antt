@@ -1,5 +1,4 @@
-use Rattle.re_strings.proofs.Prelude.{◌<◌, ◌≤◌, length, AddsEnds, Labels, IsTableOf}
-use Rattle.re_strings.proofs.lemmas.SetEnds.{Follows, PutsLonger}
+use Rattle.re_strings.proofs.{Prelude.{◌<◌, ◌≤◌, length, AddsEnds, Labels, IsTableOf}, lemmas.SetEnds.{Follows, PutsLonger}}
 use Rattle.re_strings.proofs.aho_corasick.AhoCorasick.put_outputs.Given as goal
 
 abbrev pub invariant-outputs : goal.invariant-outputs

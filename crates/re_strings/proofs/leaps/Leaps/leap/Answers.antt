@@ -1,5 +1,4 @@
-use Rattle.re_strings.proofs.Prelude.{◌+◌, ◌<◌, length, arith, length-map, key, keys}
-use Rattle.re_strings.proofs.lemmas.SetLeaps.{none_begins_on, none_begins_to_end}
+use Rattle.re_strings.proofs.{Prelude.{◌+◌, ◌<◌, length, arith, length-map, key, keys}, lemmas.SetLeaps.{none_begins_on, none_begins_to_end}}
 use Rattle.re_strings.proofs.leaps.Leaps.leap.Goals as goal
 
 pub windows-init : goal.windows-init

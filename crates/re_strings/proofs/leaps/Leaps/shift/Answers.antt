@@ -1,7 +1,4 @@
-use Rattle.re_strings.proofs.Prelude.{◌≡◌, ◌+◌, ◌-◌, ◌<◌, slice_index, sym, ap, ◌∙◌, arith, length-map, pair_row, key, keys}
-use Rattle.re_strings.proofs.lemmas.KeyLaws.{key_at}
-use Rattle.re_strings.proofs.lemmas.SetSearch.{row_read}
-use Rattle.re_strings.proofs.lemmas.SetLeaps.{none_begins_leap}
+use Rattle.re_strings.proofs.{Prelude.{◌≡◌, ◌+◌, ◌-◌, ◌<◌, slice_index, sym, ap, ◌∙◌, arith, length-map, pair_row, key, keys}, lemmas.{KeyLaws.key_at, SetSearch.row_read, SetLeaps.none_begins_leap}}
 use Rattle.re_strings.proofs.leaps.Leaps.shift.Goals as goal
 
 pub returns-clause-short : goal.returns-clause-short

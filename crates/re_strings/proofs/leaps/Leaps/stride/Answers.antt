@@ -1,5 +1,4 @@
-use Rattle.re_strings.proofs.Prelude.{◌≡◌, ◌+◌, ◌-◌, arith, keys}
-use Rattle.re_strings.proofs.lemmas.SetLeaps.{none_begins_at_first, none_begins_on}
+use Rattle.re_strings.proofs.{Prelude.{◌≡◌, ◌+◌, ◌-◌, arith, keys}, lemmas.SetLeaps.{none_begins_at_first, none_begins_on}}
 use Rattle.re_strings.proofs.leaps.Leaps.stride.Goals as goal
 
 pub windows-init : goal.windows-init

@@ -1,5 +1,4 @@
-use Rattle.re_strings.proofs.Prelude.{◌≡◌, ◌+◌, ◌<◌, ◌∷◌, [], ◌++◌, length, slice_index, sym, ap, ◌∙◌, arith, get_or_default_zero}
-use Rattle.re_strings.proofs.lemmas.SetTries.{found_between, not_between}
+use Rattle.re_strings.proofs.{Prelude.{◌≡◌, ◌+◌, ◌<◌, ◌∷◌, [], ◌++◌, length, slice_index, sym, ap, ◌∙◌, arith, get_or_default_zero}, lemmas.SetTries.{found_between, not_between}}
 use Rattle.re_strings.proofs.trie.Trie.child.Goals as goal
 
 pub returns-clause-reported : goal.returns-clause-reported

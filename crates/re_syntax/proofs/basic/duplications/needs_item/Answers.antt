@@ -1,6 +1,4 @@
-use Rattle.re_syntax.proofs.Prelude.{drop, NeedsItem, needs_interval, needs_plus, needs_question}
-use Rattle.re_syntax.proofs.lemmas.BasicTokenReading.{needs_no_item}
-use Rattle.re_syntax.proofs.lemmas.Places.{either_found, some_found, nothing_found}
+use Rattle.re_syntax.proofs.{Prelude.{drop, NeedsItem, needs_interval, needs_plus, needs_question}, lemmas.{BasicTokenReading.needs_no_item, Places.{either_found, some_found, nothing_found}}}
 use Rattle.re_syntax.proofs.basic.duplications.needs_item.Goals as goal
 
 pub returns-then-is_some : goal.returns-then-is_some

@@ -1,9 +1,4 @@
-use Rattle.re_syntax.proofs.Prelude.{codes, refl}
-use Rattle.re_syntax.specs.declared.tokens.ItemPlace.TheVariants.{Later}
-use Rattle.re_syntax.specs.BasicTokens.{interval}
-use Rattle.re_syntax.specs.BasicTokens.{BasicTokenFault, no_form, disallowed}
-use Rattle.re_syntax.proofs.lemmas.BasicTokenReading.{no_duplication_opens}
-use Rattle.re_syntax.proofs.lemmas.TokenReading.{closing_no_part, interval_stands, bad_interval}
+use Rattle.re_syntax.{proofs.{Prelude.{codes, refl}, lemmas.{BasicTokenReading.no_duplication_opens, TokenReading.{closing_no_part, interval_stands, bad_interval}}}, specs.{declared.tokens.ItemPlace.TheVariants.Later, BasicTokens.{interval, BasicTokenFault, no_form, disallowed}}}
 use Rattle.re_syntax.proofs.basic.duplications.read_duplication.Goals as goal
 
 pub read_interval-requires-clause-closes : goal.read_interval-requires-clause-closes

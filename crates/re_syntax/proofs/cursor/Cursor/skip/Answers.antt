@@ -1,5 +1,4 @@
-use Rattle.re_syntax.proofs.Prelude.{refl}
-use Rattle.re_syntax.proofs.lemmas.CursorsLaws.{begins-drop, begins_not}
+use Rattle.re_syntax.proofs.{Prelude.refl, lemmas.CursorsLaws.{begins-drop, begins_not}}
 use Rattle.re_syntax.proofs.cursor.Cursor.skip.Goals as goal
 
 pub returns-then-follows-clause-skipped : goal.returns-then-follows-clause-skipped

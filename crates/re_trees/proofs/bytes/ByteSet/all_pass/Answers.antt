@@ -1,5 +1,4 @@
-use Rattle.re_trees.proofs.Prelude.{true, members}
-use Rattle.re_trees.proofs.lemmas.SetBits.{was, one_passes, all_passed}
+use Rattle.re_trees.proofs.{Prelude.{true, members}, lemmas.SetBits.{was, one_passes, all_passed}}
 use Rattle.re_trees.proofs.bytes.ByteSet.all_pass.Goals as goal
 
 pub loop-byte-preserved : goal.loop-byte-preserved

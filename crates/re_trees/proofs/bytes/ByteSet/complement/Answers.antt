@@ -1,5 +1,4 @@
-use Rattle.re_trees.proofs.Prelude.{arith}
-use Rattle.re_trees.proofs.lemmas.SetBits.{members-complement}
+use Rattle.re_trees.proofs.{Prelude.arith, lemmas.SetBits.members-complement}
 use Rattle.re_trees.proofs.bytes.ByteSet.complement.Goals as goal
 
 pub returns : goal.returns

@@ -1,5 +1,4 @@
-use Rattle.re_trees.proofs.Prelude.{members}
-use Rattle.re_trees.proofs.lemmas.SetBits.{not_empty, not_two, is_only}
+use Rattle.re_trees.proofs.{Prelude.members, lemmas.SetBits.{not_empty, not_two, is_only}}
 use Rattle.re_trees.proofs.bytes.ByteSet.one_byte.Goals as goal
 
 pub returns-in_default : goal.returns-in_default

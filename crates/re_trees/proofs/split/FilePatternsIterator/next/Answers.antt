@@ -1,5 +1,4 @@
-use Rattle.re_trees.proofs.Prelude.{◌≡◌, ◌+◌, ◌-◌, ◌<◌, [], ◌∷◌, length, take, drop, rules, arith, sym, ap, ◌∙◌, add-one, take_rest, lines_of}
-use Rattle.re_trees.proofs.lemmas.SplittingLaws.{lines_of-at, lines_of-none, lines_of-empty, lines_of-beyond}
+use Rattle.re_trees.proofs.{Prelude.{◌≡◌, ◌+◌, ◌-◌, ◌<◌, [], ◌∷◌, length, take, drop, rules, arith, sym, ap, ◌∙◌, add-one, take_rest, lines_of}, lemmas.SplittingLaws.{lines_of-at, lines_of-none, lines_of-empty, lines_of-beyond}}
 use Rattle.re_trees.proofs.split.FilePatternsIterator.next.Goals as goal
 
 -- nothing is left

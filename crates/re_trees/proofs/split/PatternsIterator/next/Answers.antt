@@ -1,5 +1,4 @@
-use Rattle.re_trees.proofs.Prelude.{◌≡◌, ◌+◌, ◌-◌, [], ◌∷◌, length, take, drop, rules, arith, sym, ap, ◌∙◌, add-one, take_rest, list_of, texts_of_rest}
-use Rattle.re_trees.proofs.lemmas.SplittingLaws.{list_of-at, list_of-none}
+use Rattle.re_trees.proofs.{Prelude.{◌≡◌, ◌+◌, ◌-◌, [], ◌∷◌, length, take, drop, rules, arith, sym, ap, ◌∙◌, add-one, take_rest, list_of, texts_of_rest}, lemmas.SplittingLaws.{list_of-at, list_of-none}}
 use Rattle.re_trees.proofs.split.PatternsIterator.next.Goals as goal
 
 -- the text ends at the first newline

@@ -1,6 +1,4 @@
-use Rattle.re_trees.proofs.Prelude.{ap, ◌∙◌, arith}
-use Rattle.re_trees.specs.Working.Nodes.{nodes_of_all}
-use Rattle.re_trees.proofs.lemmas.NodesLaws.{nodes_and_one}
+use Rattle.re_trees.{proofs.{Prelude.{ap, ◌∙◌, arith}, lemmas.NodesLaws.nodes_and_one}, specs.Working.Nodes.nodes_of_all}
 use Rattle.re_trees.proofs.tree.Tree.drop.Goals as goal
 
 pub trees-smaller : goal.trees-smaller

@@ -1,5 +1,4 @@
-use Rattle.re_trees.proofs.Prelude.{◌+◌}
-use Rattle.re_trees.specs.Working.Nodes.{nodes_of, nodes_left}
+use Rattle.re_trees.{proofs.Prelude.◌+◌, specs.Working.Nodes.{nodes_of, nodes_left}}
 use Rattle.re_trees.proofs.tree.Tree.drop.Given as goal
 
 abbrev pub decreases-trees : goal.decreases-trees

@@ -1,5 +1,4 @@
-use Rattle.re_auto.proofs.Prelude.{arith}
-use Rattle.re_auto.proofs.lemmas.PartLemmas.{says_empty, skipped}
+use Rattle.re_auto.proofs.{Prelude.arith, lemmas.PartLemmas.{says_empty, skipped}}
 use Rattle.re_auto.proofs.build.ends.Ends.add_other.Goals as goal
 
 pub returns-clause-shows : goal.returns-clause-shows

@@ -1,5 +1,4 @@
-use Rattle.re_auto.proofs.Prelude.{rfl}
-use Rattle.re_auto.proofs.lemmas.PartLemmas.{always, says_empty}
+use Rattle.re_auto.proofs.{Prelude.rfl, lemmas.PartLemmas.{always, says_empty}}
 use Rattle.re_auto.proofs.build.ends.Ends.be_optional.Goals as goal
 
 pub returns-clause-shows : goal.returns-clause-shows

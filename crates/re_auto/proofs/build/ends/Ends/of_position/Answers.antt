@@ -1,5 +1,4 @@
-use Rattle.re_auto.proofs.Prelude.{refl}
-use Rattle.re_auto.proofs.lemmas.PartLemmas.{never_holds, says_empty}
+use Rattle.re_auto.proofs.{Prelude.refl, lemmas.PartLemmas.{never_holds, says_empty}}
 use Rattle.re_auto.proofs.build.ends.Ends.of_position.Goals as goal
 
 pub returns : goal.returns

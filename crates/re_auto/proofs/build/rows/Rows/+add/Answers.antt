@@ -1,9 +1,5 @@
-use Rattle.re_auto.proofs.Prelude.{rules, ◌≡◌, ◌<◌, [], Some, None, refl, ◌∙◌, arith, drop-length, IfOk-weaker, alt, cat, empty, begin, end, expression_of, the_lemmas}
+use Rattle.{re_auto.proofs.{Prelude.{rules, ◌≡◌, ◌<◌, [], Some, None, refl, ◌∙◌, arith, drop-length, IfOk-weaker, alt, cat, empty, begin, end, expression_of, the_lemmas}, lemmas.{Numbered.part_numbered, PartLemmas.{always, never_holds, width_of}, AddedLemmas.{blank_added, turn_added, branch_added, may_join, may_repeat, room_left, front, member_fits, branch_fits}, RepeatedLemmas.{turn_fits, turns_step, up_to_step, no_turns, no_more, bounded_added, unbounded_added, again_tail, any_added, never_added, once_added, maybe_added}}}, re_trees.proofs.lemmas.ExpressionLaws.{expression-Empty, expression-Set, expression-Not, expression-Begin, expression-End, expression-Cat, expression-Alt}}
 use Rattle.re_auto.proofs.build.rows.Rows.+add.Goals as goal
-use Rattle.re_trees.proofs.lemmas.ExpressionLaws.{expression-Empty, expression-Set, expression-Not, expression-Begin, expression-End, expression-Cat, expression-Alt}
-use Rattle.re_auto.proofs.lemmas.{Numbered.part_numbered, PartLemmas.always, PartLemmas.never_holds, PartLemmas.width_of}
-use Rattle.re_auto.proofs.lemmas.AddedLemmas.{blank_added, turn_added, branch_added, may_join, may_repeat, room_left, front, member_fits, branch_fits}
-use Rattle.re_auto.proofs.lemmas.RepeatedLemmas.{turn_fits, turns_step, up_to_step, no_turns, no_more, bounded_added, unbounded_added, again_tail, any_added, never_added, once_added, maybe_added}
 
 pub add-returns-in-Empty : goal.add-returns-in-Empty
 add-returns-in-Empty t c = rw (c.in-Empty.is, expression-Empty) (IfOk-weaker c.blank.result _ _ (λ a. blank_added empty refl (λ n b z. always (c.anywhere.ensures b z))) c.blank.ensures)

@@ -1,5 +1,4 @@
-use Rattle.re_auto.proofs.Prelude.{arith, length, refl, ap, ◌∙◌, with_items_is}
-use Rattle.re_auto.proofs.lemmas.BitLemmas.{or_never}
+use Rattle.re_auto.proofs.{Prelude.{arith, length, refl, ap, ◌∙◌, with_items_is}, lemmas.BitLemmas.or_never}
 use Rattle.re_auto.proofs.build.rows.Rows.cross.Goals as goal
 
 pub range_of-requires : goal.range_of-requires

@@ -1,5 +1,4 @@
-use Rattle.re_auto.proofs.Prelude.{rfl, trans, refl, ◌∙◌, with_items_is}
-use Rattle.re_auto.proofs.lemmas.BitLemmas.{one_of, or_never}
+use Rattle.re_auto.proofs.{Prelude.{rfl, trans, refl, ◌∙◌, with_items_is}, lemmas.BitLemmas.{one_of, or_never}}
 use Rattle.re_auto.proofs.build.rows.Rows.take.Goals as goal
 
 pub returns : goal.returns

@@ -1,5 +1,4 @@
-use Rattle.re_auto.proofs.Prelude.{expression_of, part_of, IsAccepting}
-use Rattle.re_auto.proofs.lemmas.SetsByWords.{accepted, matched_by}
+use Rattle.re_auto.proofs.{Prelude.{expression_of, part_of, IsAccepting}, lemmas.SetsByWords.{accepted, matched_by}}
 use Rattle.re_auto.proofs.step.automaton.Automaton.accepts.Goals as goal
 
 pub returns-clause-reported : goal.returns-clause-reported

@@ -1,5 +1,4 @@
-use Rattle.re_auto.proofs.Prelude.{refl, ◌≡◌, ◌∙◌, ap, length, with_items, expression_of, part_of, IsNext, Has, IsNextSet, with_items_is}
-use Rattle.re_auto.proofs.lemmas.SetsByWords.{stands_next, next_small}
+use Rattle.re_auto.proofs.{Prelude.{refl, ◌≡◌, ◌∙◌, ap, length, with_items, expression_of, part_of, IsNext, Has, IsNextSet, with_items_is}, lemmas.SetsByWords.{stands_next, next_small}}
 use Rattle.re_auto.proofs.step.automaton.Automaton.advance.Goals as goal
 
 is_written : (c : goal.After-add_built) → (with_items c.args.into.now.words c.step.new.into).items ≡ c.step.new.into

@@ -1,6 +1,5 @@
-use Rattle.re_auto.proofs.Prelude.{refl, symm, ◌≡◌, ◌∙◌, ap, length, with_items, expression_of, part_of, IsNext, Has, IsNextSet, with_items_is}
+use Rattle.re_auto.proofs.{Prelude.{refl, symm, ◌≡◌, ◌∙◌, ap, length, with_items, expression_of, part_of, IsNext, Has, IsNextSet, with_items_is}, lemmas.{SetsByWords.{stands_next, next_small}, WordLemmas.next_of_word}}
 use Rattle.re_auto.proofs.step.automaton.Automaton.advance_in_place.Goals as goal
-use Rattle.re_auto.proofs.lemmas.{SetsByWords.stands_next, SetsByWords.next_small, WordLemmas.next_of_word}
 
 is_written : (c : goal.After-add_built) → (with_items c.args.set.now.words c.put_word.new.into).items ≡ c.put_word.new.into
 is_written c = with_items_is c.args.set.now.words c.put_word.new.into (c.put_word.ensures.len ∙ c.deref_mut.ensures.len)

@@ -1,5 +1,4 @@
-use Rattle.re_auto.proofs.Prelude.{true≢false, sym, ◌∙◌, expression_of, AreTablesOf}
-use Rattle.re_auto.proofs.lemmas.SetsByWords.{nowhere_stays}
+use Rattle.re_auto.proofs.{Prelude.{true≢false, sym, ◌∙◌, expression_of, AreTablesOf}, lemmas.SetsByWords.nowhere_stays}
 use Rattle.re_auto.proofs.step.automaton.Automaton.begins.Goals as goal
 
 known : (c : goal.After-has) → AreTablesOf (expression_of c.args.self.now) c.self.inside.tables

@@ -1,5 +1,4 @@
-use Rattle.re_auto.proofs.Prelude.{ℕ, IfOk-weaker, replicate, expression_of, positions, Are, AreTablesOf, words_for}
-use Rattle.re_auto.proofs.lemmas.BitLemmas.{zeros_are}
+use Rattle.re_auto.proofs.{Prelude.{ℕ, IfOk-weaker, replicate, expression_of, positions, Are, AreTablesOf, words_for}, lemmas.BitLemmas.zeros_are}
 use Rattle.re_auto.proofs.step.automaton.Automaton.blank_words.Goals as goal
 
 pub returns : goal.returns

@@ -1,5 +1,4 @@
-use Rattle.re_auto.proofs.Prelude.{ℕ, ◌∙◌, arith, length-set, expression_of, part_of}
-use Rattle.re_auto.proofs.lemmas.ClassLemmas.{one_marked}
+use Rattle.re_auto.proofs.{Prelude.{ℕ, ◌∙◌, arith, length-set, expression_of, part_of}, lemmas.ClassLemmas.one_marked}
 use Rattle.re_auto.proofs.step.automaton.Automaton.bytes.Goals as goal
 
 pub bytes-preserved : goal.bytes-preserved

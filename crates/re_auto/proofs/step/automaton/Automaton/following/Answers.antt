@@ -1,5 +1,4 @@
-use Rattle.re_auto.proofs.Prelude.{◌∙◌, expression_of, positions}
-use Rattle.re_auto.proofs.lemmas.RowLemmas.{row_within}
+use Rattle.re_auto.proofs.{Prelude.{◌∙◌, expression_of, positions}, lemmas.RowLemmas.row_within}
 use Rattle.re_auto.proofs.step.automaton.Automaton.following.Goals as goal
 
 pub row-requires : goal.row-requires

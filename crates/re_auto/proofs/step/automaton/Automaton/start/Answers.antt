@@ -1,5 +1,4 @@
-use Rattle.re_auto.proofs.Prelude.{refl, ◌∙◌, with_items_is}
-use Rattle.re_auto.proofs.lemmas.SetsByWords.{starts_at}
+use Rattle.re_auto.proofs.{Prelude.{refl, ◌∙◌, with_items_is}, lemmas.SetsByWords.starts_at}
 use Rattle.re_auto.proofs.step.automaton.Automaton.start.Goals as goal
 
 pub returns-clause-stands : goal.returns-clause-stands

@@ -1,5 +1,4 @@
-use Rattle.re_auto.proofs.Prelude.{refl, sym, ◌∙◌, expression_of, positions}
-use Rattle.re_auto.proofs.lemmas.RowLemmas.{row_within}
+use Rattle.re_auto.proofs.{Prelude.{refl, sym, ◌∙◌, expression_of, positions}, lemmas.RowLemmas.row_within}
 use Rattle.re_auto.proofs.step.automaton.Automaton.step_words.Goals as goal
 
 pub add_rows-requires-clause-rows : goal.add_rows-requires-clause-rows

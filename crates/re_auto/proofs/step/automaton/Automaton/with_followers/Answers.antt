@@ -1,6 +1,4 @@
-use Rattle.re_auto.proofs.Prelude.{arith, inl, rfl, expression_of, InWord, part_of}
-use Rattle.re_auto.proofs.lemmas.BitLemmas.{one_added, none_left, chained, one_of, in_either}
-use Rattle.re_auto.proofs.lemmas.WordLemmas.{bounded}
+use Rattle.re_auto.proofs.{Prelude.{arith, inl, rfl, expression_of, InWord, part_of}, lemmas.{BitLemmas.{one_added, none_left, chained, one_of, in_either}, WordLemmas.bounded}}
 use Rattle.re_auto.proofs.step.automaton.Automaton.with_followers.Goals as goal
 
 pub following-requires : goal.following-requires

@@ -1,5 +1,4 @@
-use Rattle.re_auto.proofs.Prelude.{ℕ, expression_of, InWord, part_of}
-use Rattle.re_auto.proofs.lemmas.BitLemmas.{AreAmong, AddsUp}
+use Rattle.re_auto.proofs.{Prelude.{ℕ, expression_of, InWord, part_of}, lemmas.BitLemmas.{AreAmong, AddsUp}}
 use Rattle.re_auto.proofs.step.automaton.Automaton.with_followers.Given as goal
 
 -- what is already added and what is left to add are together the whole
