@@ -1,10 +1,11 @@
 //! Which patterns match which lines of a chunk.
-ghost use Rattle.std.specs.Prelude.{◌≡◌, ℕ, ◌+◌, ◌-◌, ◌<◌, ◌≤◌, [], ◌∷◌, ◌++◌, false, length, map};
-ghost use Rattle.std.specs.Prelude.{take, get_or, All, IfOk, IsTrue, OnErr, not, ◌||◌, replicate};
-ghost use Rattle.{std.specs.List.filter, line_finds.specs.Working.Finds.{numbers_at, is_paired}};
-ghost use Rattle.line_finds.specs.Working.Finds.{AreBelow, is_other, has_own, left_numbers};
-ghost use Rattle.line_finds.specs.Working.Pairs.{pairs_of, lowered_pair, is_outside, moved_pair};
-ghost use Rattle.line_finds.specs.Working.Pairs.{marked, marked_of, moved_to};
+ghost use Rattle.std.specs.Prelude.{◌≤◌, [], length, ◌∷◌, ℕ, ◌++◌, ◌||◌, false, ◌<◌, IsTrue, not};
+ghost use Rattle.std.specs.Prelude.{get_or, replicate, ◌-◌, OnErr, All, ◌≡◌, IfOk, take, ◌+◌, map};
+ghost use Rattle.std.specs.List.{filter};
+ghost use Rattle.line_finds.specs.Working.Pairs.{marked_of, marked, pairs_of, lowered_pair};
+ghost use Rattle.line_finds.specs.Working.Pairs.{moved_pair, is_outside, moved_to};
+ghost use Rattle.line_finds.specs.Working.Finds.{is_other, has_own, left_numbers, is_paired};
+ghost use Rattle.line_finds.specs.Working.Finds.{numbers_at, AreBelow};
 
 use std::alloc::{AllocError, Global};
 use std::marker::Model;

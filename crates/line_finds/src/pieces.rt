@@ -1,7 +1,8 @@
 //! Lists in one list.
 ghost use Rattle.std.specs.Prelude.{[], replicate, ◌∷◌, ◌<◌, get_or, ◌+◌, ◌-◌, IfOk, ◌++◌, OnErr};
 ghost use Rattle.std.specs.Prelude.{nat_eq, take, length, ◌^◌, ◌≤◌, slice_range, map, ℕ, drop, ◌≡◌};
-ghost use Rattle.{std.specs.Prelude.if◌then◌else◌, line_finds.specs.Working.Pieces.all_items};
+ghost use Rattle.std.specs.Prelude.{if◌then◌else◌};
+ghost use Rattle.line_finds.specs.Working.Pieces.{all_items};
 
 use re_trees::Span;
 use std::alloc::{AllocError, Global};

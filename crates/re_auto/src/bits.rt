@@ -1,7 +1,8 @@
 //! Sets of numbers, as words of 64 bits.
-ghost use Rattle.std.specs.Prelude.{◌≡◌, ℕ, ◌+◌, ◌*◌, ◌^◌, ◌<◌, ◌≤◌, ◌↔◌, ◌⊎◌, length, IsTrue};
-ghost use Rattle.{std.specs.Int.bit_at, re_auto.specs.Working.Bits.{Has, InWord, row_of}};
-ghost use Rattle.re_auto.specs.Working.{Ranges.{Covers, CoverRows}, Tables.most_words};
+ghost use Rattle.std.specs.Prelude.{IsTrue, ◌≡◌, ◌^◌, ℕ, ◌≤◌, ◌+◌, ◌<◌, ◌↔◌, ◌⊎◌, length, ◌*◌};
+ghost use Rattle.std.specs.Int.{bit_at};
+ghost use Rattle.re_auto.specs.Working.{Tables.most_words, Bits.{InWord, row_of, Has}};
+ghost use Rattle.re_auto.specs.Working.Ranges.{CoverRows, Covers};
 
 use crate::ranges::WordRange;
 

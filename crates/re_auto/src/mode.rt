@@ -1,4 +1,5 @@
-ghost use Rattle.{std.specs.Prelude.{IsTrue, ◌↔◌}, re_auto.specs.Working.SteppedSets.MayBegin};
+ghost use Rattle.std.specs.Prelude.{IsTrue, ◌↔◌};
+ghost use Rattle.re_auto.specs.Working.SteppedSets.{MayBegin};
 
 /// Where the stretches of a search may begin.
 #[derive(Clone, Copy, PartialEq, Eq, Debug, Drop)]

@@ -1,13 +1,14 @@
 //! Groups of positions by their greatest ends at a place of a line, and a step back on them.
-ghost use Rattle.std.specs.Prelude.{List, slice_index, ◌++◌, IfOk, ◌^◌, ◌<◌, ◌*◌, ◌≤◌, ◌∷◌, IsTrue};
-ghost use Rattle.std.specs.Prelude.{length, ◌-◌, [], vec_capacity, ◌/◌, ℕ, ◌⊎◌, suc, ◌≡◌, ◌+◌, ◌↔◌};
-ghost use Rattle.{std.specs.{Prelude.Bool, Int.bit_at}, re_trees.specs.Expression.Expression};
-ghost use Rattle.re_trees.specs.{Holds.positions, Working.Trees.expression_of};
-ghost use Rattle.re_auto.specs.Working.{Ranges.Covers, Bits.Has, Positions.part_of};
+ghost use Rattle.std.specs.Prelude.{◌^◌, ◌↔◌, ◌⊎◌, suc, IsTrue, length, ◌≤◌, ◌-◌, ℕ, ◌≡◌, ◌+◌, ◌*◌};
+ghost use Rattle.std.specs.Prelude.{◌/◌, Bool, ◌∷◌, slice_index, vec_capacity, ◌++◌, List, ◌<◌, []};
+ghost use Rattle.std.specs.{Prelude.IfOk, Int.bit_at};
+ghost use Rattle.re_trees.specs.{Expression.Expression, Holds.positions};
+ghost use Rattle.re_trees.specs.Working.Trees.{expression_of};
+ghost use Rattle.re_auto.specs.Working.{Positions.part_of, Ranges.Covers, Bits.Has};
 ghost use Rattle.{re_auto.specs.Working.Tables.most_words, re_ends.specs.Working.Closing.AreClosed};
-ghost use Rattle.re_ends.specs.Working.Closing.{CanEnd, AreMembers, Byte, AreMet, AreNoneMet};
-ghost use Rattle.re_ends.specs.Working.Groups.{HasGroups, IsRow, IsFirstIn, half_of, Names, In};
-ghost use Rattle.re_ends.specs.Working.Groups.{group_of, AreGroupsFor, IsStep, numbers_of};
+ghost use Rattle.re_ends.specs.Working.Closing.{AreNoneMet, CanEnd, AreMet, AreMembers, Byte};
+ghost use Rattle.re_ends.specs.Working.Groups.{half_of, group_of, In, IsRow, IsStep, Names};
+ghost use Rattle.re_ends.specs.Working.Groups.{HasGroups, IsFirstIn, AreGroupsFor, numbers_of};
 
 use crate::list::Run;
 use crate::preceding::Preceding;

@@ -1,13 +1,13 @@
 //! Steps between rows of groups, as far as they are kept.
 ghost use Rattle.std.specs.Prelude.{◌≡◌, ℕ, ◌+◌, ◌*◌, ◌^◌, ◌<◌, ◌≤◌, Bool, true, false, [], ◌∷◌};
 ghost use Rattle.std.specs.Prelude.{◌++◌, IsTrue, IfOk, IfSome, OnOk, List, length, get_or};
-ghost use Rattle.{std.specs.Prelude.slice_index, re_trees.specs.Expression.Expression};
+ghost use Rattle.std.specs.Prelude.{slice_index};
 ghost use Rattle.re_trees.specs.{Holds.positions, Working.Trees.expression_of};
-ghost use Rattle.re_auto.specs.Working.Positions.{part_of};
+ghost use Rattle.{re_trees.specs.Expression.Expression, re_auto.specs.Working.Positions.part_of};
 ghost use Rattle.re_ends.specs.Working.Groups.{AreGroupsFor, Fits, Leaves, IsRow, IsStep};
-ghost use Rattle.re_ends.specs.Working.{Groups.numbers_of, KeptSteps.{listed, unknown, no_step}};
-ghost use Rattle.re_ends.specs.Working.KeptSteps.{cell_at, rows_of, AreLonger, AreRowsFor};
-ghost use Rattle.re_ends.specs.Working.KeptSteps.{AreStepsFor, IsOperation, IsRowIn};
+ghost use Rattle.re_ends.specs.Working.{Groups.numbers_of, KeptSteps.{AreLonger, IsRowIn, no_step}};
+ghost use Rattle.re_ends.specs.Working.KeptSteps.{unknown, cell_at, listed, rows_of, AreRowsFor};
+ghost use Rattle.re_ends.specs.Working.KeptSteps.{IsOperation, AreStepsFor};
 
 use crate::groups::{Groups, first_in};
 use crate::list::{EndList, Run};

@@ -1,8 +1,8 @@
 //! The ends of groups, the greatest first.
 ghost use Rattle.std.specs.Prelude.{◌≡◌, ℕ, ◌+◌, ◌-◌, ◌*◌, ◌^◌, ◌<◌, ◌≤◌, List, [], ◌∷◌, ◌++◌};
 ghost use Rattle.std.specs.Prelude.{take, IfOk, drop, length, max, set, slice_index};
-ghost use Rattle.{std.specs.List.range_with_len, re_ends.specs.Working.Groups.{Fits, Grow, Leaves}};
-ghost use Rattle.re_ends.specs.Working.Groups.{end_of, numbers_of};
+ghost use Rattle.std.specs.List.{range_with_len};
+ghost use Rattle.re_ends.specs.Working.Groups.{Fits, Grow, Leaves, end_of, numbers_of};
 
 use std::alloc::{AllocError, Global};
 use std::marker::Model;

@@ -1,7 +1,7 @@
 //! A pass back over a line, by steps that are kept.
 ghost use Rattle.std.specs.Prelude.{◌≡◌, ℕ, ◌+◌, ◌-◌, ◌^◌, ◌<◌, ◌≤◌, Bool, false, List, suc, IfOk};
-ghost use Rattle.{std.specs.Prelude.{length, max}, re_trees.specs.Holds.positions};
-ghost use Rattle.re_trees.specs.Working.Trees.{expression_of};
+ghost use Rattle.std.specs.Prelude.{length, max};
+ghost use Rattle.re_trees.specs.{Holds.positions, Working.Trees.expression_of};
 ghost use Rattle.re_auto.specs.Working.Positions.{part_of, is_end};
 ghost use Rattle.re_ends.specs.Working.{GreatestEnds.IsBorder, KeptSteps.{AreStepsFor, IsRowIn}};
 ghost use Rattle.re_ends.specs.Working.EndTables.{IsPassFor, IsAtRow, IsAt, Adds, AddsFrom};

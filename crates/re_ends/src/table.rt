@@ -1,9 +1,10 @@
 //! Greatest ends, found by passes back over a line.
 ghost use Rattle.std.specs.Prelude.{IfOk, slice_index, ℕ, slice_range, ◌^◌, ◌<◌, ◌≤◌, ◌+◌, ◌⊎◌};
-ghost use Rattle.{std.specs.Prelude.{◌-◌, length, ◌≡◌}, re_trees.specs.Working.Trees.expression_of};
-ghost use Rattle.re_auto.specs.Meters.{many_built, many_reused};
-ghost use Rattle.re_ends.specs.Working.GreatestEnds.{FindsIn, IsBorder, MatchesPast, AddsEnds};
-ghost use Rattle.re_ends.specs.Working.EndTables.{piece, IsAt, AreEndsFor, IsFirstFrom};
+ghost use Rattle.std.specs.Prelude.{◌-◌, length, ◌≡◌};
+ghost use Rattle.{re_trees.specs.Working.Trees.expression_of, re_auto.specs.Meters.many_built};
+ghost use Rattle.{re_auto.specs.Meters.many_reused, re_ends.specs.Working.EndTables.IsFirstFrom};
+ghost use Rattle.re_ends.specs.Working.EndTables.{AreEndsFor, IsAt, piece};
+ghost use Rattle.re_ends.specs.Working.GreatestEnds.{MatchesPast, AddsEnds, IsBorder, FindsIn};
 
 use crate::pass::{Asked, Pass, Spot};
 use re_auto::{Automaton, Meter};

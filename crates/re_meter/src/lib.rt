@@ -1,8 +1,8 @@
 //! The meter on which every search counts its work.
 #![tactic(auto)]
 
-ghost use Rattle.{std.specs.Prelude.◌≡◌, re_meter.specs.Meters.{many_built, many_reused}};
-ghost use Rattle.re_meter.specs.Meters.{many_passed, fresh};
+ghost use Rattle.std.specs.Prelude.{◌≡◌};
+ghost use Rattle.re_meter.specs.Meters.{many_built, many_reused, many_passed, fresh};
 
 use std::marker::Model;
 

@@ -1,7 +1,8 @@
 //! Numbered sets of positions, and the set that each becomes over a byte, as far as that is held.
 ghost use Rattle.std.specs.Prelude.{◌↔◌, length, false, ◌++◌, OnOk, ◌-◌, ℕ, IfOk, ◌≤◌, slice_index};
 ghost use Rattle.std.specs.Prelude.{IfSome, ◌≡◌, ◌∷◌, slice_get, IsTrue, ◌+◌, ◌<◌, [], Some, ◌*◌};
-ghost use Rattle.{std.specs.NonZero.non_zero_usize_get, re_trees.specs.Working.Trees.expression_of};
+ghost use Rattle.std.specs.NonZero.{non_zero_usize_get};
+ghost use Rattle.re_trees.specs.Working.Trees.{expression_of};
 ghost use Rattle.re_auto.specs.Working.StateSets.{IsNowhere, IsSame, IsMadeFor, IsNextSet};
 ghost use Rattle.re_steps.specs.Working.Rows.{IsMarkOf, IsCellOf, IsKnownFor, IsRightFor, IsBlank};
 ghost use Rattle.re_steps.specs.Working.Rows.{limit, IsSoundFor, cache_of, Extends, Keeps};

@@ -1,5 +1,6 @@
 //! Bytes as strings are compared.
-ghost use Rattle.{std.specs.Prelude.◌≡◌, re_strings.specs.Working.Keys.key};
+ghost use Rattle.std.specs.Prelude.{◌≡◌};
+ghost use Rattle.re_strings.specs.Working.Keys.{key};
 
 /// The byte as strings are compared: an upper-case letter by its lower case where `fold` is set.
 #[inline]

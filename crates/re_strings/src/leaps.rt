@@ -1,8 +1,9 @@
 //! How far a search for many strings may leap while none of them has begun.
 ghost use Rattle.std.specs.Prelude.{◌≡◌, ℕ, ◌+◌, ◌^◌, ◌<◌, ◌≤◌, List, IfOk, length, map};
-ghost use Rattle.{std.specs.Prelude.slice_index, re_trees.specs.Bytes.Text};
-ghost use Rattle.re_strings.specs.Working.FixedSets.{IsLeaps, AreLeapsOf, NoneBegins, pair_row};
-ghost use Rattle.re_strings.specs.Working.{Branches.text_at, Keys.keys};
+ghost use Rattle.std.specs.Prelude.{slice_index};
+ghost use Rattle.{re_trees.specs.Bytes.Text, re_strings.specs.Working.Branches.text_at};
+ghost use Rattle.re_strings.specs.Working.FixedSets.{AreLeapsOf, IsLeaps, NoneBegins, pair_row};
+ghost use Rattle.re_strings.specs.Working.Keys.{keys};
 
 use crate::keys::key_of;
 use std::alloc::{AllocError, Global};

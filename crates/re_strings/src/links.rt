@@ -1,9 +1,9 @@
 //! The fallbacks of the nodes, and the strings that they end with.
 ghost use Rattle.std.specs.Prelude.{◌≡◌, ℕ, ◌+◌, ◌^◌, ◌<◌, ◌≤◌, ◌++◌, [], ◌∷◌, IfOk, length};
-ghost use Rattle.{std.specs.Prelude.slice_index, re_strings.specs.Working.FixedSets.AreFallbacks};
-ghost use Rattle.re_strings.specs.Working.FixedSets.{StandsFor, Labels, AreOwn, AreLinked, StepsOn};
-ghost use Rattle.re_strings.specs.Working.FixedSets.{IsTrieOf, own_or, AreFallbacksOf, IsTrie};
-ghost use Rattle.re_strings.specs.Working.FixedSets.{AreLinkedFor, AreSteps, AreStepsOf};
+ghost use Rattle.std.specs.Prelude.{slice_index};
+ghost use Rattle.re_strings.specs.Working.FixedSets.{StepsOn, AreSteps, AreFallbacksOf, IsTrieOf};
+ghost use Rattle.re_strings.specs.Working.FixedSets.{AreLinked, AreStepsOf, Labels, own_or, IsTrie};
+ghost use Rattle.re_strings.specs.Working.FixedSets.{AreLinkedFor, AreFallbacks, StandsFor, AreOwn};
 
 use crate::aho_corasick::step;
 use crate::trie::Trie;

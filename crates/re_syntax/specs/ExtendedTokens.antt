@@ -1,14 +1,15 @@
 -- The tokens of extended expressions (XBD 9.4, 9.5.1), and why none is at a place: the fault's
 -- kind, and the text from its place on. The truth value says whether a group is open there.
 use Rattle.std.specs.Prelude.{Bool, Some, ◌≡◌, Option, ◌++◌, IsTrue, not, None, ℕ, ◌∷◌, ◌≢◌, ◌&&◌}
-use Rattle.{std.specs.Prelude.codes, re_syntax.specs.IntervalFaults.IsDisallowed}
-use Rattle.re_syntax.specs.{BracketFaults.BracketFault, Escapes.{is_in, is_undefined}}
-use Rattle.re_syntax.specs.declared.fault.FaultKind.{FaultKind, TheVariants.NothingToRepeat}
+use Rattle.std.specs.Prelude.{codes}
+use Rattle.re_syntax.specs.{IntervalFaults.IsDisallowed, BracketFaults.BracketFault}
+use Rattle.re_syntax.specs.Escapes.{is_undefined, is_in}
+use Rattle.re_syntax.specs.declared.fault.FaultKind.{TheVariants.NothingToRepeat, FaultKind}
 use Rattle.re_syntax.specs.declared.tokens.ItemPlace.{TheVariants.Later, ItemPlace}
-use Rattle.re_syntax.specs.Intervals.{Interval, IsAllowed, ClosedInterval, HasNoInterval}
-use Rattle.re_syntax.specs.Tokens.{Token, opening, closing, bar, lead, atom, times}
+use Rattle.re_syntax.specs.Intervals.{Interval, IsAllowed, HasNoInterval, ClosedInterval}
+use Rattle.re_syntax.specs.Tokens.{times, opening, closing, atom, lead, Token, bar}
 use Rattle.re_syntax.specs.{Brackets.IsBracket, Profile.extended_refused, EscapeFaults.EscapeFault}
-use Rattle.re_trees.specs.{Bytes.{any_but_nul, Text}, Expression.{Expression, one_of, end, byte}}
+use Rattle.re_trees.specs.{Expression.{one_of, Expression, byte, end}, Bytes.{any_but_nul, Text}}
 
 -- `*`, `+`, `?`, or an interval in braces (XBD 9.4.6)
 pub data Duplication : Text → ℕ → Option ℕ → Type 0 where

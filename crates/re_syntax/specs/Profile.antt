@@ -1,6 +1,7 @@
 -- The limits of what is read, and the bytes that this grep leaves undefined: its choices where the
 -- standard leaves one.
-use Rattle.{std.specs.Prelude.{ℕ, codes}, re_trees.specs.Bytes.Text}
+use Rattle.std.specs.Prelude.{ℕ, codes}
+use Rattle.re_trees.specs.Bytes.{Text}
 pub use Rattle.re_trees.specs.Limits.{most_positions, most_patterns, most_states}
 
 -- the greatest number in an interval, RE_DUP_MAX (XBD 9.3.6, 9.4.6)

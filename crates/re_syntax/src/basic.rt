@@ -1,11 +1,11 @@
 //! Basic regular expressions (XBD 9.3), with GNU grep's `\+`, `\?` and `\|`, and their tokens.
-ghost use Rattle.std.specs.Prelude.{◌≤◌, IfOk, MatchOption, drop, ◌<◌, ◌≡◌, codes, MatchBool, Bool};
-ghost use Rattle.{std.specs.Prelude.{length, IfErr}, re_trees.specs.Bytes.Begins};
-ghost use Rattle.re_syntax.specs.BasicTokens.{IsAtEnd, Duplication, NeedsItem, BasicTokenFault};
+ghost use Rattle.std.specs.Prelude.{codes, length, Bool, ◌≤◌, drop, MatchBool, ◌<◌, MatchOption};
+ghost use Rattle.std.specs.Prelude.{IfErr, IfOk, ◌≡◌};
+ghost use Rattle.{re_trees.specs.Bytes.Begins, re_syntax.specs.Working.Ahead.IsAfter};
+ghost use Rattle.re_syntax.specs.Working.BasicSteps.{ComesAfterTail, HasNoTimes, HasNoTail};
+ghost use Rattle.re_syntax.specs.Working.{DuplicationSteps.HasOne, TokenSteps.Stands};
 ghost use Rattle.re_syntax.specs.{Faults.IsAt, declared.syntax.Syntax.TheVariants.Basic};
-ghost use Rattle.re_syntax.specs.Working.BasicSteps.{HasNoTail, ComesAfterTail, HasNoTimes};
-ghost use Rattle.re_syntax.specs.Working.{Ahead.IsAfter, TokenSteps.Stands};
-ghost use Rattle.re_syntax.specs.Working.DuplicationSteps.{HasOne};
+ghost use Rattle.re_syntax.specs.BasicTokens.{IsAtEnd, Duplication, NeedsItem, BasicTokenFault};
 
 use self::duplications::{needs_item, read_duplication};
 use crate::ahead::after;

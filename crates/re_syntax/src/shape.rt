@@ -1,10 +1,10 @@
 //! What is known at a place of a text, in numbers alone: how deep its groups and duplications are,
 //! and how many positions it has.
-ghost use Rattle.{std.specs.Prelude.{◌≡◌, ◌+◌, IfOk, IfErr}, re_trees.specs.Holds.copies};
-ghost use Rattle.{re_trees.specs.Bytes.Text, re_syntax.specs.FirstFaults.start};
-ghost use Rattle.re_syntax.specs.Working.{ShapeSteps.{Refuses, Ends, EndsOpen}, Counted.up_to_word};
+ghost use Rattle.std.specs.Prelude.{◌≡◌, ◌+◌, IfOk, IfErr};
+ghost use Rattle.re_trees.specs.{Bytes.Text, Holds.copies};
+ghost use Rattle.re_syntax.specs.Working.{ShapeSteps.{Ends, EndsOpen, Refuses}, Counted.up_to_word};
 ghost use Rattle.re_syntax.specs.Working.{Builds.nothing_built, TokenSteps.token_of};
-ghost use Rattle.re_syntax.specs.Tokens.{times, opening, closing};
+ghost use Rattle.re_syntax.specs.{Tokens.{closing, opening, times}, FirstFaults.start};
 ghost use Rattle.re_syntax.specs.Working.ShapeSteps.{Shows, Counts as HasCounts, IsBounded, Takes};
 
 use crate::fault::{FaultKind, PatternFault};

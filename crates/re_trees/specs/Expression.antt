@@ -1,5 +1,6 @@
 -- Regular expressions, apart from how they are written (XBD 9.3, 9.4).
-use Rattle.{std.specs.Prelude.{ℕ, List, [], ◌∷◌, Option}, re_trees.specs.Bytes.{Bytes, only}}
+use Rattle.std.specs.Prelude.{ℕ, List, [], ◌∷◌, Option}
+use Rattle.re_trees.specs.Bytes.{Bytes, only}
 
 pub data Expression : Type 0 where
   empty : Expression

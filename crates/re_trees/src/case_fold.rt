@@ -1,5 +1,5 @@
-ghost use Rattle.{std.specs.Prelude.{◌≡◌, map}, re_trees.specs.Working.Trees.expression_of};
-ghost use Rattle.re_trees.specs.Holds.{folded};
+ghost use Rattle.std.specs.Prelude.{◌≡◌, map};
+ghost use Rattle.re_trees.specs.{Working.Trees.expression_of, Holds.folded};
 
 use crate::tree::Tree;
 

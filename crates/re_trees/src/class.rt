@@ -1,4 +1,5 @@
-ghost use Rattle.{std.specs.Prelude.{◌≡◌, ◌++◌, codes}, re_trees.specs.Bytes.class_name};
+ghost use Rattle.std.specs.Prelude.{◌≡◌, ◌++◌, codes};
+ghost use Rattle.re_trees.specs.Bytes.{class_name};
 
 /// A class of bytes in the POSIX locale (XBD 7.3.1), as a bracket expression names it. Its bytes
 /// are `in_class` of `specs/Bytes.antt`.

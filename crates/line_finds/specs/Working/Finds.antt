@@ -1,7 +1,8 @@
 -- What is found in the lines of a chunk, and how it is kept.
 use Rattle.std.specs.Prelude.{ℕ, zero, suc, ◌+◌, ◌-◌, ◌<◌, ◌==◌, Bool, not, ◌||◌, List, [], ◌∷◌}
 use Rattle.std.specs.Prelude.{All, length, map, get_or, nat_eq, nat_le, nat_lt, if◌then◌else◌}
-use Rattle.{std.specs.List.{filter, list_any}, re_trees.specs.declared.span.Span.Span}
+use Rattle.std.specs.List.{filter, list_any}
+use Rattle.re_trees.specs.declared.span.Span.{Span}
 
 -- the numbers of the patterns that match a line, and the parts of it that are kept
 pub record Finds : Type 0 where

@@ -1,8 +1,9 @@
 -- What is found in lines, with a mark for each line that says whether some pattern matches it.
-use Rattle.std.specs.Prelude.{◌≡◌, ℕ, zero, suc, ◌+◌, ◌<◌, ◌≤◌, Bool, false, List, [], length}
-use Rattle.{std.specs.Prelude.{get_or, if◌then◌else◌}, re_trees.specs.declared.span.Span.Span}
-use Rattle.line_finds.specs.Working.Finds.{FoundIn, is_paired, AreBelow, paired_before}
-use Rattle.line_finds.specs.declared.found.Found.TheInside.{Inside}
+use Rattle.std.specs.Prelude.{◌≡◌, ℕ, get_or, Bool, ◌+◌, List, zero, suc, [], ◌≤◌, false}
+use Rattle.std.specs.Prelude.{if◌then◌else◌, ◌<◌, length}
+use Rattle.re_trees.specs.declared.span.Span.{Span}
+use Rattle.line_finds.specs.{declared.found.Found.TheInside.Inside, Working.Finds.FoundIn}
+use Rattle.line_finds.specs.Working.Finds.{is_paired, paired_before, AreBelow}
 
 -- the view of what is found
 abbrev pub found_in : Inside → FoundIn

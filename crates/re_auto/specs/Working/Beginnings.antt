@@ -1,6 +1,7 @@
 -- Sets of bytes by marks.
 use Rattle.std.specs.Prelude.{ℕ, ◌<◌, ◌≤◌, Bool, false, IsTrue, List, length, slice_index}
-use Rattle.{std.specs.Prelude.slice_index_or, re_trees.specs.Bytes.Text}
+use Rattle.std.specs.Prelude.{slice_index_or}
+use Rattle.re_trees.specs.Bytes.{Text}
 
 -- the byte is marked
 abbrev pub IsMarked : List Bool → ℕ → Type 0

@@ -1,7 +1,7 @@
 -- Sets of positions, stepped over a line one byte at a time.
-use Rattle.{std.specs.Prelude.{ℕ, ⊤, Bool, IsTrue, ◌⊎◌, ◌↔◌}, re_trees.specs.Bytes.Text}
+use Rattle.std.specs.Prelude.{ℕ, ⊤, Bool, IsTrue, ◌⊎◌, ◌↔◌}
+use Rattle.{re_trees.specs.Bytes.Text, re_auto.specs.Working.Positions.{Reaches, Part, is_begin}}
 use Rattle.re_auto.specs.declared.mode.Mode.{TheVariants.{Search, Whole}, Mode}
-use Rattle.re_auto.specs.Working.Positions.{Part, is_begin, Reaches}
 
 -- whether a stretch may begin at a place, by whether that is the line's first
 abbrev pub MayBegin : Mode → Bool → Type 0

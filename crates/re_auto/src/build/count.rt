@@ -1,6 +1,7 @@
 //! The number of an expression's positions, without writing its intervals out.
-ghost use Rattle.{std.specs.Prelude.{◌≡◌, ◌<◌, map, min}, re_trees.specs.Expression.cat};
-ghost use Rattle.re_trees.specs.{Working.Trees.expression_of, Holds.{copies, positions}};
+ghost use Rattle.std.specs.Prelude.{◌≡◌, ◌<◌, map, min};
+ghost use Rattle.re_trees.specs.{Holds.{positions, copies}, Working.Trees.expression_of};
+ghost use Rattle.re_trees.specs.Expression.{cat};
 
 use re_trees::{MOST_POSITIONS, Tree};
 

@@ -1,6 +1,7 @@
 //! From an expression to the tables of its automaton.
-ghost use Rattle.{std.specs.Prelude.{◌≡◌, ◌≤◌, IfOk, IfErr}, re_trees.specs.Limits.most_positions};
-ghost use Rattle.re_trees.specs.{Holds.positions, Working.Trees.expression_of};
+ghost use Rattle.std.specs.Prelude.{◌≡◌, ◌≤◌, IfOk, IfErr};
+ghost use Rattle.re_trees.specs.{Limits.most_positions, Holds.positions};
+ghost use Rattle.re_trees.specs.Working.Trees.{expression_of};
 ghost use Rattle.re_auto.specs.Working.Tables.{IsRefused, AreTablesOf};
 
 use crate::beginnings::Beginnings;

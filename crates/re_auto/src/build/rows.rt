@@ -1,10 +1,11 @@
 //! The rows of an automaton's tables, while they are written.
 ghost use Rattle.std.specs.Prelude.{◌≡◌, ℕ, ◌+◌, ◌*◌, ◌<◌, ◌≤◌, ◌↔◌, ◌⊎◌, IfOk, IsTrue, length};
-ghost use Rattle.{std.specs.Int.bit_at, re_trees.specs.Limits.most_positions};
-ghost use Rattle.{re_trees.specs.Working.Trees.members, re_auto.specs.Working.Tables.most_words};
-ghost use Rattle.re_auto.specs.Working.{Positions.{again, in_turn, one_position}, Ranges.Covers};
-ghost use Rattle.re_auto.specs.Working.PartTables.{Adds, AreBlankRows, HasRows, HasWidth, Shows};
-ghost use Rattle.re_auto.specs.Working.{PartTables.{Wanted, crossing, shown}, Bits.{Has, row_of}};
+ghost use Rattle.std.specs.Int.{bit_at};
+ghost use Rattle.re_trees.specs.{Limits.most_positions, Working.Trees.members};
+ghost use Rattle.re_auto.specs.Working.Positions.{one_position, again, in_turn};
+ghost use Rattle.re_auto.specs.Working.{Tables.most_words, Ranges.Covers, Bits.{Has, row_of}};
+ghost use Rattle.re_auto.specs.Working.PartTables.{Wanted, Shows, crossing, AreBlankRows, HasWidth};
+ghost use Rattle.re_auto.specs.Working.PartTables.{Adds, HasRows, shown};
 
 use crate::bits;
 use crate::build::ends::{Ends, blank_set};

@@ -1,12 +1,12 @@
 //! The position automaton of an expression, and the steps of sets of its positions.
-ghost use Rattle.std.specs.Prelude.{◌≡◌, ℕ, suc, ◌-◌, Bool, List, true, false, ◌<◌, ◌≤◌, ◌↔◌, Some};
-ghost use Rattle.std.specs.Prelude.{IsTrue, IfOk, IfErr, length, slice_get, slice_index};
+ghost use Rattle.std.specs.Prelude.{suc, slice_get, Some, IfErr, false, slice_index, length, List};
+ghost use Rattle.std.specs.Prelude.{IfOk, ◌↔◌, IsTrue, ◌≤◌, true, ◌-◌, Bool, ℕ, ◌<◌, ◌≡◌};
 ghost use Rattle.re_trees.specs.{Bytes.Text, Working.Trees.expression_of, Holds.{positions, Holds}};
 ghost use Rattle.{re_trees.specs.Limits.most_positions, re_auto.specs.Working.SteppedSets.MayBegin};
-ghost use Rattle.re_auto.specs.Working.{SteppedSets.IsNext, Positions.{part_of, is_begin, is_end}};
-ghost use Rattle.re_auto.specs.Working.StateSets.{IsMadeFor, IsAccepting, AreAlikeInClasses};
-ghost use Rattle.re_auto.specs.Working.{StateSets.{IsNowhere, StandsAt, IsNextSet}, Bits.Has};
-ghost use Rattle.re_auto.specs.Working.{Bits.Are, Tables.{CanBegin, IsRefused, words_for, Marks}};
+ghost use Rattle.re_auto.specs.Working.{SteppedSets.IsNext, Positions.{is_begin, is_end, part_of}};
+ghost use Rattle.re_auto.specs.Working.StateSets.{IsAccepting, IsNowhere, IsMadeFor, IsNextSet};
+ghost use Rattle.re_auto.specs.Working.{StateSets.{StandsAt, AreAlikeInClasses}, Bits.{Has, Are}};
+ghost use Rattle.re_auto.specs.Working.Tables.{words_for, Marks, IsRefused, CanBegin};
 ghost use Rattle.re_auto.specs.declared.mode.Mode.TheVariants.{Search};
 ghost use Rattle.re_meter.specs.Meters.{many_built};
 

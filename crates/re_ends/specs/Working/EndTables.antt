@@ -1,7 +1,8 @@
 -- Greatest ends on their way back over a line, by steps that are kept.
 use Rattle.std.specs.Prelude.{◌≡◌, ℕ, ◌+◌, ◌<◌, ◌≤◌, ◌↔◌, ◌⊎◌, List, Some, None, length}
-use Rattle.{std.specs.Prelude.slice_index, re_trees.specs.{Bytes.Text, declared.span.Span.Span}}
-use Rattle.re_trees.specs.{Expression.Expression, Holds.positions, Working.Trees.expression_of}
+use Rattle.std.specs.Prelude.{slice_index}
+use Rattle.re_trees.specs.{Bytes.Text, declared.span.Span.Span, Expression.Expression}
+use Rattle.re_trees.specs.{Holds.positions, Working.Trees.expression_of}
 use Rattle.re_auto.specs.Working.Positions.{is_end, part_of}
 use Rattle.re_ends.specs.Working.{GreatestEnds.{FindsIn, MatchesPast}, Groups.{AreGroupsFor, Ends}}
 use Rattle.re_ends.specs.Working.{Groups.StandAt, KeptSteps.{AreStepsFor, IsRowIn}}

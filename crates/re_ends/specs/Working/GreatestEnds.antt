@@ -1,9 +1,10 @@
 -- Greatest ends: for each position, the greatest place at which a stretch can end that takes the
 -- byte at a place with it.
-use Rattle.std.specs.Prelude.{suc, length, Some, ◌≡◌, ◌↔◌, ◌⊎◌, slice_index, Option, ◌≤◌, List}
-use Rattle.{std.specs.Prelude.{Bool, ℕ, ◌<◌, zero, None, ◌+◌}, re_trees.specs.Parts.IsFound}
-use Rattle.re_trees.specs.{Bytes.Text, Holds.Holds, declared.span.Span.Span, Expression.Expression}
-use Rattle.re_auto.specs.Working.Positions.{part_of, is_end, Part, ByteAt}
+use Rattle.std.specs.Prelude.{◌≡◌, None, ◌<◌, suc, Option, ◌≤◌, ◌+◌, ℕ, slice_index, Bool, List}
+use Rattle.std.specs.Prelude.{length, ◌⊎◌, Some, zero, ◌↔◌}
+use Rattle.re_trees.specs.{declared.span.Span.Span, Parts.IsFound, Holds.Holds}
+use Rattle.re_trees.specs.{Expression.Expression, Bytes.Text}
+use Rattle.re_auto.specs.Working.Positions.{is_end, Part, part_of, ByteAt}
 pub use Rattle.re_trees.specs.Working.PutEnds.{AddsEnds}
 
 -- A stretch that takes the byte at place p with position q can take n bytes more and end there.

@@ -2,9 +2,9 @@
 -- with greater ends come first. A row has the pieces of all groups, and a list has the groups' ends.
 use Rattle.std.specs.Prelude.{◌≡◌, ℕ, zero, suc, ◌/◌, ◌%◌, ◌^◌, ◌<◌, ◌≤◌, ◌↔◌, ◌⊎◌, Bool, List, []}
 use Rattle.std.specs.Prelude.{◌∷◌, ◌++◌, flat_map, length, map, slice_index, vec_capacity}
-use Rattle.{std.specs.{Int.bit_at, List.range_with_len}, re_trees.specs.Bytes.Text}
-use Rattle.re_trees.specs.{Expression.Expression, Holds.positions, Limits.most_positions}
-use Rattle.re_auto.specs.Working.{Positions.Part, Tables.words_for}
+use Rattle.std.specs.{List.range_with_len, Int.bit_at}
+use Rattle.re_trees.specs.{Holds.positions, Limits.most_positions, Expression.Expression}
+use Rattle.{re_trees.specs.Bytes.Text, re_auto.specs.Working.{Positions.Part, Tables.words_for}}
 use Rattle.re_ends.specs.declared.{groups.Groups.Groups, list.Run.Run}
 use Rattle.re_ends.specs.Working.{GreatestEnds.LeadsPast, Preceding.ArePrecedingFor}
 

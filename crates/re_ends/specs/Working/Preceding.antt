@@ -1,7 +1,8 @@
 -- For each position of an expression, those that can come directly before it.
-use Rattle.{std.specs.Prelude.{◌≡◌, ℕ, suc, ◌↔◌, length}, re_trees.specs.Expression.Expression}
-use Rattle.{re_trees.specs.Holds.positions, re_auto.specs.Working.Bits.{Has, RowsAre}}
-use Rattle.re_auto.specs.Working.{Positions.part_of, Ranges.CoverRows, Tables.words_for}
+use Rattle.std.specs.Prelude.{◌≡◌, ◌↔◌, suc, ℕ, length}
+use Rattle.re_trees.specs.{Expression.Expression, Holds.positions}
+use Rattle.re_auto.specs.Working.{Tables.words_for, Ranges.CoverRows, Positions.part_of}
+use Rattle.re_auto.specs.Working.Bits.{RowsAre, Has}
 use Rattle.re_ends.specs.declared.preceding.Preceding.{Preceding}
 
 -- The row of each position is the set of those that it can follow. A chained position can follow the

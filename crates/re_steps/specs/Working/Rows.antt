@@ -1,16 +1,16 @@
 -- Numbered sets of positions, and for each a row of cells with the set after each byte, as far as
 -- that is held.
-use Rattle.std.specs.Prelude.{◌-◌, if◌then◌else◌, ℕ, ◌↔◌, ◌+◌, suc, false, ◌^◌, ◌≡◌, IsTrue, ◌≤◌}
-use Rattle.std.specs.Prelude.{slice_index, zero, ◌⊎◌, List, ◌*◌, [], slice_get, true, Some, nat_lt}
-use Rattle.{std.specs.Prelude.{◌<◌, length}, re_trees.specs.Bytes.Text}
-use Rattle.re_trees.specs.{Working.Trees.expression_of, Expression.Expression}
-use Rattle.re_auto.specs.Working.StateSets.{IsMadeFor, IsSame, IsNowhere, IsNextSet, IsAccepting}
-use Rattle.re_auto.specs.Working.StateSets.{StandsAt, AreAlikeInClasses}
+use Rattle.std.specs.Prelude.{Some, ◌<◌, suc, ℕ, slice_index, ◌^◌, ◌≡◌, List, ◌↔◌, ◌*◌, ◌≤◌}
+use Rattle.std.specs.Prelude.{slice_get, IsTrue, false, [], if◌then◌else◌, true, length, ◌+◌, zero}
+use Rattle.std.specs.Prelude.{nat_lt, ◌-◌, ◌⊎◌}
+use Rattle.re_trees.specs.{Expression.Expression, Bytes.Text, Working.Trees.expression_of}
 use Rattle.re_auto.specs.declared.{step.state_set.StateSet.StateSet, mode.Mode.TheVariants.Search}
-use Rattle.{re_auto.specs.declared.mode.Mode.Mode, re_meter.specs.Meters.{Steps, many_reused}}
-use Rattle.re_steps.specs.Working.{Pairs.{unknown, Mirrors}, Stages.{IsPlain, Cache, Goes, Stage}}
+use Rattle.re_auto.specs.{declared.mode.Mode.Mode, Working.StateSets.{IsMadeFor, IsSame, IsNowhere}}
+use Rattle.re_auto.specs.Working.StateSets.{IsNextSet, IsAccepting, StandsAt, AreAlikeInClasses}
+use Rattle.re_meter.specs.Meters.{Steps, many_reused}
 use Rattle.re_steps.specs.declared.table.{Acceptance.Acceptance, LineSearch.LineSearch}
-use Rattle.re_steps.specs.declared.table.StepTable.{StepTable}
+use Rattle.re_steps.specs.{declared.table.StepTable.StepTable, Working.Pairs.{Mirrors, unknown}}
+use Rattle.re_steps.specs.Working.Stages.{IsPlain, Cache, Stage, Goes}
 
 -- numbered sets, their marks and cells, what the cache holds of these, and how many cells it may hold
 pub record Rows : Type 0 where

@@ -1,7 +1,8 @@
 -- Matchers that step sets of positions over a line, and what is known on the way.
-use Rattle.{std.specs.Prelude.{ℕ, ◌<◌}, re_trees.specs.{Bytes.Text, Expression.Expression}}
-use Rattle.{re_trees.specs.Holds.Holds, re_auto.specs.declared.mode.Mode.{Mode, TheVariants.Search}}
-use Rattle.re_auto.specs.Working.{Positions.is_begin, StateSets.IsMadeFor, SteppedSets.MayBegin}
+use Rattle.std.specs.Prelude.{ℕ, ◌<◌}
+use Rattle.re_trees.specs.{Bytes.Text, Expression.Expression, Holds.Holds}
+use Rattle.re_auto.specs.Working.{SteppedSets.MayBegin, StateSets.IsMadeFor, Positions.is_begin}
+use Rattle.re_auto.specs.declared.mode.Mode.{Mode, TheVariants.Search}
 use Rattle.re_steps.specs.declared.sets.SetPair.{SetPair}
 
 -- both sets were made for the automaton of this expression

@@ -1,14 +1,14 @@
 -- How a search goes over a line, byte by byte: what its cache holds on the way, and which steps it
 -- counts.
-use Rattle.std.specs.Prelude.{◌≡◌, ℕ, zero, suc, ◌+◌, ◌*◌, ◌<◌, ◌≤◌, ◌↔◌, ◌⊎◌, Bool, true, false}
-use Rattle.std.specs.Prelude.{IsTrue, if◌then◌else◌, List, [], length, nat_eq, slice_get}
-use Rattle.std.specs.{Prelude.{slice_index, Some, IsSome}, Map.lookup}
+use Rattle.std.specs.Prelude.{suc, true, IsSome, length, ◌*◌, slice_index, ◌≤◌, ℕ, [], ◌≡◌, false}
+use Rattle.std.specs.Prelude.{Bool, ◌⊎◌, IsTrue, nat_eq, ◌↔◌, List, Some, ◌+◌, slice_get, zero, ◌<◌}
+use Rattle.std.specs.{Prelude.if◌then◌else◌, Map.lookup}
 use Rattle.re_trees.specs.{Expression.Expression, Bytes.Text}
-use Rattle.re_auto.specs.Working.StateSets.{IsNextSet, IsNowhere, IsSame, IsAccepting, TakenAlike}
-use Rattle.re_auto.specs.Working.{StateSets.StandsAt, Positions.part_of, Tables.CanBegin}
+use Rattle.re_auto.specs.Working.StateSets.{TakenAlike, StandsAt, IsNextSet, IsNowhere, IsAccepting}
+use Rattle.re_auto.specs.Working.{StateSets.IsSame, Positions.part_of, Tables.CanBegin}
 use Rattle.re_auto.specs.declared.mode.Mode.{Mode, TheVariants.{Search, Whole}}
 use Rattle.re_auto.specs.declared.step.state_set.StateSet.{StateSet}
-use Rattle.re_meter.specs.Meters.{many_built, many_reused, Steps}
+use Rattle.re_meter.specs.Meters.{many_reused, Steps, many_built}
 
 -- A cache: a class for each byte, numbered sets of positions, and entries. The entry for a set and
 -- a byte is at the set's number times `stride`, plus the byte's class.

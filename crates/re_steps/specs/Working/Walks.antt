@@ -1,6 +1,7 @@
 -- Where a search gets that goes on over a line by held pairs.
 use Rattle.std.specs.Prelude.{ℕ, slice_get, length, Bool, ◌≡◌, suc, ◌≤◌, Some, false, slice_range}
-use Rattle.{std.specs.Prelude.{◌<◌, [], ◌-◌, ◌++◌}, re_trees.specs.{Lines.HasNoNewline, Bytes.Text}}
+use Rattle.std.specs.Prelude.{◌<◌, [], ◌-◌, ◌++◌}
+use Rattle.re_trees.specs.{Lines.HasNoNewline, Bytes.Text}
 use Rattle.{re_auto.specs.declared.step.state_set.StateSet.StateSet, re_meter.specs.Meters.Steps}
 use Rattle.re_runs.specs.Working.Blocks.{PassesUnmatched}
 use Rattle.re_steps.specs.declared.table.{StepTable.StepTable, LineSearch.LineSearch}

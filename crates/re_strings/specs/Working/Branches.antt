@@ -1,8 +1,9 @@
 -- The beginnings of strings in order.
 use Rattle.std.specs.Prelude.{◌≡◌, ℕ, ◌+◌, ◌<◌, ◌≤◌, List, [], ◌∷◌, ◌++◌, length, take, get_or}
 use Rattle.std.specs.Prelude.{slice_get, slice_index, All, nat_eq, ◌↔◌, if◌then◌else◌, Option, Some}
-use Rattle.{std.specs.Prelude.None, re_trees.specs.Bytes.{Text, Begins}}
-use Rattle.re_strings.specs.{declared.growth.Branch.Branch, Working.FixedSets.{IsFront, IsString}}
+use Rattle.std.specs.Prelude.{None}
+use Rattle.{re_trees.specs.Bytes.{Text, Begins}, re_strings.specs.declared.growth.Branch.Branch}
+use Rattle.re_strings.specs.Working.FixedSets.{IsFront, IsString}
 
 -- string i
 abbrev pub text_at : List Text → ℕ → Text

@@ -1,9 +1,10 @@
 -- How far a search of a line went, and what it counted.
 use Rattle.std.specs.Prelude.{◌≡◌, ℕ, ◌+◌, ◌-◌, ◌<◌, ◌≤◌, ◌⊎◌, List, length, take, drop, Option}
-use Rattle.{std.specs.Prelude.{Some, None, MatchOption}, re_trees.specs.Bytes.Text}
-use Rattle.{re_trees.specs.declared.span.Span.Span, re_meter.specs.Meters.{Steps, many_passed}}
-use Rattle.re_strings.specs.Working.{FixedSets.{Labels, IsTableOf, IsFront, Occurs}, Keys.keys}
+use Rattle.std.specs.Prelude.{Some, None, MatchOption}
+use Rattle.{re_trees.specs.{Bytes.Text, declared.span.Span.Span}, re_meter.specs.Meters.many_passed}
+use Rattle.re_meter.specs.Meters.{Steps}
 use Rattle.re_strings.specs.declared.aho_corasick.AhoCorasick.{AhoCorasick}
+use Rattle.re_strings.specs.Working.{FixedSets.{IsTableOf, Occurs, Labels, IsFront}, Keys.keys}
 
 -- the search from place `from` went up to a place, where the line ends or the search was over, and
 -- counted the bytes up to there

@@ -1,5 +1,6 @@
 -- What each step of reading a basic expression's tokens says.
-use Rattle.{std.specs.Prelude.{◌≡◌, ℕ, ◌++◌, drop, codes}, re_trees.specs.Bytes.{Text, Begins}}
+use Rattle.std.specs.Prelude.{◌≡◌, ℕ, ◌++◌, drop, codes}
+use Rattle.re_trees.specs.Bytes.{Text, Begins}
 use Rattle.re_syntax.specs.declared.tokens.ItemPlace.{TheVariants.Later, ItemPlace}
 use Rattle.re_syntax.specs.{Working.Ahead.IsAfter, BasicTokens.{NeedsItem, IsAtEnd}}
 

@@ -1,6 +1,6 @@
 -- The text that a cursor has not read, and how the cursor moves.
-use Rattle.{std.specs.Prelude.{◌≡◌, ℕ, ◌+◌, ◌++◌, length, drop}, re_trees.specs.Bytes.Text}
-use Rattle.re_syntax.specs.declared.cursor.Cursor.{Cursor}
+use Rattle.std.specs.Prelude.{◌≡◌, ℕ, ◌+◌, ◌++◌, length, drop}
+use Rattle.{re_trees.specs.Bytes.Text, re_syntax.specs.declared.cursor.Cursor.Cursor}
 
 abbrev pub left : Cursor → Text
 left c = drop c.at c.text.now

@@ -1,6 +1,6 @@
 -- What each step of reading an interval says.
-use Rattle.std.specs.{Prelude.{◌≡◌, ◌≢◌, ℕ, ◌+◌, ◌≤◌, min, []}, List.list_all, Option.option_map}
-use Rattle.std.specs.Prelude.{◌∷◌, ◌++◌, length, take, drop, Option, Some, IsTrue, codes}
+use Rattle.std.specs.Prelude.{◌≡◌, ◌≢◌, ℕ, ◌+◌, ◌≤◌, min, [], ◌∷◌, ◌++◌, length, take, drop, Option}
+use Rattle.std.specs.{Prelude.{Some, IsTrue, codes}, List.list_all, Option.option_map}
 use Rattle.re_trees.specs.{Bytes.{Text, in_class, Begins}, declared.class.Class.TheVariants.Digit}
 use Rattle.re_syntax.specs.Intervals.{IsNumber, value, ClosedInterval}
 use Rattle.re_syntax.specs.{declared.interval.Counts.Counts, Profile.most_repeats}

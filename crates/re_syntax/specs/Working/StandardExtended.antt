@@ -1,9 +1,9 @@
 -- Extended regular expressions of the standard alone (XBD 9.4), as in StandardBasic. A truth value
 -- says whether the part is in a group.
 use Rattle.std.specs.Prelude.{true, List, [], Bool, Some, ◌∷◌, Option, max, None, ◌++◌, ◌≤◌, codes}
-use Rattle.{std.specs.Prelude.{IsTrue, false, suc, ℕ}, re_trees.specs.Expression.Expression}
-use Rattle.re_trees.specs.Expression.{one_of, begin, end, repeat, byte, sequence, choice}
-use Rattle.re_trees.specs.Bytes.{any_but_nul, Text}
+use Rattle.std.specs.Prelude.{IsTrue, false, suc, ℕ}
+use Rattle.re_trees.specs.Expression.{Expression, one_of, begin, end, repeat, byte, sequence}
+use Rattle.re_trees.specs.{Expression.choice, Bytes.{any_but_nul, Text}}
 use Rattle.re_syntax.specs.{Working.StandardIntervals.{HasNoInterval, Interval}, Brackets.IsBracket}
 use Rattle.re_syntax.specs.{Escapes.is_undefined, Intervals.IsAllowed, ExtendedTokens.is_ordinary}
 use Rattle.re_syntax.specs.Profile.{extended_refused, most_levels}

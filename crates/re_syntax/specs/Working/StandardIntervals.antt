@@ -1,8 +1,8 @@
 -- Interval expressions of the standard alone (XBD 9.3.6 item 5, 9.4.6 item 5): as in Intervals,
 -- without the form that has no least number. The law that what the standard defines keeps its
 -- meaning uses them; no definition rests on this.
-use Rattle.{std.specs.Prelude.{◌≡◌, ℕ, ◌++◌, Option, Some, None, codes}, re_trees.specs.Bytes.Text}
-use Rattle.re_syntax.specs.Intervals.{IsNumber, value}
+use Rattle.std.specs.Prelude.{◌≡◌, ℕ, ◌++◌, Option, Some, None, codes}
+use Rattle.{re_trees.specs.Bytes.Text, re_syntax.specs.Intervals.{IsNumber, value}}
 
 -- `m`, `m,` or `m,n`
 pub data Interval : Text → ℕ → Option ℕ → Type 0 where

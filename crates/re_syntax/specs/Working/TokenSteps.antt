@@ -1,10 +1,10 @@
 -- What reading a token says.
 use Rattle.std.specs.Prelude.{ℕ, ◌<◌, ◌≤◌, ◌&&◌, Bool, length, drop, nat_eq, if◌then◌else◌}
-use Rattle.re_syntax.specs.Tokens.{closing, Token, atom, opening, lead, times, bar}
-use Rattle.re_syntax.specs.declared.tokens.Token.{Token as Read, TheVariants.{Bar, Closing, Times}}
-use Rattle.re_syntax.specs.declared.tokens.Token.TheVariants.{Opening, Lead, Atom as Atomic}
+use Rattle.re_syntax.specs.declared.tokens.Token.TheVariants.{Bar, Closing, Times, Opening, Lead}
+use Rattle.re_syntax.specs.declared.tokens.Token.{TheVariants.Atom as Atomic, Token as Read}
 use Rattle.re_syntax.specs.declared.tokens.{ItemPlace.ItemPlace, Atom.TheVariants.{Set, Not, End}}
 use Rattle.re_syntax.specs.{declared.{tokens.Atom.Atom, syntax.Syntax.Syntax}, FirstFaults.IsToken}
+use Rattle.re_syntax.specs.Tokens.{closing, Token, atom, opening, lead, times, bar}
 use Rattle.re_trees.specs.{Bytes.{any_but_nul, Text, Bytes, only}, Working.Trees.members}
 use Rattle.re_trees.specs.Expression.{none_of, Expression, end, one_of}
 

@@ -1,7 +1,7 @@
 -- How many nodes trees have. They get fewer as a tree is dropped.
 use Rattle.std.specs.Prelude.{Some, None, map, ℕ, ◌≤◌, List, ◌<◌, Option, ◌+◌, Vec, [], ◌∷◌}
-use Rattle.{std.specs.Global.Global, re_trees.specs.declared.tree.Tree.TheFolds.fold-Tree}
-use Rattle.re_trees.specs.declared.tree.Tree.{TheOpen.Tree-F, Tree}
+use Rattle.std.specs.Global.{Global}
+use Rattle.re_trees.specs.declared.tree.Tree.{TheFolds.fold-Tree, TheOpen.Tree-F, Tree}
 
 -- the numbers added up
 abbrev pub total : List ℕ → ℕ
