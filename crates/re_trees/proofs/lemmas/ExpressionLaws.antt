@@ -7,11 +7,11 @@ expression-Empty = ap expression_of (sym rolls-Empty) ∙ fold-roll-Tree Express
 
 -- a byte of the set
 pub expression-Set : (set : ByteSet) → expression_of (Set set) ≡ one_of (members set)
-expression-Set set = ap expression_of (sym (rolls-Set set)) ∙ fold-roll-Tree Expression node_expression (Tree-F.Set set)
+expression-Set set = cc (rolls-Set set, fold-roll-Tree Expression node_expression (Tree-F.Set set))
 
 -- a byte outside the set
 pub expression-Not : (set : ByteSet) → expression_of (Not set) ≡ none_of (members set)
-expression-Not set = ap expression_of (sym (rolls-Not set)) ∙ fold-roll-Tree Expression node_expression (Tree-F.Not set)
+expression-Not set = cc (rolls-Not set, fold-roll-Tree Expression node_expression (Tree-F.Not set))
 
 -- the first place
 pub expression-Begin : expression_of Begin ≡ begin
@@ -23,12 +23,12 @@ expression-End = ap expression_of (sym rolls-End) ∙ fold-roll-Tree Expression 
 
 -- a sequence of the parts' expressions
 pub expression-Cat : (parts : Vec Tree Global) → expression_of (Cat parts) ≡ cat (map expression_of parts.items)
-expression-Cat parts = ap expression_of (sym (rolls-Cat parts)) ∙ fold-roll-Tree Expression node_expression (Tree-F.Cat parts)
+expression-Cat parts = cc (rolls-Cat parts, fold-roll-Tree Expression node_expression (Tree-F.Cat parts))
 
 -- a choice among the parts' expressions
 pub expression-Alt : (parts : Vec Tree Global) → expression_of (Alt parts) ≡ alt (map expression_of parts.items)
-expression-Alt parts = ap expression_of (sym (rolls-Alt parts)) ∙ fold-roll-Tree Expression node_expression (Tree-F.Alt parts)
+expression-Alt parts = cc (rolls-Alt parts, fold-roll-Tree Expression node_expression (Tree-F.Alt parts))
 
 -- the part's expression, repeated
 pub expression-Repeat : (part : Box Tree Global) (least : ℕ) (most : Option ℕ) → expression_of (Repeat part least most) ≡ repeat (expression_of part.value) least most
-expression-Repeat part least most = ap expression_of (sym (rolls-Repeat part least most)) ∙ fold-roll-Tree Expression node_expression (Tree-F.Repeat part least most)
+expression-Repeat part least most = cc (rolls-Repeat part least most, fold-roll-Tree Expression node_expression (Tree-F.Repeat part least most))

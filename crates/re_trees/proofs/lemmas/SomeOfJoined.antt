@@ -14,11 +14,7 @@ Any-right P (x ∷ xs) ys h = Any-later P x (xs ++ ys) (Any-right P xs ys h)
 -- an element of two lists is one of the first or of the second
 pub Any-append-cases : {A : Type 0} (P : A → Type 0) (xs ys : List A) → Any P (xs ++ ys) → Any P xs ⊎ Any P ys
 Any-append-cases P [] ys h = inr h
-Any-append-cases P (x ∷ xs) ys h =
-    elim (Any-cases P x (xs ++ ys) h) [
-      | inl p ↦ inl (Any-first P x xs p)
-      | inr l ↦ elim (Any-append-cases P xs ys l) [ inl a ↦ inl (Any-later P x xs a) | inr b ↦ inr b ]
-    ]
+Any-append-cases P (x ∷ xs) ys h = elim (Any-cases P x (xs ++ ys) h) [ inl p ↦ inl (Any-first P x xs p) | inr l ↦ elim (Any-append-cases P xs ys l) [ inl a ↦ inl (Any-later P x xs a) | inr b ↦ inr b ] ]
 
 -- where P holds of some element of a list of one, it holds of that
 pub Any-single : {A : Type 0} (P : A → Type 0) (x : A) → Any P (x ∷ []) → P x

@@ -7,7 +7,7 @@ returns-in_default c = λ b h. not_empty (members c.args.self.now) b c.in_defaul
 pub returns-in-Some-next : goal.returns-in-Some-next
 returns-in-Some-next c = λ b h.
     let (has, left) = c.in-Some.ensures.steps in
-    not_two (members c.args.self.now) (members c.next.new.self) c.in-Some.byte c.in-Some-next._other b has left c.in-Some-next.ensures.steps.0
+    not_two _ _ _ _ b has left c.in-Some-next.ensures.steps.0
 
 pub returns-in-None : goal.returns-in-None
-returns-in-None c = let (has, left) = c.in-Some.ensures.steps in is_only (members c.args.self.now) (members c.next.new.self) c.in-Some.byte has left c.in-None.ensures.steps
+returns-in-None c = let (has, left) = c.in-Some.ensures.steps in is_only _ _ _ has left c.in-None.ensures.steps

@@ -3,6 +3,5 @@ use Rattle.re_trees.proofs.bytes.ByteSet.range.Goals as goal
 
 pub returns : goal.returns
 returns c =
-    members-range c.args.first c.args.last c.ranges.first.fits c.ranges.last.fits
-    (rw (c.from-end.ensures, c.from-begin.ensures) at c.word_of.ensures)
+    members-range _ _ c.ranges.first.fits c.ranges.last.fits (rw (c.from-end.ensures, c.from-begin.ensures) at c.word_of.ensures)
     (rw (c.saturating_sub.ensures, c.saturating_sub-2.ensures, c.from-end.ensures, c.from-begin.ensures) at c.word_of-2.ensures)

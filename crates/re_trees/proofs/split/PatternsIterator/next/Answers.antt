@@ -3,8 +3,7 @@ use Rattle.re_trees.proofs.split.PatternsIterator.next.Goals as goal
 
 -- the text ends at the first newline
 at_newline : (c : goal.After-self-in-Some-1) → c.args.self.now ≡ take c.in-Some.at c.in_ok-rest.rest.now ∷ list_of (take (length c.in_ok-rest.rest.now - (c.in-Some.at + 1)) (drop (c.in-Some.at + 1) c.in_ok-rest.rest.now))
-at_newline c =
-    sym c.self.view_is ∙ ap texts_of_rest c.in_ok-rest.was ∙ list_of-at c.in_ok-rest.rest.now c.in-Some.at (search rules) (search rules) (search rules) ∙ simp (take_rest, add-one)
+at_newline c = sym c.self.view_is ∙ ap texts_of_rest c.in_ok-rest.was ∙ list_of-at c.in_ok-rest.rest.now c.in-Some.at (search rules) (search rules) (search rules) ∙ simp (take_rest, add-one)
 
 at_end : (c : goal.After-self-in-None-1) → c.args.self.now ≡ c.in_ok-rest.rest.now ∷ []
 at_end c = sym c.self.view_is ∙ ap texts_of_rest c.in_ok-rest.was ∙ list_of-none c.in_ok-rest.rest.now (search rules)

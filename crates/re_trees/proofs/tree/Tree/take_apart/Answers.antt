@@ -8,6 +8,4 @@ returns-in-None c =
     omega arith
 
 pub parts-smaller : goal.parts-smaller
-parts-smaller c =
-    let less = rw c.in-Some.is at c.take_part-part.ensures in
-    less.0
+parts-smaller c = (rw c.in-Some.is at c.take_part-part.ensures).0
