@@ -18,7 +18,7 @@ pub use Rattle.re_meter.specs.Meters.{AddsUpTo, Steps, many_passed}
 pub use Rattle.re_runs.specs.Working.Blocks.{IsBlock, IsLineFrom, PassesAll, PassesUnmatched, StopsInLine}
 pub use Rattle.re_needle.specs.Working.Needles.{IsJustRun, IsNeedleOf}
 pub use Rattle.re_runs.specs.Working.Finders.{runs_of}
-pub use Rattle.re_runs.specs.Working.Runs.{FindsRun, RunStandsAt, Runs, look_cost, set_at}
+pub use Rattle.re_runs.specs.Working.Runs.{FindsRun, RunStandsAt, Runs, look_cost}
 pub use Rattle.re_runs.specs.declared.block.Swept.{Swept}
 pub use Rattle.re_needle.specs.declared.needle.Needle.{Needle}
 pub use Rattle.re_steps.specs.Working.Rows.{cache_of}
@@ -29,7 +29,7 @@ unfoldable pub use Rattle.re_strings.specs.Working.FixedSets.{IsBestOccurrence}
 pub use Rattle.re_strings.specs.Working.Keys.{keys}
 unfoldable pub use Rattle.re_strings.specs.Working.Keys.{key}
 pub use Rattle.re_strings.specs.Working.Reached.{EndsFirst}
-pub use Rattle.re_trees.specs.Bytes.{Text, only}
+pub use Rattle.re_trees.specs.Bytes.{Text}
 pub use Rattle.re_trees.specs.Expression.{Expression, alt, byte, cat, sequence}
 pub use Rattle.re_trees.specs.Holds.{Holds, Matches, folded}
 pub use Rattle.re_trees.specs.Lines.{HasNoNewline, newline, terminated}
@@ -37,7 +37,7 @@ unfoldable pub use Rattle.re_trees.specs.Lines.{lines_of}
 pub use Rattle.re_trees.specs.Parts.{IsFound, IsPart}
 pub use Rattle.re_trees.specs.Working.Trees.{expression_of}
 pub use Rattle.re_trees.specs.declared.span.Span.{Span}
-pub use Rattle.std.proofs.Common.{All, Bool, IfSome, IsTrue, List, None, Option, Some, [], ap, append-nil, arith, bytes_eq, drop, drop-drop, drop_of_length-le, eqb-true, false, get_or, get_or-append-add, get_or-drop, get_or-take, inl, inr, is_some, length, length-append, length-drop, length-take, length-take-le, map, min, option_map, refl, rules, slice_get, slice_index, slice_range, subst, suc, sym, take, take-append-drop, true, zero, zero-add, ℕ, ◌++◌, ◌+◌, ◌-◌, ◌<◌, ◌↔◌, ◌∙◌, ◌∷◌, ◌≡◌, ◌≤◌}
+pub use Rattle.std.proofs.Common.{All, Bool, IsTrue, List, None, Option, Some, [], ap, append-nil, arith, bytes_eq, drop, drop-drop, drop_of_length-le, eqb-true, false, get_or, get_or-drop, get_or-take, inl, inr, is_some, length, length-append, length-drop, length-take, length-take-le, map, min, option_map, refl, rules, slice_get, slice_index, slice_range, subst, suc, sym, take, take-append-drop, true, zero, zero-add, ℕ, ◌++◌, ◌+◌, ◌-◌, ◌<◌, ◌↔◌, ◌∙◌, ◌∷◌, ◌≡◌, ◌≤◌}
 pub use Rattle.std.proofs.Math.Decide.{dec_le}
 pub use Rattle.std.proofs.Math.Seq.{drop-length}
 pub use Rattle.std.proofs.lemmas.Bool.{cases_lt, eqb-false, false≢true}

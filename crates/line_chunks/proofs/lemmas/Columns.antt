@@ -1,6 +1,6 @@
 -- What is found in the lines of all chunks, put or changed chunk by chunk.
-use Rattle.line_chunks.proofs.Prelude.{◌≡◌, ℕ, suc, zero, ◌+◌, ◌<◌, ◌≤◌, List, [], ◌∷◌, ◌++◌, length, map, take, drop, set, get_or, refl, ap, sym, ◌∙◌, arith, add-one, length-append, length-map, All-from_get_or, All-get_or, set-get_or, Option, Some, None, Text, FoundIn, KeptLine, AreFilled, line_text, all_of, seen_from, with_column, with_columns, FitColumns, next_column, FitsNext, chunks_of, Entry}
-use Rattle.line_chunks.proofs.lemmas.Sums.{chunks_of-set, chunk_at}
+use Rattle.line_chunks.proofs.Prelude.{◌≡◌, ℕ, suc, zero, ◌+◌, ◌<◌, ◌≤◌, List, [], ◌∷◌, ◌++◌, length, map, take, drop, set, get_or, refl, ap, sym, arith, add-one, length-append, length-map, All-from_get_or, All-get_or, set-get_or, Option, Some, None, FoundIn, KeptLine, AreFilled, line_text, all_of, with_column, with_columns, FitColumns, next_column, FitsNext, chunks_of, Entry}
+use Rattle.line_chunks.proofs.lemmas.{SeenLaws.length-seen, Sums.chunks_of-set, Sums.chunk_at}
 
 -- nothing is put
 pub columns_none : (cs : List (List KeptLine)) → with_columns cs [] ≡ cs
@@ -8,30 +8,24 @@ columns_none [] = refl
 columns_none (c ∷ cs) = refl
 
 -- one chunk more
-columns_more : (cs : List (List KeptLine)) (found : List (Option FoundIn)) (k : ℕ) (d : List KeptLine)
-    → k < length cs
-    → set (with_columns cs (take k found)) k (next_column (get_or (with_columns cs (take k found)) k d) (drop k found))
+columns_more : (cs : List (List KeptLine)) (found : List (Option FoundIn)) (k : ℕ) (d : List KeptLine) → k < length cs → set (with_columns cs (take k found)) k (next_column (get_or (with_columns cs (take k found)) k d) (drop k found))
     ≡ with_columns cs (take (suc k) found)
 columns_more [] found k d h = absurd (omega arith)
 columns_more (c ∷ cs) [] zero d h = refl
 columns_more (c ∷ cs) [] (suc k) d h = set-get_or (c ∷ cs) (suc k) d
 columns_more (c ∷ cs) (one ∷ found) zero d h = ap (λ xs. with_column c one ∷ xs) (sym (columns_none cs))
-columns_more (c ∷ cs) (one ∷ found) (suc k) d h =
-    ap (λ xs. with_column c one ∷ xs) (columns_more cs found k d (omega arith))
+columns_more (c ∷ cs) (one ∷ found) (suc k) d h = rw (columns_more cs found k d (omega arith))
 
 -- all chunks
-pub columns_all : (cs : List (List KeptLine)) (found : List (Option FoundIn)) (n : ℕ) → length cs ≤ n
-    → with_columns cs (take n found) ≡ with_columns cs found
+pub columns_all : (cs : List (List KeptLine)) (found : List (Option FoundIn)) (n : ℕ) → length cs ≤ n → with_columns cs (take n found) ≡ with_columns cs found
 columns_all [] found n h = refl
 columns_all (c ∷ cs) [] zero h = refl
 columns_all (c ∷ cs) [] (suc n) h = refl
 columns_all (c ∷ cs) (one ∷ found) zero h = absurd (omega arith)
-columns_all (c ∷ cs) (one ∷ found) (suc n) h = ap (λ xs. with_column c one ∷ xs) (columns_all cs found n (omega arith))
+columns_all (c ∷ cs) (one ∷ found) (suc n) h = rw (columns_all cs found n (omega arith))
 
 -- the next fits the next chunk, which is as it was
-columns_fit : (cs : List (List KeptLine)) (found : List (Option FoundIn)) (k : ℕ) (d : List KeptLine)
-    → k < length cs → FitColumns cs found
-    → FitsNext (get_or (with_columns cs (take k found)) k d) (drop k found)
+columns_fit : (cs : List (List KeptLine)) (found : List (Option FoundIn)) (k : ℕ) (d : List KeptLine) → k < length cs → FitColumns cs found → FitsNext (get_or (with_columns cs (take k found)) k d) (drop k found)
 columns_fit [] found k d h fit = absurd (omega arith)
 columns_fit (c ∷ cs) [] k d h fit = absurd fit
 columns_fit (c ∷ cs) (one ∷ found) zero d h fit = fit.0
@@ -48,119 +42,66 @@ drop_drop (suc i) (x ∷ xs) = drop_drop i xs
 module _ (es : List Entry) (cs : List (List KeptLine)) (k : ℕ) (old new : Entry) (h : k < length es)
     (read : old ≡ get_or es k old) where
   here : old.chunk ≡ get_or (chunks_of es) k []
-  here = ap (λ (e : Entry). e.chunk) read ∙ sym (chunk_at es k old h)
+  here = cc (chunk_at es k old h)
 
-  pub next_fits : (found rest : List (Option FoundIn)) → chunks_of es ≡ with_columns cs (take k found)
-      → length es ≡ length cs → rest ≡ drop k found → FitColumns cs found → FitsNext old.chunk rest
+  pub next_fits : (found rest : List (Option FoundIn)) → chunks_of es ≡ with_columns cs (take k found) → length es ≡ length cs → rest ≡ drop k found → FitColumns cs found → FitsNext old.chunk rest
   next_fits found rest is many left fit =
-      let now : FitsNext (get_or (with_columns cs (take k found)) k []) (drop k found) =
-      columns_fit cs found k [] (omega (arith, h, many)) fit in
-      let chunk : get_or (with_columns cs (take k found)) k [] ≡ old.chunk =
-      sym (here ∙ ap (λ xs. get_or xs k []) is) in
-      rw left
-      (rw chunk at now)
+      let now = columns_fit cs found k [] (omega arith) fit in
+      let chunk : get_or (with_columns cs (take k found)) k [] ≡ old.chunk = cc here in
+      rw left (rw chunk at now)
 
-  pub next_put : (found rest : List (Option FoundIn)) → chunks_of es ≡ with_columns cs (take k found)
-      → length es ≡ length cs → rest ≡ drop k found → new.chunk ≡ next_column old.chunk rest
-      → chunks_of (set es k new) ≡ with_columns cs (take (k + 1) found)
-  next_put found rest is many left put =
-      let d : List KeptLine = get_or (with_columns cs (take k found)) k [] in
-      chunks_of-set es k new ∙ ap (λ xs. set xs k new.chunk) is ∙
-      ap (λ lines. set (with_columns cs (take k found)) k lines)
-      (put ∙ ap (λ xs. next_column old.chunk xs) left ∙
-      ap (λ lines. next_column lines (drop k found)) (here ∙ ap (λ xs. get_or xs k []) is)) ∙
-      columns_more cs found k [] (omega (arith, h, many)) ∙
-      ap (λ n. with_columns cs (take n found)) (sym (add-one k))
+  pub next_put : (found rest : List (Option FoundIn)) → chunks_of es ≡ with_columns cs (take k found) → length es ≡ length cs → rest ≡ drop k found → new.chunk ≡ next_column old.chunk rest → chunks_of (set es k new) ≡ with_columns cs (take (k + 1) found)
+  next_put found rest is many left put = cc (chunks_of-set es k new, here, columns_more cs found k [] (omega arith), add-one k)
 
 -- ---- all chunks are changed in place
 
-map_next : (f : List KeptLine → List KeptLine) (cs : List (List KeptLine)) (k : ℕ) (d : List KeptLine)
-    → k < length cs
-    → set (map f (take k cs) ++ drop k cs) k (f (get_or (map f (take k cs) ++ drop k cs) k d))
+map_next : (f : List KeptLine → List KeptLine) (cs : List (List KeptLine)) (k : ℕ) (d : List KeptLine) → k < length cs → set (map f (take k cs) ++ drop k cs) k (f (get_or (map f (take k cs) ++ drop k cs) k d))
     ≡ map f (take (suc k) cs) ++ drop (suc k) cs
 map_next f [] k d h = absurd (omega arith)
 map_next f (c ∷ cs) zero d h = refl
-map_next f (c ∷ cs) (suc k) d h = ap (λ xs. f c ∷ xs) (map_next f cs k d (omega arith))
+map_next f (c ∷ cs) (suc k) d h = rw (map_next f cs k d (omega arith))
 
 pub chunks_mapped : (es : List Entry) (cs : List (List KeptLine)) (k : ℕ) (old new : Entry)
-    (f : List KeptLine → List KeptLine) → k < length es → old ≡ get_or es k old → length es ≡ length cs
-    → chunks_of es ≡ map f (take k cs) ++ drop k cs → new.chunk ≡ f old.chunk
-    → chunks_of (set es k new) ≡ map f (take (k + 1) cs) ++ drop (k + 1) cs
-chunks_mapped es cs k old new f h read many is put =
-    let old_is : old.chunk ≡ get_or (map f (take k cs) ++ drop k cs) k [] =
-    here es cs k old new h read ∙ ap (λ xs. get_or xs k []) is in
-    chunks_of-set es k new ∙ ap (λ xs. set xs k new.chunk) is ∙
-    ap (λ lines. set (map f (take k cs) ++ drop k cs) k lines) (put ∙ ap f old_is) ∙
-    map_next f cs k [] (omega (arith, h, many)) ∙
-    ap (λ n. map f (take n cs) ++ drop n cs) (sym (add-one k))
+    (f : List KeptLine → List KeptLine) → k < length es → old ≡ get_or es k old → length es ≡ length cs → chunks_of es ≡ map f (take k cs) ++ drop k cs → new.chunk ≡ f old.chunk → chunks_of (set es k new) ≡ map f (take (k + 1) cs) ++ drop (k + 1) cs
+chunks_mapped es cs k old new f h read many is put = cc (chunks_of-set es k new, here es cs k old new h read, map_next f cs k [] (omega arith), add-one k)
 
 -- ---- all chunks have as many lines as before
 
-pub length-seen_from : (k : ℕ) (texts : List Text) (found : FoundIn)
-    → length (seen_from k texts found) ≡ length texts
-length-seen_from k [] found = refl
-length-seen_from k (text ∷ texts) found = ap suc (length-seen_from (suc k) texts found)
-
-length-with_column : (lines : List KeptLine) (found : Option FoundIn)
-    → length (with_column lines found) ≡ length lines
+length-with_column : (lines : List KeptLine) (found : Option FoundIn) → length (with_column lines found) ≡ length lines
 length-with_column lines None = refl
-length-with_column lines (Some found) =
-    length-seen_from 0 (map line_text lines) found ∙ length-map lines line_text
+length-with_column lines (Some found) = cc (length-seen 0 (map line_text lines) found, length-map lines line_text)
 
-pub lines_with_columns : (cs : List (List KeptLine)) (found : List (Option FoundIn))
-    → length (all_of (with_columns cs found)) ≡ length (all_of cs)
+pub lines_with_columns : (cs : List (List KeptLine)) (found : List (Option FoundIn)) → length (all_of (with_columns cs found)) ≡ length (all_of cs)
 lines_with_columns [] found = refl
 lines_with_columns (c ∷ cs) [] = refl
-lines_with_columns (c ∷ cs) (one ∷ found) =
-    let first = length-with_column c one in
-    let more = lines_with_columns cs found in
-    omega (
-      arith,
-      first,
-      more,
-      length-append (with_column c one) (all_of (with_columns cs found)),
-      length-append c (all_of cs),
-    )
+lines_with_columns (c ∷ cs) (one ∷ found) = omega (arith, length-with_column c one, lines_with_columns cs found, length-append {A = KeptLine})
 
-pub lines_mapped : (cs : List (List KeptLine)) (f : KeptLine → KeptLine)
-    → length (all_of (map (map f) cs)) ≡ length (all_of cs)
+pub lines_mapped : (cs : List (List KeptLine)) (f : KeptLine → KeptLine) → length (all_of (map (map f) cs)) ≡ length (all_of cs)
 lines_mapped [] f = refl
-lines_mapped (c ∷ cs) f =
-    omega (
-      arith,
-      lines_mapped cs f,
-      length-map c f,
-      length-append (map f c) (all_of (map (map f) cs)),
-      length-append c (all_of cs),
-    )
+lines_mapped (c ∷ cs) f = omega (arith, lines_mapped cs f, length-map c f, length-append {A = KeptLine})
 
 -- ---- each chunk has a line still
 
-filled_as : (cs ds : List (List KeptLine)) → length ds ≡ length cs
-    → ((k : ℕ) → length (get_or ds k []) ≡ length (get_or cs k [])) → AreFilled cs → AreFilled ds
+filled_as : (cs ds : List (List KeptLine)) → length ds ≡ length cs → ((k : ℕ) → length (get_or ds k []) ≡ length (get_or cs k [])) → AreFilled cs → AreFilled ds
 filled_as cs ds many same filled =
-    All-from_get_or (λ xs. 1 ≤ length xs) ds [] (λ k inside.
-    (let some = All-get_or (λ xs. 1 ≤ length xs) cs k [] (omega (arith, many, inside)) filled in
-    omega (arith, same k, some)))
+    All-from_get_or (λ xs. 1 ≤ length xs) ds [] (λ k inside. (let some = All-get_or (λ xs. 1 ≤ length xs) cs k [] (omega arith) filled in
+    omega (arith, same k)))
 
 many_columns : (cs : List (List KeptLine)) (found : List (Option FoundIn)) → length (with_columns cs found) ≡ length cs
 many_columns [] found = refl
 many_columns (c ∷ cs) [] = refl
-many_columns (c ∷ cs) (one ∷ found) = ap suc (many_columns cs found)
+many_columns (c ∷ cs) (one ∷ found) = rw (many_columns cs found)
 
-column_size : (cs : List (List KeptLine)) (found : List (Option FoundIn)) (k : ℕ)
-    → length (get_or (with_columns cs found) k []) ≡ length (get_or cs k [])
+column_size : (cs : List (List KeptLine)) (found : List (Option FoundIn)) (k : ℕ) → length (get_or (with_columns cs found) k []) ≡ length (get_or cs k [])
 column_size [] found k = refl
 column_size (c ∷ cs) [] k = refl
 column_size (c ∷ cs) (one ∷ found) zero = length-with_column c one
 column_size (c ∷ cs) (one ∷ found) (suc k) = column_size cs found k
 
-pub columns_filled : (cs : List (List KeptLine)) (found : List (Option FoundIn)) → AreFilled cs
-    → AreFilled (with_columns cs found)
+pub columns_filled : (cs : List (List KeptLine)) (found : List (Option FoundIn)) → AreFilled cs → AreFilled (with_columns cs found)
 columns_filled cs found = filled_as cs (with_columns cs found) (many_columns cs found) (column_size cs found)
 
-mapped_size : (cs : List (List KeptLine)) (f : KeptLine → KeptLine) (k : ℕ)
-    → length (get_or (map (map f) cs) k []) ≡ length (get_or cs k [])
+mapped_size : (cs : List (List KeptLine)) (f : KeptLine → KeptLine) (k : ℕ) → length (get_or (map (map f) cs) k []) ≡ length (get_or cs k [])
 mapped_size [] f k = refl
 mapped_size (c ∷ cs) f zero = length-map c f
 mapped_size (c ∷ cs) f (suc k) = mapped_size cs f k

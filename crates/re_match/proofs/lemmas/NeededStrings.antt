@@ -1,8 +1,7 @@
 -- Strings, one of which each match of an expression contains.
-use Rattle.re_match.proofs.Prelude.{◌≡◌, ℕ, ◌+◌, ◌<◌, ◌≤◌, inl, inr, Bool, true, false, List, [], ◌∷◌, ◌++◌, All, length, take, drop, get_or, refl, sym, ap, subst, ◌∙◌, arith, cases_lt, drop-drop, false≢true, IsTrue, ◌↔◌, Text, Expression, alt, Holds, Matches, expression_of, Literals, any_literal, keys, EndsFirst, PassesUnmatched, AddsUpTo}
+use Rattle.re_match.proofs.Prelude.{◌≡◌, ℕ, ◌+◌, ◌<◌, ◌≤◌, inl, inr, Bool, true, false, List, [], ◌∷◌, ◌++◌, All, length, drop, get_or, refl, sym, ◌∙◌, arith, cases_lt, drop-drop, false≢true, IsTrue, ◌↔◌, Text, Expression, alt, Holds, Matches, expression_of, Literals, any_literal, keys, EndsFirst, AddsUpTo}
 use Rattle.std.specs.Prelude.{Any, Option, None, Some}
-use Rattle.std.proofs.lemmas.List.{get_or_default}
-use Rattle.std.proofs.lemmas.List.Elements.{All-head, All-tail}
+use Rattle.std.proofs.lemmas.List.{get_or_default, Elements.All-head, Elements.All-tail}
 use Rattle.re_trees.specs.declared.tree.Tree.{Tree}
 use Rattle.re_meter.specs.Meters.{Steps}
 use Rattle.re_meter.proofs.lemmas.Adding.{adds_none, only_passed}
@@ -10,12 +9,9 @@ use Rattle.re_needle.specs.Working.Needles.{IsNeeded, StandsBetween}
 use Rattle.re_needle.proofs.lemmas.NeedleLaws.{settled_says}
 use Rattle.re_runs.proofs.lemmas.Occurrences.{occurs-stands}
 use Rattle.re_strings.specs.Working.Reached.{end_cost}
-use Rattle.re_trees.proofs.lemmas.Decisions.{Any-first}
-use Rattle.re_trees.proofs.lemmas.SomeOfJoined.{Any-left, Any-right}
-use Rattle.re_match.specs.Working.Literals.{LooksForAny, keyed}
-use Rattle.re_match.specs.Working.Prefilters.{AreNeeded, IsSaidAtOnce, NeedsOneOf}
-use Rattle.re_match.proofs.lemmas.SetBlocks.{ends_within}
-use Rattle.re_match.proofs.lemmas.SetMatches.{text_between, stands_choice}
+use Rattle.re_trees.proofs.lemmas.{Decisions.Any-first, SomeOfJoined.Any-left, SomeOfJoined.Any-right}
+use Rattle.re_match.specs.Working.{Literals.LooksForAny, Literals.keyed, Prefilters.AreNeeded, Prefilters.IsSaidAtOnce, Prefilters.NeedsOneOf}
+use Rattle.re_match.proofs.lemmas.{SetBlocks.ends_within, SetMatches.text_between, SetMatches.stands_choice}
 
 -- one branch more has its string
 pub needed_more : (strings : List Text) (t : Text) (branches : List Tree) (place : ℕ) (b : Tree) → place < length branches → b ≡ get_or branches place b → IsNeeded t (expression_of b)
@@ -25,9 +21,9 @@ needed_more strings t branches place b lt at needed before_it k d k_lt =
     elim (cases_lt k place) [
       | inl early ↦ Any-left (λ s. IsNeeded s (expression_of (get_or branches k d))) strings (t ∷ []) (before_it k d early)
       | inr late ↦
-          let here : k ≡ place = omega (arith, late, k_lt) in
-          let same : b ≡ get_or branches k d = at ∙ ap (λ n. get_or branches n b) (sym here) ∙ get_or_default branches k b d (omega (arith, here, lt)) in
-          Any-right (λ s. IsNeeded s (expression_of (get_or branches k d))) strings (t ∷ []) (Any-first (λ s. IsNeeded s (expression_of (get_or branches k d))) t [] (subst (λ x. IsNeeded t (expression_of x)) same needed))
+          let here : k ≡ place = omega arith in
+          let same : b ≡ get_or branches k d = cc (get_or_default branches k b d (omega arith)) in
+          Any-right (λ s. IsNeeded s (expression_of (get_or branches k d))) strings (t ∷ []) (Any-first (λ s. IsNeeded s (expression_of (get_or branches k d))) t [] (rw same at needed))
     ]
 
 module _ (texts : List Text) (line : Text) where
@@ -35,10 +31,9 @@ module _ (texts : List Text) (line : Text) where
   stands_matched : (s : Text) (e : Expression) → IsNeeded s e → Any (λ t. t ≡ s) texts → (i j : ℕ) → j ≤ length line → Holds line e i j → Matches (any_literal (record { texts = texts; fold = false })) line false
   stands_matched s e needed is_text i j within h =
       let (k, low, high, o) : StandsBetween line s i j = needed line i j within h in
-      let end : k + length s ≤ length line = omega (arith, high, within) in
-      let stands : drop k line ≡ s ++ drop (k + length s) line = occurs-stands line s k o ∙ ap (λ t. s ++ t) (drop-drop (length s) k line) in
-      let there : s ≡ drop k (take (k + length s) line) = text_between line s k (k + length s) (omega arith) end stands in
-      (k, k + length s, end, stands_choice line k (k + length s) texts (omega arith) end (subst (λ x. Any (λ t. t ≡ x) texts) there is_text))
+      let end : k + length s ≤ length line = omega (arith, within) in
+      let stands : drop k line ≡ s ++ drop (k + length s) line = cc (occurs-stands line s k o, drop-drop (length s) k line) in
+      (k, k + length s, end, stands_choice _ k _ _ (omega arith) end (rw (text_between line s k (k + length s) (omega arith) end stands) at is_text))
 
   -- so one of the texts is where a choice of such expressions matches
   choice_matched : (es : List Expression) → All (NeedsOneOf texts) es → (i j : ℕ) → j ≤ length line → Holds line (alt es) i j → Matches (any_literal (record { texts = texts; fold = false })) line false
@@ -50,17 +45,12 @@ module _ (texts : List Text) (line : Text) where
 
 -- texts are needed if each branch needs some of them
 pub texts_are_needed : (texts : List Text) (es : List Expression) → All (NeedsOneOf texts) es → AreNeeded (record { texts = texts; fold = false }) (alt es)
-texts_are_needed texts es each line false none (i, j, within, h) = none (choice_matched texts line es each i j within h)
-texts_are_needed texts es each line true none h = none (choice_matched texts line es each 0 (length line) (omega arith) h)
-
-module _ (strings : Literals) (e : Expression) (needed : AreNeeded strings e) (whole : Bool) (block : Text) where
-  -- lines without strings that are needed are not matched
-  pub passes_needed : (count : ℕ) → PassesUnmatched (any_literal strings) false block count → PassesUnmatched e whole block count
-  passes_needed count (lines, rest, free, none, is, counted) = (lines, rest, free, λ i d below. needed (get_or lines i d) whole (none i d below), is, counted)
+texts_are_needed texts es each line false none (i, j, within, h) = none (choice_matched _ _ es each i j within h)
+texts_are_needed texts es each line true none h = none (choice_matched _ _ es each 0 _ (omega arith) h)
 
 -- a look for strings passes no byte twice
 pub look_for_any : (strings : Literals) (line : Text) (old new : Steps) → LooksForAny strings line old new → AddsUpTo 0 (length line) old new
-look_for_any strings line old new (inl looked) = subst (AddsUpTo 0 (length line) old) (sym looked.1) (adds_none 0 (length line) old)
+look_for_any strings line old new (inl looked) = rw looked.1 (adds_none 0 (length line) old)
 look_for_any strings line old new (inr (end, ends, passed)) = only_passed (length line) (end_cost line end) old new (within end ends) passed
   where
     within : (end : Option ℕ) → EndsFirst (keyed strings) (keys strings.fold line) end → end_cost line end ≤ length line

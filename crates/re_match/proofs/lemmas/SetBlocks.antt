@@ -1,9 +1,8 @@
 -- Lines of a block that have none of many strings.
 use Rattle.re_match.proofs.Prelude.{ℕ, Bool, true, false, length, get_or, arith, ◌≡◌, ◌+◌, ◌≤◌, List, [], ◌++◌, take, drop, Some, None, ap, ◌∙◌, length-append, Text, Expression, PassesUnmatched, IsBlock, PassesAll, ⊤, Matches, IsString, Occurs, EndsFirst, Literals, any_literal, key, keys, false≢true, length-map, map-append, take-append-le}
 use Rattle.std.proofs.Math.Seq.{drop-append-add, take-append-add}
-use Rattle.re_match.specs.Working.Literals.{keyed}
+use Rattle.re_match.{specs.Working.Literals.keyed, proofs.lemmas.SetMatches.occurs_decides}
 use Rattle.re_runs.proofs.lemmas.BlockLemmas.{passes_free_block, passes_free_front}
-use Rattle.re_match.proofs.lemmas.SetMatches.{occurs_decides}
 
 -- ---- where a string ends
 
@@ -15,19 +14,19 @@ module _ (strings : List Text) (fold : Bool) where
   size bytes = length-map bytes (key fold)
 
   pub ends_within : (line : Text) (k : ℕ) → StringEnds line k → k ≤ length line
-  ends_within line k (i, (low, some, within, is)) = omega (arith, within, size line)
+  ends_within line k (i, (low, some, within, is)) = omega (arith, size line)
 
   pub ends_before : (line after : Text) (k : ℕ) → StringEnds line k → StringEnds (line ++ after) k
   ends_before line after k (i, (low, some, within, is)) =
       let joined : keys fold (line ++ after) ≡ keys fold line ++ keys fold after = map-append (key fold) line after in
       let same : take k (keys fold (line ++ after)) ≡ take k (keys fold line) = ap (take k) joined ∙ take-append-le k (keys fold line) (keys fold after) within in
-      (i, (low, some, omega (arith, within, ap length joined, length-append (keys fold line) (keys fold after)), rw same is))
+      (i, (low, some, omega (arith, ap length joined, length-append (keys fold line) (keys fold after)), rw same is))
 
   pub ends_after : (front line : Text) (k : ℕ) → StringEnds line k → StringEnds (front ++ line) (length front + k)
   ends_after front line k (i, (low, some, within, is)) =
-      let joined : keys fold (front ++ line) ≡ keys fold front ++ keys fold line = map-append (key fold) front line in
+      let joined = map-append (key fold) front line in
       let piece : drop (length front + i) (take (length front + k) (keys fold (front ++ line))) ≡ drop i (take k (keys fold line)) =
-      rw (joined, ← size front) (ap (drop (length (keys fold front) + i)) (take-append-add (keys fold front) (keys fold line) k) ∙ drop-append-add (keys fold front) (take k (keys fold line)) i) in
+      rw (joined, ← size front) (cc (take-append-add (keys fold front) (keys fold line) k, drop-append-add (keys fold front) (take k (keys fold line)) i)) in
       (length front + i, (omega arith, omega (arith, some), omega (arith, within, ap length joined, length-append (keys fold front) (keys fold line), size front), rw piece is))
 
 -- ---- lines that are passed
@@ -38,8 +37,7 @@ module _ (l : Literals) (none_empty : IsString (keyed l) [] → ⊥) where
 
   -- a line in which none ends is not matched
   unmatched : (line : Text) → ((k : ℕ) → ¬ StringEnds strings l.fold line k) → ¬ Matches (any_literal l) line false
-  unmatched line free m =
-      false≢true ((occurs_decides l line false none_empty ((λ h. absurd (false≢true h)), (λ (i, j, o). absurd (free j (i, o))))).1 m)
+  unmatched line free m = false≢true ((occurs_decides l _ none_empty ((λ h. absurd (false≢true h)), (λ (i, j, o). absurd (free j (i, o))))).1 m)
 
   -- where none is in the block, it is passed as a whole
   pub passes_set_block : (block : Text) → IsBlock block → EndsFirst strings (keys l.fold block) None → PassesUnmatched (any_literal l) false block (length block)
@@ -60,5 +58,4 @@ module _ (l : Literals) (none_empty : IsString (keyed l) [] → ⊥) where
 -- lines without a matched part aren't matched as a whole
 pub passes_whole_too : (e : Expression) (whole : Bool) (block : Text) (count : ℕ) → PassesUnmatched e false block count → PassesUnmatched e whole block count
 passes_whole_too e false block count passes = passes
-passes_whole_too e true block count (lines, rest, free, none, is, counted) =
-    (lines, rest, free, λ i d below holds. none i d below (0, length (get_or lines i d), omega arith, holds), is, counted)
+passes_whole_too e true block count (lines, rest, free, none, is, counted) = (lines, rest, free, λ i d below holds. none i d below (0, length (get_or lines i d), omega arith, holds), is, counted)

@@ -1,5 +1,5 @@
 -- Strings and lines as they are compared: what both cases of each letter have alike.
-use Rattle.re_match.proofs.Prelude.{◌≡◌, ◌↔◌, ℕ, zero, suc, inl, inr, Bool, true, false, IsTrue, List, [], ◌∷◌, map, slice_get, Some, refl, sym, ap, subst, ◌∙◌, option_map, Text, only, cat, alt, byte, sequence, Holds, folded, key, keys, literal_meaning, slice_get-map}
+use Rattle.re_match.proofs.Prelude.{◌≡◌, ◌↔◌, ℕ, zero, suc, inl, inr, Bool, true, false, List, [], ◌∷◌, map, slice_get, Some, refl, ap, ◌∙◌, option_map, Text, cat, alt, byte, sequence, Holds, folded, key, keys, literal_meaning, slice_get-map}
 use Rattle.re_strings.proofs.lemmas.KeyLaws.{closed_byte, keys_plain}
 
 -- ---- where they hold
@@ -15,15 +15,12 @@ module _ (line : Text) where
     (λ h. (key true h.0, slice_get-map (key true) line i ∙ ap (option_map (key true)) h.1, (closed_byte b h.0).0 h.2, h.3)),
     (λ h.
         let (c, at, same) = some_key (key true) line i h.0 h.1 in
-        (c, at, (closed_byte b c).1 (subst (λ d. IsTrue (only (key true b) d)) (sym same) h.2), h.3)),
+        (c, at, (closed_byte b c).1 (rw same h.2), h.3)),
   )
 
   cat_keys : (t : Text) (i j : ℕ) → Holds line (folded (cat (map byte t))) i j ↔ Holds (keys true line) (cat (map byte (keys true t))) i j
   cat_keys [] i j = (λ h. h, λ h. h)
-  cat_keys (b ∷ t) i j = (
-    (λ h. (h.0, (byte_keys b i h.0).0 h.1, (cat_keys t h.0 j).0 h.2)),
-    (λ h. (h.0, (byte_keys b i h.0).1 h.1, (cat_keys t h.0 j).1 h.2)),
-  )
+  cat_keys (b ∷ t) i j = ((λ h. (h.0, (byte_keys b i h.0).0 h.1, (cat_keys t h.0 j).0 h.2)), (λ h. (h.0, (byte_keys b i h.0).1 h.1, (cat_keys t h.0 j).1 h.2)))
 
   folded_keys : (t : Text) (i j : ℕ) → Holds line (folded (sequence (map byte t))) i j ↔ Holds (keys true line) (sequence (map byte (keys true t))) i j
   folded_keys [] i j = (λ h. h, λ h. h)
@@ -41,7 +38,4 @@ module _ (line : Text) where
   choice_keys fold [] i j = (λ h. h, λ h. h)
   choice_keys fold (t ∷ texts) i j =
       let here = string_keys fold t i j in
-      let rest = choice_keys fold texts i j in (
-        (λ h. elim h [ inl x ↦ inl (here.0 x) | inr y ↦ inr (rest.0 y) ]),
-        (λ h. elim h [ inl x ↦ inl (here.1 x) | inr y ↦ inr (rest.1 y) ]),
-      )
+      let rest = choice_keys fold texts i j in ((λ h. elim h [ inl x ↦ inl (here.0 x) | inr y ↦ inr (rest.0 y) ]), (λ h. elim h [ inl x ↦ inl (here.1 x) | inr y ↦ inr (rest.1 y) ]))

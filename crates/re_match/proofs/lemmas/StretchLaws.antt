@@ -1,27 +1,26 @@
 -- Strings in a stretch of a line are those of the line.
 use Rattle.re_match.proofs.Prelude.{false, ◌≡◌, ◌∙◌, ◌↔◌, ℕ, ◌+◌, ◌-◌, ◌<◌, ◌≤◌, inl, inr, [], ◌∷◌, length, take, drop, slice_range, sym, ap, arith, length-drop, length-take-le, drop-drop, Text, Holds, Literals, any_literal, key, keys, Look, One, Many, look_expression}
-use Rattle.std.proofs.Math.Seq.{take-take}
-use Rattle.std.specs.List.{take-map}
+use Rattle.std.{proofs.Math.Seq.take-take, specs.List.take-map}
 use Rattle.std.proofs.lemmas.List.{drop-take, drop-map}
 use Rattle.re_match.proofs.lemmas.SetMatches.{any_stands, stands_any}
 
 -- the bytes between two places
 between : (line : Text) (a n i j : ℕ) → j ≤ n → drop i (take j (take n (drop a line))) ≡ drop (a + i) (take (a + j) line)
-between line a n i j le = ap (drop i) (take-take j n (drop a line) le ∙ sym (drop-take a j line)) ∙ drop-drop i a (take (a + j) line)
+between line a n i j le = cc (take-take j n (drop a line) le ∙ sym (drop-take a j line), drop-drop i a (take (a + j) line))
 
 -- and as they are compared
 between_keys : (fold : _) (line : Text) (a n i j : ℕ) → j ≤ n → drop i (take j (keys fold (take n (drop a line)))) ≡ drop (a + i) (take (a + j) (keys fold line))
-between_keys fold line a n i j le = ap (λ t. drop i (take j t)) (sym (take-map (key fold) n (drop a line)) ∙ ap (take n) (sym (drop-map (key fold) a line))) ∙ between (keys fold line) a n i j le
+between_keys fold line a n i j le = cc (sym (take-map (key fold) n (drop a line)) ∙ ap (take n) (sym (drop-map (key fold) a line)), between _ a n i j le)
 
 module _ (line : Text) (start end i j : ℕ) (within : end ≤ length line) (lt : i < j) (high : start + j ≤ end) where
   long : length (slice_range line start end) ≡ end - start
-  long = length-take-le (end - start) (drop start line) (omega (arith, length-drop start line, within))
+  long = length-take-le (end - start) (drop start line) (omega (arith, length-drop start line))
 
   pub any_shift : (l : Literals) → Holds (slice_range line start end) (any_literal l) i j ↔ Holds line (any_literal l) (start + i) (start + j)
   any_shift l =
-      let same = between_keys l.fold line start (end - start) i j (omega (arith, high)) in (
-        λ h. stands_any l line (start + i) (start + j) (omega (arith, lt)) (omega (arith, high, within)) (rw (← same) (any_stands l (slice_range line start end) i j (omega (arith, lt)) (omega (arith, long, high)) h)),
-        λ h. stands_any l (slice_range line start end) i j (omega (arith, lt)) (omega (arith, long, high)) (rw same (any_stands l line (start + i) (start + j) (omega (arith, lt)) (omega (arith, high, within)) h)),
+      let same = between_keys l.fold line start (end - start) i j (omega arith) in (
+        λ h. stands_any l line (start + i) (start + j) (omega arith) (omega arith) (rw (← same) (any_stands l _ i j (omega arith) (omega (arith, long)) h)),
+        λ h. stands_any l (slice_range line start end) i j (omega arith) (omega (arith, long)) (rw same (any_stands l _ _ _ (omega arith) (omega arith) h)),
       )
 
   -- where strings are in it
@@ -29,4 +28,4 @@ module _ (line : Text) (start end i j : ℕ) (within : end ≤ length line) (lt 
   look_shift (One t) =
       let (on, back) = any_shift (record { texts = t ∷ []; fold = false }) in
       (λ h. elim (on (inl h)) [ inl is ↦ is | inr o ↦ absurd o ], λ h. elim (back (inl h)) [ inl is ↦ is | inr o ↦ absurd o ])
-  look_shift (Many set) = any_shift set.value
+  look_shift (Many set) = any_shift _

@@ -1,24 +1,16 @@
 -- Walks by kept steps over the lines of a block, and the line that is searched where one stops.
-use Rattle.re_match.proofs.Prelude.{◌≡◌, ℕ, ◌+◌, ◌-◌, ◌≤◌, inl, inr, Bool, false, length, slice_range, refl, ap, subst, arith, Text, Expression, Steps, IsLineFrom, Cache, Searches, cache_of, Decided, StopsAt}
-use Rattle.re_match.proofs.lemmas.StepSums.{adds_on}
+use Rattle.re_match.proofs.Prelude.{◌≡◌, ℕ, ◌+◌, ◌-◌, ◌≤◌, inl, inr, Bool, false, length, slice_range, refl, arith, Text, Expression, Steps, IsLineFrom, Cache, Searches, cache_of, Decided, StopsAt}
+use Rattle.re_match.{proofs.lemmas.StepSums.adds_on, specs.Working.CachedMatchers.IsTableFor, specs.Working.Sweeps.CountsSweep, proofs.lemmas.SweptLines.stops_saying}
 use Rattle.re_runs.proofs.lemmas.Ranges.{joined_range, length_range, line_before, same_end}
-use Rattle.re_steps.specs.declared.table.LineSearch.{LineSearch}
-use Rattle.re_steps.specs.declared.table.StepTable.{StepTable}
+use Rattle.re_steps.specs.{declared.table.LineSearch.LineSearch, declared.table.StepTable.StepTable, declared.walk.Lines.Lines, Working.Stages.Stage, Working.Stages.Finishes, Working.Walks.GoesOverLines}
 use Rattle.re_auto.specs.declared.mode.Mode.TheVariants.{Search}
-use Rattle.re_steps.specs.declared.walk.Lines.{Lines}
-use Rattle.re_steps.specs.Working.Stages.{Stage, Finishes}
 use Rattle.re_steps.specs.Working.Rows.{IsRight, IsRightFor, ComesTo, expression_in, walked}
-use Rattle.re_steps.specs.Working.Walks.{GoesOverLines, IsAtOf}
-use Rattle.re_match.specs.Working.CachedMatchers.{IsTableFor}
-use Rattle.re_match.specs.Working.Sweeps.{CountsSweep}
-use Rattle.re_match.proofs.lemmas.SweptLines.{stops_saying}
-use Rattle.re_steps.proofs.lemmas.StageLaws.{searches_say, searches_steps}
-use Rattle.re_steps.proofs.lemmas.WalkLaws.{walked_on, adds_walked}
+use Rattle.re_steps.proofs.lemmas.{StageLaws.searches_say, StageLaws.searches_steps, WalkLaws.walked_on, WalkLaws.adds_walked}
 
 -- a table with rows is right
 pub right_of : {e : Expression} {most : ℕ} (t : StepTable) → IsTableFor e false most t → (length t.marks.items ≡ 0 → ⊥) → IsRight e Search t
 right_of t is some = elim is.1 [
-  | inl blank ↦ absurd (some (ap length blank.marks))
+  | inl blank ↦ absurd (some (rw blank.marks))
   | inr right ↦ right
 ]
 
@@ -33,10 +25,10 @@ module _ {asked : LineSearch} {t : StepTable} {lines : Lines} {end : ℕ} (goes 
   cut = line_before block lines.start lines.place end goes.low goes.free rest
 
   long : length line ≡ end - lines.start
-  long = length_range block lines.start end (omega (arith, rest.1))
+  long = length_range block lines.start end (omega arith)
 
   pub within_line : lines.place - lines.start ≤ length line
-  within_line = omega (arith, long, rest.0)
+  within_line = omega (arith, long)
 
   module _ (right : IsRightFor asked t) (search : asked.mode ≡ Search) (old : Steps) {after : Steps} {last : Cache} {answer : Bool}
       (finishes : (first : Stage) → ComesTo (expression_in asked) asked.mode line first (cache_of t) (walked lines.place old) (lines.place - lines.start) lines.row → Finishes (expression_in asked) asked.mode line first last after answer) where
@@ -49,15 +41,15 @@ module _ {asked : LineSearch} {t : StepTable} {lines : Lines} {end : ℕ} (goes 
           cache = inl refl;
           steps = refl;
           finishes = finishes first
-              (subst (λ s. IsAtOf asked line first t s (lines.place - lines.start) lines.row) (walked_on lines.start (lines.place - lines.start) lines.place old (omega (arith, goes.low)))
-              (subst (λ l. IsAtOf asked l first t (walked (lines.place - lines.start) (walked lines.start old)) (lines.place - lines.start) lines.row) (joined_range block lines.start lines.place end goes.low rest.0)
+              (rw (walked_on lines.start (lines.place - lines.start) lines.place old (omega arith)) at
+              (rw (joined_range block lines.start lines.place end goes.low rest.0) at
               (goes.comes (slice_range block lines.place end) right.first.start (walked lines.start old) right.first.is_start)));
         }
 
     -- the line is decided
     pub walk_stops : StopsAt (expression_in asked) false block (record { start = lines.start; first = lines.start; reached = end + 1; stop = Decided answer })
-    walk_stops = stops_saying (expression_in asked) false block lines.start (end + 1) (Decided answer) (λ n. refl) (omega (arith, rest.1)) (λ other there.
-        (omega (arith, same_end block lines.start end other cut there), rw (same_end block lines.start end other cut there) at (searches_say false (subst (λ m. Searches (expression_in asked) m line (cache_of t) last (walked lines.start old) after answer) search searched))))
+    walk_stops = stops_saying _ _ _ _ _ _ (λ n. refl) (omega arith) (λ other there.
+        (omega (arith, same_end block lines.start end other cut there), rw (same_end block lines.start end other cut there) at (searches_say false (rw search at searched))))
 
     pub walk_adds : CountsSweep (record { start = lines.start; first = lines.start; reached = end + 1; stop = Decided answer }) old after
     walk_adds =

@@ -5,8 +5,7 @@ use Rattle.line_chunks.proofs.chunks.even_limit.Goals as goal
 pub returns-clause-half : goal.returns-clause-half
 returns-clause-half c = elim (cases_lt c.saturating_add.result c.args.limit) [
   | inl less ↦
-      (let half = half_full c.args.bytes c.args.limit c.saturating_add-chunks.result c.saturating_add.result (omega (arith, c.if-chunks-lt2.false)) (omega (arith, c.saturating_add-chunks.ensures))
-      (omega (arith, less, c.saturating_add.ensures, c.ranges.limit.fits)) in
-      omega (arith, half, less, c.min.ensures))
-  | inr enough ↦ omega (arith, enough, c.min.ensures)
+      (let half = half_full c.args.bytes c.args.limit c.saturating_add-chunks.result c.saturating_add.result (omega arith) (omega arith) (omega arith) in
+      omega arith)
+  | inr enough ↦ omega arith
 ]

@@ -8,11 +8,5 @@ loop-k-preserved c =
     let es = c.loop-k.entries.items in
     record {
       many = length-set es c.loop-k.k c.drop_from.new.entry ∙ c.loop-k.invariant.many;
-      chunks =
-          chunks_mapped es (chunks_of c.args.entries.now.items) c.loop-k.k c.index_mut.result.now
-          c.drop_from.new.entry (map (line_without c.args.p))
-          (omega (arith, c.loop-k-test.true, c.len-k-end.ensures, c.args.entries.now.ok.0, c.loop-k.invariant.many))
-          c.index_mut.ensures.value
-          (c.loop-k.invariant.many ∙ sym (length-chunks_of c.args.entries.now.items))
-          c.loop-k.invariant.chunks c.drop_from.ensures;
+      chunks = chunks_mapped es (chunks_of c.args.entries.now.items) c.loop-k.k _ c.drop_from.new.entry (map (line_without c.args.p)) (omega arith) c.index_mut.ensures.value (c.loop-k.invariant.many ∙ sym (length-chunks_of c.args.entries.now.items)) c.loop-k.invariant.chunks c.drop_from.ensures;
     }

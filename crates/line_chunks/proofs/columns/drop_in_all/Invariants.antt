@@ -5,6 +5,5 @@ abbrev pub invariant-loop-k : goal.invariant-loop-k
 invariant-loop-k l = record {
   many : length l.entries.items ≡ length l.fn.entries.items;
   chunks : chunks_of l.entries.items ≡
-      map (map (line_without l.p)) (take l.k (chunks_of l.fn.entries.items)) ++
-      drop l.k (chunks_of l.fn.entries.items);
+      map (map (line_without l.p)) (take l.k (chunks_of l.fn.entries.items)) ++ drop l.k (chunks_of l.fn.entries.items);
 }

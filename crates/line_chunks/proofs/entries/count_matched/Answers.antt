@@ -3,17 +3,7 @@ use Rattle.line_chunks.proofs.lemmas.Sums.{matched_within, matched_next}
 use Rattle.line_chunks.proofs.entries.count_matched.Goals as goal
 
 pub overflow_add-count : goal.overflow_add-count
-overflow_add-count c =
-    omega (
-      arith,
-      c.ranges.to.fits,
-      c.loop-k.invariant,
-      c.loop-k-test.true,
-      c.one_if-count.ensures.few,
-      matched_within c.args.chunk.now c.loop-k.k,
-    )
+overflow_add-count c = omega (arith, matched_within c.args.chunk.now c.loop-k.k)
 
 pub loop-k-preserved : goal.loop-k-preserved
-loop-k-preserved c =
-    matched_next c.args.chunk.now c.loop-k.k c.loop-k.count c.one_if-count.result c.is_matched.result
-    (omega (arith, c.requires, c.loop-k-test.true)) c.loop-k.invariant c.is_matched.ensures c.one_if-count.ensures.one
+loop-k-preserved c = matched_next c.args.chunk.now c.loop-k.k _ _ _ (omega arith) c.loop-k.invariant c.is_matched.ensures c.one_if-count.ensures.one

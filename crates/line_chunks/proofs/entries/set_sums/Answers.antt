@@ -3,5 +3,4 @@ use Rattle.line_chunks.proofs.lemmas.Sums.{matched_few}
 use Rattle.line_chunks.proofs.entries.set_sums.Goals as goal
 
 pub overflow_add-entry-2 : goal.overflow_add-entry-2
-overflow_add-entry-2 c =
-    omega (arith, c.requires.few, c.requires.fewer, c.hits.ensures, matched_few c.args.entry.now.chunk)
+overflow_add-entry-2 c = omega (arith, matched_few c.args.entry.now.chunk)

@@ -1,4 +1,4 @@
-use Rattle.line_chunks.proofs.Prelude.{arith, ap, ◌≡◌, ◌-◌, take, drop}
+use Rattle.line_chunks.proofs.Prelude.{arith, ◌≡◌, ◌-◌}
 use Rattle.line_chunks.proofs.lemmas.Pieces.{adds_none, piece_next}
 use Rattle.line_chunks.proofs.new_chunks.add_lines.Goals as goal
 
@@ -8,20 +8,17 @@ loop-at-init c =
     record {
       more = omega arith;
       within = c.requires.in_order;
-      lines = adds_none c.args.fresh.now.items _ (ap (λ n. take n (drop c.args.from c.args.chunk.now)) zero);
+      lines = adds_none _ _ (rw zero);
     }
 
 pub loop-at-preserved : goal.loop-at-preserved
 loop-at-preserved c = record {
-  more = omega (arith, c.loop-at.invariant.more, c.in_ok-at.ensures.more);
+  more = omega (arith, c.in_ok-at.ensures.more);
   within = c.in_ok-at.ensures.within;
-  lines =
-      piece_next c.args.fresh.now.items c.loop-at.fresh.items c.add_piece.new.fresh.items c.args.chunk.now c.args.from
-      c.loop-at.at c.in_ok-at.at c.loop-at.invariant.more (omega (arith, c.in_ok-at.ensures.more))
-      c.loop-at.invariant.lines c.in_ok-at.ensures.lines;
+  lines = piece_next _ _ _ c.args.chunk.now c.args.from c.loop-at.at c.in_ok-at.at c.loop-at.invariant.more (omega (arith, c.in_ok-at.ensures.more)) c.loop-at.invariant.lines c.in_ok-at.ensures.lines;
 }
 
 pub returns : goal.returns
 returns c =
-    let last : c.loop-at.at ≡ c.args.to = omega (arith, c.loop-at-test.false, c.loop-at.invariant.within) in
+    let last : c.loop-at.at ≡ c.args.to = omega arith in
     rw last at c.loop-at.invariant.lines

@@ -1,4 +1,4 @@
-use Rattle.line_chunks.proofs.Prelude.{arith, ap, sym, ◌∙◌, ◌≡◌, ◌-◌, ◌<◌, [], inl, inr, cases_lt, length, take, drop, get_or, get_or_past, Entry, chunks_of}
+use Rattle.line_chunks.proofs.Prelude.{arith, ap, ◌≡◌, ◌-◌, ◌<◌, [], inl, inr, cases_lt, length, get_or, get_or_past, chunks_of}
 use Rattle.line_chunks.proofs.lemmas.Pieces.{adds_none}
 use Rattle.line_chunks.proofs.lemmas.Sums.{chunk_at, length-chunks_of}
 use Rattle.line_chunks.proofs.new_chunks.add_part.Goals as goal
@@ -6,8 +6,8 @@ use Rattle.line_chunks.proofs.new_chunks.add_part.Goals as goal
 pub returns-then-from-to : goal.returns-then-from-to
 returns-then-from-to c =
     let lines = get_or (chunks_of c.args.entries.now) c.args.k [] in
-    let zero : c.args.to - c.args.from ≡ 0 = omega (arith, c.if-from-to.true) in
-    adds_none c.args.fresh.now.items _ (ap (λ n. take n (drop c.args.from lines)) zero)
+    let zero : c.args.to - c.args.from ≡ 0 = omega arith in
+    adds_none _ _ (rw zero)
 
 pub returns : goal.returns
 returns c =
@@ -15,7 +15,7 @@ returns c =
     let inside : c.args.k < length es = elim (cases_lt c.args.k (length es)) [
       | inl h ↦ h
       | inr h ↦
-          (let none = ap length (get_or_past (chunks_of es) c.args.k [] (omega (arith, h, length-chunks_of es))) in
-          absurd (let no : ⊥ = omega (arith, none, c.requires.within, c.if-from-to.false) in no))
+          (let none = ap length (get_or_past (chunks_of es) c.args.k [] (omega (arith, length-chunks_of es))) in
+          absurd (omega (arith, c.requires.within, c.if-from-to.false)))
     ] in
-    rw (ap (λ (e : Entry). e.chunk) c.index-entries-k.is ∙ sym (chunk_at es c.args.k c.index-entries-k.result inside)) at c.add_lines.ensures
+    rw (c.index-entries-k.is, ← chunk_at es c.args.k c.index-entries-k.result inside) at c.add_lines.ensures

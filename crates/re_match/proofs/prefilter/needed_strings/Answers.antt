@@ -1,7 +1,6 @@
-use Rattle.re_match.proofs.Prelude.{map, lines_of, expression_of}
 use Rattle.re_trees.proofs.lemmas.ExpressionLaws.{expression-Alt}
 use Rattle.re_match.proofs.lemmas.NeededStrings.{texts_are_needed}
 use Rattle.re_match.proofs.prefilter.needed_strings.Goals as goal
 
 pub returns : goal.returns
-returns c = rw (c.in-Alt.is, c.in_ok-strings.ensures, c.deref-2.ensures.value) (rw (expression-Alt c.in-Alt.branches) (texts_are_needed (lines_of c.in-Some.texts.items) (map expression_of c.in-Alt.branches.items) (rw (c.in-Some.is, c.deref.ensures.value) at c.in_ok-texts.ensures)))
+returns c = rw (c.in-Alt.is, c.in_ok-strings.ensures, c.deref-2.ensures.value) (rw (expression-Alt c.in-Alt.branches) (texts_are_needed _ _ (rw (c.in-Some.is, c.deref.ensures.value) at c.in_ok-texts.ensures)))

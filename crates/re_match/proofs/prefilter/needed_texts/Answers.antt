@@ -1,9 +1,8 @@
-use Rattle.re_match.proofs.Prelude.{◌≡◌, arith, map, ◌++◌, [], ◌∷◌, sym, ap, ◌∙◌, subst, All, HasNoNewline, lines_of, expression_of}
-use Rattle.std.proofs.lemmas.List.Elements.{All-push, All-map}
-use Rattle.re_match.specs.Working.Prefilters.{NeedsOneOf}
-use Rattle.re_trees.proofs.lemmas.LinesLaws.{lines_of-terminated, terminated-append}
-use Rattle.re_match.proofs.lemmas.NeededStrings.{needed_more}
+use Rattle.re_match.proofs.Prelude.{◌≡◌, arith, ◌++◌, [], ◌∷◌, sym, ap, ◌∙◌, HasNoNewline, lines_of, expression_of}
 use Rattle.re_match.proofs.prefilter.needed_texts.Goals as goal
+use Rattle.std.proofs.lemmas.List.Elements.{All-push, All-map}
+use Rattle.re_match.{specs.Working.Prefilters.NeedsOneOf, proofs.lemmas.NeededStrings.needed_more}
+use Rattle.re_trees.proofs.lemmas.LinesLaws.{lines_of-terminated, terminated-append}
 
 pub branches-preserved : goal.branches-preserved
 branches-preserved c =
@@ -18,6 +17,6 @@ branches-preserved c =
 pub returns : goal.returns
 returns c =
     let strings = c.branches.invariant.0 in
-    let lines : lines_of c.branches.texts.items ≡ strings = ap lines_of c.branches.invariant.1 ∙ lines_of-terminated strings c.branches.invariant.2 in
-    subst (λ ts. All (NeedsOneOf ts) (map expression_of c.args.branches.now)) (sym lines)
-    (All-map (NeedsOneOf strings) expression_of c.args.branches.now (λ k d lt. c.branches.invariant.3 k d (omega (arith, lt, c.branches-test.false))))
+    let lines : lines_of c.branches.texts.items ≡ strings = cc (c.branches.invariant.1, lines_of-terminated strings c.branches.invariant.2) in
+    rw lines
+    (All-map (NeedsOneOf strings) expression_of c.args.branches.now (λ k d lt. c.branches.invariant.3 k d (omega arith)))

@@ -1,19 +1,18 @@
 use Rattle.re_match.proofs.Prelude.{rules, ℕ, ◌+◌, ◌-◌, ◌<◌, inl, refl, slice_index, arith}
-use Rattle.re_match.proofs.lemmas.StepSums.{adds_on}
-use Rattle.re_match.proofs.lemmas.WindowLaws.{later_by_needle, later_by_bytes}
 use Rattle.re_match.proofs.prefilter.window_at.Goals as goal
+use Rattle.re_match.proofs.lemmas.{StepSums.adds_on, WindowLaws.later_by_needle, WindowLaws.later_by_bytes}
 
 pub returns-then-needle : goal.returns-then-needle
 returns-then-needle c = λ e before of right looked over.
     let high = c.end-end.ensures.low in (
       (later_by_needle e c.args.line.now c.args.from c.args.near c.args.needle.now of c.requires.low (omega (arith, c.requires.low, c.requires.within)) c.requires.next c.if-needle.true, (high, c.end-end.ensures.border e right)),
-      record { few = adds_on looked c.end-end.ensures.passed (omega arith) (omega (arith, c.requires.low, c.requires.within, high)); all = omega (arith, over, c.end-end.ensures.passed.passed) },
+      record { few = adds_on looked c.end-end.ensures.passed (omega arith) (omega arith); all = omega arith },
     )
 
 pub returns-in_default : goal.returns-in_default
 returns-in_default c = λ e before of right looked over.
     rw c.rest_of.ensures (
-      ((omega arith, λ i j f. f.begins), (omega (arith, c.requires.low, c.requires.within), inl refl)),
+      ((omega arith, λ i j f. f.begins), (omega arith, inl refl)),
       record { few = adds_on looked c.in_default.ensures.none (omega arith) (omega (arith, c.requires.low, c.requires.within)); all = omega (arith, over, c.in_default.ensures.none.passed) },
     )
 
@@ -27,7 +26,7 @@ returns c = λ e before of right looked over.
     let small : (x : ℕ) → slice_index line x < 256 = search rules in (
       (later_by_bytes e line from near c.args.needle.now of c.requires.low (omega (arith, c.requires.low, c.requires.within)) c.requires.next c.args.edges.now right small start c.in-Some.ensures.low c.in-Some.ensures.high c.in-Some.ensures.outside, (omega (arith, high, c.in-Some.ensures.high), c.end-end-2.ensures.border e right)),
       record {
-        few = adds_on {first = start - from} {first_bytes = near + 1 - from} (adds_on looked c.in-Some.ensures.steps (omega arith) (omega arith)) c.end-end-2.ensures.passed (omega arith) (omega (arith, c.requires.low, c.requires.within, high));
+        few = adds_on {first = start - from} {first_bytes = near + 1 - from} (adds_on looked c.in-Some.ensures.steps (omega arith) (omega arith)) c.end-end-2.ensures.passed (omega arith) (omega arith);
         all = omega (arith, over, c.in-Some.ensures.high, c.in-Some.ensures.steps.passed, c.end-end-2.ensures.passed.passed);
       },
     )

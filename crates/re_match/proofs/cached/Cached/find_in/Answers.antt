@@ -1,4 +1,3 @@
-use Rattle.re_match.proofs.Prelude.{◌-◌}
 use Rattle.re_match.proofs.lemmas.StepSums.{walked_adds}
 use Rattle.re_match.proofs.cached.Cached.find_in.Goals as goal
 
@@ -9,4 +8,4 @@ pub returns-clause-found : goal.returns-clause-found
 returns-clause-found c = rw (← c.self.view_is) c.find.ensures.found
 
 pub returns-clause-steps : goal.returns-clause-steps
-returns-clause-steps c = walked_adds (c.args.window.end - c.args.window.start) c.find.ensures.counted
+returns-clause-steps c = walked_adds _ c.find.ensures.counted

@@ -1,10 +1,8 @@
-use Rattle.re_match.proofs.Prelude.{◌≡◌, arith, Bool, refl, inl, sym, subst, Text, expression_of, Steps, Cache, IsReadied, Searches, mode_for, cache_in, cache_of, CachedMatcher, SameCached, Mode}
+use Rattle.re_match.proofs.Prelude.{◌≡◌, arith, Bool, refl, inl, Text, expression_of, Steps, Cache, IsReadied, Searches, mode_for, cache_in, cache_of, CachedMatcher, SameCached, Mode}
+use Rattle.re_match.proofs.cached.Cached.searched.Goals as goal
 use Rattle.std.proofs.Common.{◌*◌}
 use Rattle.re_steps.proofs.lemmas.StageLaws.{searches_readied, goes_nowhere}
-use Rattle.re_steps.specs.Working.Stages.{Stage}
-use Rattle.re_steps.specs.Working.Rows.{ComesTo}
-use Rattle.re_steps.specs.declared.walk.Spot.{Spot}
-use Rattle.re_match.proofs.cached.Cached.searched.Goals as goal
+use Rattle.re_steps.specs.Working.{Stages.Stage, Rows.ComesTo}
 
 -- the table was made ready, then its rows, and then the line was searched
 readied_for : {line : Text} {old now : CachedMatcher} {middle new : Cache} {mode : Mode} {before after : Steps} {answer : Bool} → SameCached old now → IsReadied old.cache now.cache → mode ≡ mode_for now.whole → IsReadied now.cache middle
@@ -59,10 +57,4 @@ returns-clause-searches c =
     record { set = right.first.start; row = record { number = 1; row = refl; is = right.first.is_start }; plain = c.if-is_matched_at_once.ensures.no right.first.start right.first.is_start refl; goes = goes_nowhere e c.mode-mode.result c.args.line.now first } in
     readied_for {middle = now} c.ready_table.ensures.same c.ready_table.ensures.readied c.mode-mode.ensures
     (rw (← c.self.view_is, c.in-Some.is) c.is_ready.ensures.readied)
-    (rw (← c.self.view_is) (record {
-      first = first;
-      stands = right.first.stands c.args.line.now;
-      cache = inl refl;
-      steps = refl;
-      finishes = c.search_on.ensures.finishes first (subst (λ (s : Spot). ComesTo e c.mode-mode.result c.args.line.now first now c.args.meter.now s.place s.row) (sym c.first_spot-from.ensures) came);
-    }))
+    (rw (← c.self.view_is) (record { first = first; stands = right.first.stands c.args.line.now; cache = inl refl; steps = refl; finishes = c.search_on.ensures.finishes first (rw c.first_spot-from.ensures came) }))

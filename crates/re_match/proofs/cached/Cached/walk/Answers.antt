@@ -25,4 +25,4 @@ returns-clause-stops c =
 pub returns-clause-steps : goal.returns-clause-steps
 returns-clause-steps c =
     let lines = c.walk_lines-lines.ensures in
-    rw c.to-2.ensures (walk_adds lines.goes c.in-Some-line_end.ensures lines.ready.0 refl c.args.meter.now (rw lines.counted at c.search_on-answer.ensures.finishes))
+    rw c.to-2.ensures (walk_adds lines.goes c.in-Some-line_end.ensures lines.ready.0 refl _ (rw lines.counted at c.search_on-answer.ensures.finishes))

@@ -1,23 +1,21 @@
-use Rattle.re_match.proofs.Prelude.{expression_of, inl, refl}
-use Rattle.re_match.proofs.lemmas.NeededStrings.{said_at_once}
-use Rattle.re_steps.proofs.lemmas.StageLaws.{searches_say, searches_steps}
-use Rattle.re_match.proofs.lemmas.LookLaws.{looks_over, looks_and_steps}
+use Rattle.re_match.proofs.Prelude.{inl, refl}
 use Rattle.re_match.proofs.cached.CachedLineMatch.is_match.Goals as goal
+use Rattle.re_match.proofs.lemmas.{NeededStrings.said_at_once, LookLaws.looks_over, LookLaws.looks_and_steps}
+use Rattle.re_steps.proofs.lemmas.StageLaws.{searches_say, searches_steps}
 
 pub returns-in-Some-clause-reported : goal.returns-in-Some-clause-reported
-returns-in-Some-clause-reported c = said_at_once (expression_of c.args.self.now.tree) c.args.line.now c.args.self.now.whole c.in-Some.reported c.in-Some.ensures.settled
+returns-in-Some-clause-reported c = said_at_once _ _ _ _ c.in-Some.ensures.settled
 
 pub returns-in-Some-clause-steps : goal.returns-in-Some-clause-steps
-returns-in-Some-clause-steps c = looks_over (expression_of c.args.self.now.tree) c.args.line.now _ _ c.in-Some.ensures.looked
+returns-in-Some-clause-steps c = looks_over _ _ _ _ c.in-Some.ensures.looked
 
 pub returns-in-Some-clause-counted : goal.returns-in-Some-clause-counted
-returns-in-Some-clause-counted c =
-    record { said = _; looked = c.settled.new.meter; looks = c.in-Some.ensures.looked; answers = inl (refl, record { settled = c.in-Some.ensures.settled; cache = refl; steps = refl }) }
+returns-in-Some-clause-counted c = record { said = _; looked = c.settled.new.meter; looks = c.in-Some.ensures.looked; answers = inl (refl, record { settled = c.in-Some.ensures.settled; cache = refl; steps = refl }) }
 
 pub returns-clause-reported : goal.returns-clause-reported
 returns-clause-reported c = searches_say c.args.self.now.whole c.searched.ensures.searches
 
 pub returns-clause-steps : goal.returns-clause-steps
 returns-clause-steps c =
-    looks_and_steps (expression_of c.args.self.now.tree) c.args.line.now _ _ _ c.settled.ensures.looked
+    looks_and_steps _ _ _ _ _ c.settled.ensures.looked
     (searches_steps c.searched.ensures.searches)

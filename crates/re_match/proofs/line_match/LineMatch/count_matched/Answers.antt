@@ -1,8 +1,7 @@
 use Rattle.re_match.proofs.Prelude.{◌+◌, ◌-◌, ◌≤◌, length, drop, arith, length-drop, take_rest, Text, Matches}
-use Rattle.re_runs.proofs.lemmas.NextLines.{CountsTo, counts_next, counts_all}
-use Rattle.re_match.proofs.lemmas.StepSums.{adds_on}
-use Rattle.re_match.proofs.lemmas.SameLaws.{same_twice}
 use Rattle.re_match.proofs.line_match.LineMatch.count_matched.Goals as goal
+use Rattle.re_runs.proofs.lemmas.NextLines.{counts_next, counts_all}
+use Rattle.re_match.proofs.lemmas.{StepSums.adds_on, SameLaws.same_twice}
 
 pub returns-in_default-clause-reported : goal.returns-in_default-clause-reported
 returns-in_default-clause-reported g c =
@@ -17,13 +16,9 @@ lines-preserved g c =
     let rest = c.lines.rest.now in
     let at = c.in-Some.at in
     let within = c.in-Some.ensures.within in
-    let next : CountsTo (λ (line : Text). Matches (g.Self.LineMatch.expression c.args.self.now) line (g.Self.LineMatch.whole c.args.self.now)) block (drop (at.end + 1) rest) (c.lines.count + 1) =
+    let next =
     counts_next (λ (line : Text). Matches (g.Self.LineMatch.expression c.args.self.now) line (g.Self.LineMatch.whole c.args.self.now)) block rest c.lines.count at within.1 i.counts
     (rw (← i.same.same_expression, ← i.same.same_whole) c.in-Some.ensures.reported) in
     let few : length block - length rest + (at.end + 1) ≤ length block - length (drop (at.end + 1) rest) = omega (arith, length-drop (at.end + 1) rest, i.counts.few, within.1) in
     rw take_rest
-    record {
-      counts = next;
-      same = same_twice c.next_matched.ensures.same i.same;
-      steps = adds_on i.steps c.in-Some.ensures.steps few few;
-    }
+    record { counts = next; same = same_twice c.next_matched.ensures.same i.same; steps = adds_on i.steps c.in-Some.ensures.steps few few }

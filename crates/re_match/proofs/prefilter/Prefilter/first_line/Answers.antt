@@ -1,13 +1,13 @@
-use Rattle.re_match.proofs.Prelude.{◌≤◌, subst, inl, inr, IfSome, runs_of}
+use Rattle.re_match.proofs.Prelude.{inl, inr, get_or, runs_of}
 use Rattle.re_needle.proofs.lemmas.NeededLines.{passes_unmatched_run}
 use Rattle.re_match.proofs.lemmas.SweptLines.{stops_seen, stops_inside, stops_matched, stops_at_head}
 use Rattle.re_runs.proofs.lemmas.Looks.{look_within}
-use Rattle.re_match.proofs.lemmas.NeededStrings.{passes_needed}
 use Rattle.re_match.proofs.prefilter.Prefilter.first_line.Goals as goal
 
 pub returns-in-Some-clause-passes : goal.returns-in-Some-clause-passes
 returns-in-Some-clause-passes c = λ e is.
-    passes_needed c.in-Some.strings e (rw c.in-Some.is at is.strings) c.args.whole c.args.block.now c.first_line.result.start c.first_line.ensures.passes
+    let (lines, rest, free, none, same, counted) = c.first_line.ensures.passes in
+    (lines, rest, free, λ i d below. (rw c.in-Some.is at is.strings) (get_or lines i d) c.args.whole (none i d below), same, counted)
 
 pub returns-in-Some-clause-stops : goal.returns-in-Some-clause-stops
 returns-in-Some-clause-stops c = λ e is. c.first_line.ensures.stops e c.args.whole
@@ -29,11 +29,9 @@ returns-then-has_run-clause-passes c = λ e is. rw c.to-then-has_run.ensures (pa
 pub returns-then-has_run-clause-stops : goal.returns-then-has_run-clause-stops
 returns-then-has_run-clause-stops c = λ e is.
     let needle = rw c.in-Some-needle.is at is.needle in
-    let swept = c.first_line_with_run-swept.result in
-    let run = runs_of c.in-Some-needle.needle.finder in
     let (at, last, place, longest, free) = c.has_run.ensures c.if-has_run.true in
-    let low = subst (λ p. IfSome p (λ k. swept.start ≤ k)) place c.first_line_with_run-swept.ensures.low in
-    rw (c.to-then-has_run.ensures, c.bytes_over-reached.ensures, c.if-not-whole.true) (stops_matched e run c.args.block.now swept at last (needle.all c.if-needle-2.true) needle.some place longest low free c.first_line_with_run-swept.ensures.stops)
+    let low = rw place at c.first_line_with_run-swept.ensures.low in
+    rw (c.to-then-has_run.ensures, c.bytes_over-reached.ensures, c.if-not-whole.true) (stops_matched e (runs_of c.in-Some-needle.needle.finder) c.args.block.now c.first_line_with_run-swept.result at last (needle.all c.if-needle-2.true) needle.some place longest low free c.first_line_with_run-swept.ensures.stops)
 
 pub returns-clause-passes : goal.returns-clause-passes
 returns-clause-passes c = λ e is. rw c.to-2.ensures (passes_unmatched_run e _ c.args.whole (rw c.in-Some-needle.is at is.needle).needed c.args.block.now _ c.first_line_with_run-swept.ensures.passes)
@@ -41,12 +39,10 @@ returns-clause-passes c = λ e is. rw c.to-2.ensures (passes_unmatched_run e _ c
 pub returns-clause-stops : goal.returns-clause-stops
 returns-clause-stops c = λ e is.
     let needle = rw c.in-Some-needle.is at is.needle in
-    let block = c.args.block.now in
-    let swept = c.first_line_with_run-swept.result in
     let of = c.first_line_with_run-swept.ensures in
     rw (c.to-2.ensures, c.bytes_over-reached.ensures) (elim c.first_place-first.ensures [
-      | inl same ↦ rw same (stops_seen e c.args.whole block swept.start _ (look_within _ _) of.stops)
+      | inl same ↦ rw same (stops_seen e _ _ _ _ (look_within _ _) of.stops)
       | inr (first, any, free, place) ↦
-          let low = subst (λ p. IfSome p (λ k. swept.start ≤ k)) place of.low in
-          rw any (stops_at_head e (runs_of c.in-Some-needle.needle.finder) block swept c.first_place-first.result (is.begin free) (needle.first first) needle.some place of.found low of.stops)
+          let low = rw place at of.low in
+          rw any (stops_at_head e _ _ _ _ (is.begin free) (needle.first first) needle.some place of.found low of.stops)
     ])

@@ -12,19 +12,12 @@ pub returns-then-stands_in-clause-looked : goal.returns-then-stands_in-clause-lo
 returns-then-stands_in-clause-looked c = λ e is. inr (inr (inr (record { strings = c.in-Some.strings; needed = rw c.in-Some.is at is.strings; looked = c.if-stands_in.ensures.looked })))
 
 pub returns-then-is_none-clause-settled : goal.returns-then-is_none-clause-settled
-returns-then-is_none-clause-settled c = λ e is.
-    inl (settled_lacks e c.in-Some-needle.needle (rw c.in-Some-needle.is at is.needle) c.args.line.now c.args.whole c.find.result c.find.ensures.found c.if-is_none.ensures)
+returns-then-is_none-clause-settled c = λ e is. inl (settled_lacks e c.in-Some-needle.needle (rw c.in-Some-needle.is at is.needle) c.args.line.now c.args.whole c.find.result c.find.ensures.found c.if-is_none.ensures)
 
 pub returns-then-needle-clause-settled : goal.returns-then-needle-clause-settled
 returns-then-needle-clause-settled c = λ e is.
     let needle = rw c.in-Some-needle.is at is.needle in
-    inl (inr (inl (record {
-      runs = runs_of c.in-Some-needle.needle.finder;
-      begins = needle.first c.if-needle.true;
-      all = c.if-whole.true;
-      absent = λ o. false≢true (c.if-begins.ensures.reported.1 o);
-      no = refl;
-    })))
+    inl (inr (inl (record { runs = runs_of c.in-Some-needle.needle.finder; begins = needle.first c.if-needle.true; all = c.if-whole.true; absent = λ o. false≢true (c.if-begins.ensures.reported.1 o); no = refl })))
 
 pub returns-then-needle-clause-looked : goal.returns-then-needle-clause-looked
 returns-then-needle-clause-looked c = λ e is.

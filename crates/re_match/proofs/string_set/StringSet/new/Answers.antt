@@ -8,4 +8,4 @@ by_keys-requires c =
     ∙ ap (λ f. map (keys f) (lines_of c.args.texts.now)) (sym c.if-fold.true)
 
 pub by_keys-requires-2 : goal.by_keys-requires-2
-by_keys-requires-2 c = lines_plain c.args.texts.now ∙ ap (λ f. map (keys f) (lines_of c.args.texts.now)) (sym c.if-fold.false)
+by_keys-requires-2 c = cc (lines_plain c.args.texts.now, c.if-fold.false)

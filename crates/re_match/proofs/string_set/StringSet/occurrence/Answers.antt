@@ -3,8 +3,7 @@ use Rattle.re_match.proofs.lemmas.SetMatches.{best_is_part}
 use Rattle.re_match.proofs.string_set.StringSet.occurrence.Goals as goal
 
 pub returns-clause-reported : goal.returns-clause-reported
-returns-clause-reported c =
-    rw (← c.self.view_is) (best_is_part _ c.args.line.now c.args.from c.find.result (c.find.ensures.best _ c.self.invariant.1.1))
+returns-clause-reported c = rw (← c.self.view_is) (best_is_part _ _ _ _ (c.find.ensures.best _ c.self.invariant.1.1))
 
 pub returns-clause-reached : goal.returns-clause-reached
 returns-clause-reached c =

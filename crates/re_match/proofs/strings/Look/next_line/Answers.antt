@@ -20,8 +20,7 @@ returns-clause-reported c =
     let matched = λ (line : Text). Matches (any_literal c.in-Many.set.value) line false in
     let end = c.in_ok-end.end in
     let cut : IsLineFrom c.args.block.now c.first_line-start.result.start end = c.in_ok-end.ensures in
-    let holds = c.first_line-start.ensures.found end cut in
-    rw c.in-Many.is (next_from matched c.args.block.now c.first_line-start.result.start end cut (rw c.deref.ensures at c.first_line-start.ensures.passes) (rw c.deref.ensures at holds))
+    rw c.in-Many.is (next_from matched c.args.block.now c.first_line-start.result.start end cut (rw c.deref.ensures at c.first_line-start.ensures.passes) (rw c.deref.ensures at (c.first_line-start.ensures.found end cut)))
 
 pub returns-clause-looked : goal.returns-clause-looked
 returns-clause-looked c = rw c.in-Many.is (rw c.deref.ensures at c.first_line-start.ensures.looked)
@@ -29,4 +28,4 @@ returns-clause-looked c = rw c.in-Many.is (rw c.deref.ensures at c.first_line-st
 pub returns-clause-steps : goal.returns-clause-steps
 returns-clause-steps c =
     let line = (c.first_line-start.ensures.stops (any_literal c.in-Many.set.value) false).line c.in_ok-end.end c.in_ok-end.ensures in
-    adds_within 0 0 c.first_line-start.result.reached (c.in_ok-end.end + 1) _ _ (omega arith) (omega (arith, line.near)) c.first_line-start.ensures.steps
+    adds_within 0 0 c.first_line-start.result.reached (c.in_ok-end.end + 1) _ _ (omega arith) (omega arith) c.first_line-start.ensures.steps

@@ -18,13 +18,13 @@ returns-then-beyond-bytes-clause-steps c =
     rw c.rest_of.ensures (record {
       few = adds_within 0 (c.in-Some.part.start - c.args.from) most most _ _ (omega arith) (omega arith)
           (adds_passed 0 (c.in-Some.part.end - c.args.from) most c.min.result _ _ _ (omega (arith, c.min.ensures, found.begins, found.not_empty, found.on_line)) (only_passed (c.in-Some.part.end - c.args.from) (c.in-Some.part.end - c.args.from) _ _ (omega arith) c.add_passed-2.ensures) c.add_passed-then-beyond-bytes.ensures);
-      all = omega (arith, passes_all (c.in-Some.part.start - c.args.from) (c.in-Some.part.end - c.args.from) _ _ (omega (arith, found.not_empty)) c.add_passed-2.ensures, passes_all 0 c.min.result _ _ (omega arith) c.add_passed-then-beyond-bytes.ensures);
+      all = omega (arith, passes_all (c.in-Some.part.start - c.args.from) (c.in-Some.part.end - c.args.from) _ (omega (arith, found.not_empty)) c.add_passed-2.ensures, passes_all 0 c.min.result _ (omega arith) c.add_passed-then-beyond-bytes.ensures);
     })
 
 pub returns-clause-steps : goal.returns-clause-steps
 returns-clause-steps c =
     let bytes = c.in-Some.part.end - c.args.from in
     record {
-      few = look_and_built bytes c.saturating_sub-beyond.result bytes bytes _ _ _ (omega (arith, c.if-beyond-bytes.false)) (omega arith) c.add_passed-2.ensures c.add_built.ensures;
-      all = subst (PassesAtLeast (c.in-Some.part.start - c.args.from) c.args.meter.now) (sym c.add_built.ensures) (passes_all (c.in-Some.part.start - c.args.from) bytes _ _ (omega (arith, c.in-Some.ensures.reported.found.not_empty)) c.add_passed-2.ensures);
+      few = look_and_built _ _ _ _ _ _ (omega arith) (omega arith) c.add_passed-2.ensures c.add_built.ensures;
+      all = subst (PassesAtLeast (c.in-Some.part.start - c.args.from) c.args.meter.now) (sym c.add_built.ensures) (passes_all (c.in-Some.part.start - c.args.from) bytes _ (omega (arith, c.in-Some.ensures.reported.found.not_empty)) c.add_passed-2.ensures);
     }

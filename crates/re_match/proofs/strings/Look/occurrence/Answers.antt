@@ -1,4 +1,4 @@
-use Rattle.re_match.proofs.Prelude.{◌<◌, inr, None, length, arith, take_rest}
+use Rattle.re_match.proofs.Prelude.{inr, None, arith, take_rest}
 use Rattle.re_match.proofs.lemmas.OneText.{no_part, first_part}
 use Rattle.re_match.proofs.strings.Look.occurrence.Goals as goal
 
@@ -12,6 +12,4 @@ pub returns-in_err-start-clause-looked : goal.returns-in_err-start-clause-looked
 returns-in_err-start-clause-looked c = rw c.in-One.is (inr (None, rw take_rest at c.in_err-start.ensures.found, rw take_rest at c.in_err-start.ensures.counted))
 
 pub returns-clause-reported : goal.returns-clause-reported
-returns-clause-reported c =
-    let some : 0 < length c.in-One.finder = rw (← c.needle-length.ensures) (omega arith) in
-    rw (c.needle-length.ensures, c.in-One.is) (first_part c.in-One.finder c.args.line.now c.args.from c.in_ok-start.field-0 some (rw take_rest at c.in_ok-start.ensures.found))
+returns-clause-reported c = rw (c.needle-length.ensures, c.in-One.is) (first_part _ _ _ _ (rw (← c.needle-length.ensures) (omega arith)) (rw take_rest at c.in_ok-start.ensures.found))

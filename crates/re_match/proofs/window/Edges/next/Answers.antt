@@ -1,17 +1,14 @@
 use Rattle.re_match.proofs.Prelude.{rules, ℕ, ◌+◌, ◌-◌, ◌<◌, slice_index, arith}
-use Rattle.re_meter.proofs.lemmas.Adding.{only_passed}
-use Rattle.re_match.proofs.lemmas.StepSums.{adds_on, passes_all, passes_rest}
-use Rattle.re_match.proofs.lemmas.WindowLaws.{later_by_run}
 use Rattle.re_match.proofs.window.Edges.next.Goals as goal
+use Rattle.re_meter.proofs.lemmas.Adding.{only_passed}
+use Rattle.re_match.proofs.lemmas.{StepSums.adds_on, StepSums.passes_all, StepSums.passes_rest, WindowLaws.later_by_run}
 
 pub returns-then-start-line : goal.returns-then-start-line
 returns-then-start-line c = λ e right.
-    let line = c.args.line.now in
-    let small : (x : ℕ) → slice_index line x < 256 = search rules in
-    let start = c.next_in-start.ensures in
-    let later = later_by_run e line c.args.self.now right small c.args.from c.next_in-start.result start.on.0 start.passed in (
-      (λ i j f. let low = later.1 i j f in let some = f.not_empty in let on = f.on_line in omega (arith, low, some, on, c.if-start-line.true)),
-      passes_rest line c.args.from (c.next_in-start.result - c.args.from) _ _ (omega (arith, c.if-start-line.true)) c.add_passed.ensures,
+    let small : (x : ℕ) → slice_index c.args.line.now x < 256 = search rules in
+    let later = later_by_run e c.args.line.now c.args.self.now right small c.args.from c.next_in-start.result c.next_in-start.ensures.on.0 c.next_in-start.ensures.passed in (
+      (λ i j f. let low = later.1 i j f in omega arith),
+      passes_rest _ _ _ _ (omega arith) c.add_passed.ensures,
     )
 
 pub returns : goal.returns
@@ -24,7 +21,7 @@ returns c = λ e right.
     let high = c.end-end.ensures.low in (
       (later_by_run e line c.args.self.now right small from start at.on.0 at.passed, (high, c.end-end.ensures.border e right)),
       record {
-        few = adds_on {first_bytes = start + 1 - from} (only_passed _ (start + 1 - from) _ _ (omega arith) c.add_passed-2.ensures) c.end-end.ensures.passed (omega arith) (omega (arith, at.on.0, high, at.on.1, c.if-start-line.false));
-        all = omega (arith, passes_all (start - from) (start + 1 - from) _ _ (omega arith) c.add_passed-2.ensures, c.end-end.ensures.passed.passed);
+        few = adds_on {first_bytes = start + 1 - from} (only_passed _ (start + 1 - from) _ _ (omega arith) c.add_passed-2.ensures) c.end-end.ensures.passed (omega arith) (omega arith);
+        all = omega (arith, passes_all (start - from) (start + 1 - from) _ (omega arith) c.add_passed-2.ensures, c.end-end.ensures.passed.passed);
       },
     )
