@@ -1,10 +1,8 @@
 -- A text of commands is read as a file of its lines, whatever the reader of a text gives at a time.
-use Rattle.std.proofs.Common.{◌≡◌, ◌∙◌, ℕ, ◌+◌, ◌≤◌, Bool, true, false, List, [], ◌∷◌, ◌++◌, Option, Some, Result, Ok, Err, IfOk, IfErr, ◌⊎◌, inl, inr, if◌then◌else◌, nat_eq, length, sym, ap, refl, subst, arith, append_assoc, append-nil, length-append}
-use Rattle.std.specs.Io.KnownBytes.{Appends}
-use Rattle.re_syntax.specs.Bytes.{Text}
-use Rattle.re_syntax.specs.Lines.{ended_lines_of, lines_of, newline, put_before}
-use Rattle.re_syntax.proofs.lemmas.EndedLinesLaws.{AreEndedLines-ended_lines_of}
+use Rattle.gaxtrel.proofs.Prelude.{◌≡◌, ◌∙◌, ℕ, ◌+◌, ◌≤◌, Bool, true, false, List, [], ◌∷◌, ◌++◌, Option, Some, Result, Ok, Err, IfOk, IfErr, ◌⊎◌, inl, inr, if◌then◌else◌, nat_eq, length, sym, ap, refl, subst, arith, append_assoc, append-nil, length-append, Text, ended_lines_of, lines_of, newline, put_before}
 use Rattle.re_meter.specs.Meters.{Steps as StepCounts}
+use Rattle.std.specs.Io.KnownBytes.{Appends}
+use Rattle.re_syntax.proofs.lemmas.EndedLinesLaws.{AreEndedLines-ended_lines_of}
 use Rattle.grep_core.specs.Files.{File, broken, whole}
 use Rattle.grep_core.specs.Output.{written}
 use Rattle.grep_core.specs.Reading.{IsReadingOf, Reading, ends_after, failures_of, fails_after, file_of, most_lines, not_opened, open_source}
@@ -34,14 +32,14 @@ unfolding lines_of
 few_lines [] = omega arith
 few_lines (b ∷ t) =
     let few = few_lines t in
-    either_few (nat_eq b newline) ([] ∷ lines_of t) (put_before b (lines_of t)) (length (b ∷ t)) (omega (arith, few)) (omega (arith, few, put_few b (lines_of t)))
+    either_few (nat_eq b newline) ([] ∷ lines_of t) (put_before b (lines_of t)) (length (b ∷ t)) (omega arith) (omega (arith, put_few b (lines_of t)))
 
 -- ---- the file that was read
 
 module _ (text : Text) (few : length text ≤ most_lines) where
   all_lines : (bytes : Text) → text ≡ bytes → file_of [] (ends_after bytes) ≡ commands_of text
   all_lines bytes is =
-      let fits : length (lines_of bytes) ≤ most_lines = let fewer = few_lines bytes in let long = ap length is in omega (arith, fewer, long, few) in
+      let fits : length (lines_of bytes) ≤ most_lines = let fewer = few_lines bytes in let long = ap length is in omega arith in
       up_to_limit-few [] (lines_of bytes) whole fits ∙ ap commands_of (sym is)
 
   -- the lines of a text that newlines end in its first bytes, and those after them
@@ -52,50 +50,50 @@ module _ (text : Text) (few : length text ≤ most_lines) where
 
   broken_lines : (bytes : Text) (more : List Text) → lines_of text ≡ ended_lines_of bytes ++ more → file_of [] (fails_after bytes) ≡ record { name = []; lines = ended_lines_of bytes; ending = broken }
   broken_lines bytes more is =
-      let fits : length (ended_lines_of bytes) ≤ most_lines = let fewer = few_lines text in let long = ap length is ∙ length-append (ended_lines_of bytes) more in omega (arith, fewer, long, few) in
+      let fits : length (ended_lines_of bytes) ≤ most_lines = let fewer = few_lines text in let long = ap length is ∙ length-append (ended_lines_of bytes) more in omega arith in
       up_to_limit-few [] (ended_lines_of bytes) broken fits
 
   -- a script that was read to its end is the text
   whole_text : (reading : Reading) (file : File) → IsReadingOf (open_source [] (Some text)) reading → file ≡ file_of [] reading → file.ending ≡ whole → file ≡ commands_of text
-  whole_text not_opened file (cannot) is ends = absurd (let no : ⊥ = cc cannot in no)
+  whole_text not_opened file (cannot) is ends = absurd (cc cannot)
   whole_text (fails_after bytes) file (opens, (rest, cut)) is ends =
       let e = ended_first bytes rest cut in
       let same = is ∙ broken_lines bytes e.0 e.1 in
-      absurd (let no : ⊥ = cc (sym ends ∙ ap (λ (f : File). f.ending) same) in no)
+      absurd (cc (sym ends ∙ ap (λ (f : File). f.ending) same))
   whole_text (ends_after bytes) file (opens, all) is ends = is ∙ all_lines bytes all
 
   -- no read of it fails
   never_broken : (reading : Reading) (file : File) → IsReadingOf (open_source [] (Some text)) reading → file ≡ file_of [] reading → 0 ≡ count_more 0 (failures_of reading) → file.ending ≡ broken → ⊥
-  never_broken not_opened file cannot is none ends = absurd (let no : ⊥ = cc cannot in no)
-  never_broken (fails_after bytes) file some is none ends = absurd (let no : ⊥ = omega (arith, none) in no)
+  never_broken not_opened file cannot is none ends = absurd (cc cannot)
+  never_broken (fails_after bytes) file some is none ends = absurd (omega arith)
   never_broken (ends_after bytes) file (opens, all) is none ends =
       let same = is ∙ all_lines bytes all in
-      absurd (let no : ⊥ = cc (sym ends ∙ ap (λ (f : File). f.ending) same) in no)
+      absurd (cc (sym ends ∙ ap (λ (f : File). f.ending) same))
 
 -- the first steps of lines are those of more lines
 steps_beyond : (lines more : List Text) (steps : List Step) (rest : List Text) → Steps broken lines steps rest → Steps whole (lines ++ more) steps (rest ++ more)
 steps_beyond lines more [] rest is = ap (λ ls. ls ++ more) is
 steps_beyond lines more (step ∷ steps) rest (inl (line, taken, others, cut, is, next)) =
     inl (line, taken, others ++ more, ap (λ ls. ls ++ more) cut ∙ ap (λ ls. line ∷ ls) (append_assoc taken others more), is, steps_beyond others more steps rest next)
-steps_beyond lines more (step ∷ steps) rest (inr e) = absurd (let no : ⊥ = cc (e.0) in no)
+steps_beyond lines more (step ∷ steps) rest (inr e) = absurd (cc (e.0))
 
 -- the first steps of a script that was read in part are those of the text
 text_steps : (text : Text) → length text ≤ most_lines → (reading : Reading) (file : File) → IsReadingOf (open_source [] (Some text)) reading → file ≡ file_of [] reading
     → (steps : List Step) (rest : List Text) → Steps file.ending file.lines steps rest → (left : List Text) × Steps whole (lines_of text) steps left
-text_steps text few not_opened file cannot is steps rest are = absurd (let no : ⊥ = cc cannot in no)
+text_steps text few not_opened file cannot is steps rest are = absurd (cc cannot)
 text_steps text few (fails_after bytes) file (opens, (others, cut)) is steps rest are =
     let e = ended_first text few bytes others cut in
     let same = is ∙ broken_lines text few bytes e.0 e.1 in
-    (rest ++ e.0, subst (λ ls. Steps whole ls steps (rest ++ e.0)) (sym e.1) (steps_beyond (ended_lines_of bytes) e.0 steps rest (subst (λ (f : File). Steps f.ending f.lines steps rest) same are)))
+    (rest ++ e.0, rw e.1 (steps_beyond (ended_lines_of bytes) e.0 steps rest (rw same at are)))
 text_steps text few (ends_after bytes) file (opens, all) is steps rest are =
-    (rest, subst (λ (f : File). Steps f.ending f.lines steps rest) (is ∙ all_lines text few bytes all) are)
+    (rest, rw (is ∙ all_lines text few bytes all) at are)
 
 -- ---- how it was answered
 
 module _ {W : Type 0} (contents : W → Option Text) (failures : W → ℕ) (has_read : List Text → Type 0) (text : Text) (left : Option Text) (before : ScriptState) (after : LiveKept) (begun spent : StepCounts) (old new : W)
     (few : length text ≤ most_lines) (none : contents old ≡ Some []) (all : contents new ≡ Some after.replies) where
   appended : (bytes : Text) → Appends (contents old) (contents new) bytes → after.replies ≡ bytes
-  appended bytes a = subst (λ o. Appends o (Some after.replies) bytes) none (subst (λ n. Appends (contents old) n bytes) all a)
+  appended bytes a = rw none at (rw all at a)
 
   pub text_answered : (result : Result ScriptEnd ScriptFault) (answer : ℕ) → ScriptGives contents failures has_read (Some text) left 0 0 before after.state begun spent old new result
       → IfOk result (λ end. answer ≡ end_number end) → IfErr result (λ _. answer ≡ 2) → AnswersText before text begun after spent answer
@@ -105,12 +103,12 @@ module _ {W : Type 0} (contents : W → Option Text) (failures : W → ℕ) (has
         replies = e.replies;
         answers = record {
           steps = e.answers.steps;
-          are_steps = subst (λ (f : File). Steps f.ending f.lines e.answers.steps []) same e.answers.are_steps;
+          are_steps = rw same at e.answers.are_steps;
           most = e.answers.most;
           are_replies = e.answers.are_replies;
           few = e.answers.few;
         };
-        are_written = appended (written [] e.replies) e.goes.written;
+        are_written = appended _ e.goes.written;
         ended = number ∙ ap end_number e.ended;
       })
   text_answered (Err Read) answer e number two = absurd (never_broken text few e.reads.reading e.file e.reads.is_reading e.reads.is_file e.reads.counted e.is_broken)
@@ -140,8 +138,8 @@ module _ {W : Type 0} (contents : W → Option Text) (failures : W → ℕ) (has
           answers = record { steps = e.answers.steps; are_steps = s.1; most = e.answers.most; are_replies = e.answers.are_replies; few = e.answers.few };
           leaves = e.leaves;
           unwritten = e.stops.rest;
-          are_begun = e.stops.cut ∙ ap (λ b. b ++ e.stops.rest) (sym (appended e.stops.front e.stops.written));
-          broken = subst (HasAllButLast e.answers.steps before) (sym (appended e.stops.front e.stops.written)) e.broken;
+          are_begun = cc (e.stops.cut, appended e.stops.front e.stops.written);
+          broken = rw (appended e.stops.front e.stops.written) e.broken;
         },
       )
     where

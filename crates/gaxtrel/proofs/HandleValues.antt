@@ -1,32 +1,13 @@
 -- The machine values of a `Handle`, and what they own. Assumes `Logic`.
-use Rattle.std.proofs.Common.{◌≡◌, List, [], ◌∷◌, ◌++◌, refl, subst}
-use Rattle.std.specs.Prelude.{Option}
-use seplogic.Ra.Ura.{Ura}
-use mir.Syntax.{impl, tnil, dnil}
+use Rattle.gaxtrel.proofs.Machine.{◌≡◌, List, [], ◌∷◌, refl, Option, Ura, impl, tnil, dnil, Val, vnull, has_ty, WT, and_tt, Logic, RattleType, Valss, RawPtr, Ptr, ptr_val, nothing, layout, Laws, within, shape, Ghosts, Al, handle_tells, Good, Held, held_owns}
 use mathlib.Core.Bool.{true, ◌&&◌}
 use lib.Dec.{T, lit<}
-use mir.Val.{Val, vnull, vstruct, of_list, has_ty, WT}
-use Rattle.std_alloc.proofs.ResultValues.{and_tt}
-use types.Logic.{Logic}
 use types.Kit.{Item, Goal, Seq, Step, step, ‵, ◌$◌, move, drop, fsplit, fjoin, fpick, fpack, feq_i, feq_l}
-use denote.RattleType.{RattleType, Valss}
-use denote.Builtin.{RawPtr}
-use denote.RawPtr.{Ptr, ptr_val}
-use denote.Steps.{nothing}
-use denote.Param.{layout}
-use denote.Param.Laws.{Laws}
-use denote.Struct.Struct.{within}
-use denote.Struct.Owning.{shape}
-use Rattle.core.specs.declared.alloc.Allocator.{Ghosts}
-use Rattle.core.proofs.alloc.Calls.{Al, handle_tells}
-use Rattle.core.proofs.cell.Inside.{Good}
 use Rattle.std.specs.contracts.alloc.Global as global
 use Rattle.std.specs.contracts.impls.GlobalAllocator.TheImpl as heap
 use Rattle.std.proofs.alloc.Global.TheLaws as global_laws
-use Rattle.gaxtrel.specs.declared.held.Held.{Held}
 use Rattle.gaxtrel.specs.contracts.held.Held as kind
 use Rattle.gaxtrel.specs.contracts.handle.Handle as handle
-use Rattle.gaxtrel.specs.Working.Owned.{held_owns}
 use Rattle.gaxtrel.proofs.Values as loose
 
 abbrev pub R : RattleType
@@ -56,7 +37,7 @@ handle_good h fits = (and_tt (has_ty (layout Z) h) fits.0, (record { fits = lit<
 module _ {M : Type 1} {𝓤 : Ura M} {𝓛 : Logic 𝓤} {K : Type 0} {Γ : List (Item 𝓤)} {G : Goal 𝓤 𝓛.H} where
   pub handle_in : K → (p : Ptr) (h : Val) (a : Z.Denot) (x : Option Held)
       → Step K 𝓛 (‵ (Handle.own_val (record { at = p; alloc = a; held = x }) (loose.both (ptr_val p) h ∷ [])) ∷ Γ) G (‵ (held_owns R a p x) ∷ ‵ (Z.own_val a (h ∷ [])) ∷ Γ) G
-  handle_in t p h a x = step (λ s. let v : Val = loose.both (ptr_val p) h in
+  handle_in t p h a x = step (λ s. let v = loose.both (ptr_val p) h in
       nothing t $ move t (2 ∷ 0 ∷ []) $ fjoin t $ feq_i t (List Val) (ptr_val p ∷ []) (ptr_val p ∷ []) refl $ fjoin t $ feq_i t (List Val) (v ∷ []) (v ∷ []) refl $ fjoin t $
       fpack t (Valss (RawPtr ∷ (global.the_field).row ∷ [])) (within (shape handle.the_type) (p, ((global.the_field).into a, tt)) (v ∷ [])) (ptr_val p ∷ [], (h ∷ [], tt)) $ fjoin t $ s)
 
@@ -65,4 +46,4 @@ module _ {M : Type 1} {𝓤 : Ura M} {𝓛 : Logic 𝓤} {K : Type 0} {Γ : List
       → Seq K 𝓛 (‵ (Handle.own_val d vs) ∷ Γ) G
   handle_out t d vs k =
       fsplit t $ fpick t (λ vss. fsplit t $ feq_l t (λ ev. fsplit t $ feq_l t (λ ep. fsplit t $ handle_tells al t d.alloc vss.1.0 (λ h ea fits. move t (1 ∷ []) $ drop t $ move t (1 ∷ []) $ k h
-      (subst (λ (ws : List Val). vs ≡ vstruct (of_list (ptr_val d.at ∷ (ws ++ []))) ∷ []) ea (subst (λ (ps : List Val). vs ≡ vstruct (of_list (ps ++ (vss.1.0 ++ []))) ∷ []) ep ev)) fits))))
+      (rw ea at (rw ep at ev)) fits))))

@@ -1,3 +1,6 @@
+-- the words that proofs use, in one place
+pub mod Prelude
+pub mod Machine
 -- the machine values of what owns a box by its pointer
 pub mod Values
 pub mod HandleValues

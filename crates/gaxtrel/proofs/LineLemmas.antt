@@ -1,23 +1,12 @@
 -- The matched lines of a text, one more at a time.
-use Rattle.std.proofs.Common.{◌≡◌, ◌∙◌, ℕ, suc, ◌+◌, ◌*◌, ◌-◌, ◌^◌, ◌<◌, ◌≤◌, ◌⊎◌, List, [], ◌∷◌, ◌++◌, All, inl, inr, length, min, mul-le-mul_left, take, drop, set, refl, sym, ap, subst, arith}
-use Rattle.std.proofs.lemmas.Bool.{cases_eq}
-use Rattle.std.proofs.lemmas.List.Elements.{All-head, All-tail}
-use Rattle.std.proofs.lemmas.List.{drop-drop, length-append, length-drop, length-set, take_all, take_more_set}
-use Rattle.std.proofs.Math.Seq.{take-append-add, drop-append-add}
-use Rattle.re_syntax.specs.Bytes.{Text}
-use Rattle.re_syntax.specs.Lines.{HasNoNewline, newline, terminated, lines_of}
+use Rattle.gaxtrel.proofs.Prelude.{◌≡◌, ◌∙◌, ℕ, suc, ◌+◌, ◌*◌, ◌-◌, ◌^◌, ◌<◌, ◌≤◌, ◌⊎◌, List, [], ◌∷◌, ◌++◌, All, inl, inr, length, min, mul-le-mul_left, take, drop, set, refl, sym, ap, subst, arith, cases_eq, All-head, All-tail, drop-drop, length-drop, length-set, take_all, take_more_set, take-append-add, drop-append-add, Text, HasNoNewline, newline, terminated, lines_of, Span, AddsAtMost, Steps, IsNext, IsSought, Sought, AreLines, PutsLines, after_lines, line_at, GaxtrelLine}
+use Rattle.std.proofs.lemmas.List.{length-append}
 use Rattle.re_trees.proofs.lemmas.LinesLaws.{lines_of-line, lines_of-last, none_before, none_in_empty, all_cons, all_none}
 use Rattle.re_trees.proofs.lemmas.Decisions.{dec_any}
 use Rattle.re_trees.proofs.lemmas.SplittingLaws.{lines_of-empty}
 use Rattle.re_trees.proofs.lemmas.HoldsDecided.{dec_matches}
-use Rattle.re_trees.specs.declared.span.Span.{Span}
-use Rattle.re_meter.specs.Meters.{AddsAtMost, Steps}
 use Rattle.re_meter.proofs.lemmas.Adding.{adds_both, adds_within}
-use Rattle.re_runs.specs.Working.Blocks.{IsNext}
-use Rattle.re_search.specs.Working.Sought.{IsSought, Sought}
 use Rattle.gaxtrel.proofs.ArrayLemmas.{PutSoFar, all_put, less_left, none_put, one_put, put_full}
-use Rattle.gaxtrel.specs.Calls.{AreLines, PutsLines, after_lines, line_at}
-use Rattle.gaxtrel.specs.declared.text_lines.GaxtrelLine.{GaxtrelLine}
 
 -- ---- the first lines of a text
 
@@ -35,13 +24,13 @@ cut (b ∷ t) = elim (cases_eq b newline) [
 -- after its first line a newline follows, or nothing
 first : (t line : Text) (after : List Text) → lines_of t ≡ line ∷ after → ((rest : Text) × HasNoNewline line × (t ≡ line ++ newline ∷ rest) × (lines_of rest ≡ after)) ⊎ ((t ≡ line) × (after ≡ []))
 unfolding lines_of
-first [] line after are = absurd (let no : ⊥ = cc are in no)
+first [] line after are = absurd (cc are)
 first (b ∷ t) line after are = elim (cut (b ∷ t)) [
-  | inl free ↦ (let one : (b ∷ t) ∷ [] ≡ line ∷ after = sym (lines_of-last b t free) ∙ are in inr ((cc one), (cc one)))
+  | inl free ↦ (let one = sym (lines_of-last b t free) ∙ are in inr ((cc one), (cc one)))
   | inr (l, rest, free, is) ↦
-      (let both : l ∷ lines_of rest ≡ line ∷ after = sym (ap lines_of is ∙ lines_of-line l rest free) ∙ are in
+      (let both = sym (ap lines_of is ∙ lines_of-line l rest free) ∙ are in
       let same : l ≡ line = cc both in
-      inl (rest, subst HasNoNewline same free, is ∙ ap (λ k. k ++ newline ∷ rest) same, (cc both)))
+      inl (rest, rw same at free, is ∙ ap (λ k. k ++ newline ∷ rest) same, (cc both)))
 ]
 
 -- a text is divided where its first lines end, and after the next line
@@ -57,13 +46,13 @@ divided (b ∷ before) line after t are = elim (first t b (before ++ line ∷ af
       (let (frees, front, behind) = divided before line after rest left in
       let ends = terminated before in
       let k = length ends + (length line + 1) in
-      let long : length (b ++ newline ∷ ends) ≡ length b + suc (length ends) = length-append b (newline ∷ ends) in
-      let far : length (b ++ newline ∷ ends) + (length line + 1) ≡ length b + suc k = omega (arith, long) in (
+      let long = length-append b (newline ∷ ends) in
+      let far : length (b ++ newline ∷ ends) + (length line + 1) ≡ length b + suc k = omega arith in (
         all_cons b before free frees,
         (λ i. take (long i) (is i)) ∙ take-append-add b (newline ∷ rest) (suc (length ends)) ∙ ap (λ l. b ++ newline ∷ l) front,
         ap lines_of ((λ i. drop (far i) (is i)) ∙ drop-append-add b (newline ∷ rest) (suc k)) ∙ behind,
       ))
-  | inr (is, none) ↦ absurd (let no : ⊥ = omega (arith, ap length none, length-append before (line ∷ after)) in no)
+  | inr (is, none) ↦ absurd (omega (arith, ap length none, length-append before (line ∷ after)))
 ]
 
 module _ (sought : Sought) where
@@ -71,12 +60,12 @@ module _ (sought : Sought) where
   pub then_line : (before : List Text) (line : Text) (after : List Text) (at number start end n : ℕ) (more : List GaxtrelLine) → All (λ l. ¬ IsSought sought l) before → IsSought sought line
       → start ≡ at + length (terminated before) → end ≡ start + length line → n ≡ number + length before → AreLines sought after (end + 1) (n + 1) more → AreLines sought (before ++ line ∷ after) at number (line_at start end n ∷ more)
   then_line [] line after at number start end n more none holds starts ends counted are =
-      let e : end ≡ at + length line = omega (arith, starts, ends) in
-      let s : start ≡ at = omega (arith, starts) in
-      let k : n ≡ number = omega (arith, counted) in
+      let e : end ≡ at + length line = omega arith in
+      let s : start ≡ at = omega arith in
+      let k : n ≡ number = omega arith in
       inl (holds, (more, (λ i. line_at (s i) (e i) (k i) ∷ more), subst (λ (p : ℕ × ℕ). AreLines sought after (p.0 + 1) (p.1 + 1) more) (λ i. (e i, k i)) are))
   then_line (b ∷ before) line after at number start end n more none holds starts ends counted are =
-      inr (All-head (λ l. ¬ IsSought sought l) b before none, then_line before line after (at + length b + 1) (number + 1) start end n more (All-tail (λ l. ¬ IsSought sought l) b before none) holds (omega (arith, starts, length-append b (newline ∷ terminated before))) ends (omega (arith, counted)) are)
+      inr (All-head (λ l. ¬ IsSought sought l) b before none, then_line before line after _ _ start end n more (All-tail (λ l. ¬ IsSought sought l) b before none) holds (omega (arith, length-append b (newline ∷ terminated before))) ends (omega arith) are)
 
   -- there are all of them
   pub lines_exist : (lines : List Text) (at number : ℕ) → (all : List GaxtrelLine) × AreLines sought lines at number all
@@ -91,7 +80,7 @@ module _ (sought : Sought) where
   -- none is left
   pub no_line : (lines : List Text) (at number : ℕ) → All (λ l. ¬ IsSought sought l) lines → AreLines sought lines at number []
   no_line [] at number none = refl
-  no_line (line ∷ lines) at number none = inr (All-head (λ l. ¬ IsSought sought l) line lines none, no_line lines (at + length line + 1) (number + 1) (All-tail (λ l. ¬ IsSought sought l) line lines none))
+  no_line (line ∷ lines) at number none = inr (All-head (λ l. ¬ IsSought sought l) line lines none, no_line lines _ _ (All-tail (λ l. ¬ IsSought sought l) line lines none))
 
 -- after one line more
 after_more : (from : ℕ) (lines : List GaxtrelLine) (line : GaxtrelLine) → after_lines from (lines ++ line ∷ []) ≡ line.end + 1
@@ -113,14 +102,14 @@ module _ (sought : Sought) (text : Text) (from number : ℕ) where
   begun old fits = record {
     before = 0;
     numbered = omega (arith, fits);
-    found = less_left _ _ _ 0 old old (none_put _ old) (λ more are. subst (λ n. AreLines sought (lines_of (drop from text)) from n more) (let e : number + 0 ≡ number = omega arith in e) are);
+    found = less_left none_put (λ more are. rw (let e : number + 0 ≡ number = omega arith in e) at are);
     low = omega arith;
     near = omega arith;
     fits = omega arith;
     after = refl;
   }
 
-  module _ (at n count : ℕ) (old mid : List GaxtrelLine) (s : LinesSoFar at n count old mid) where
+  module _ {at n count : ℕ} {old mid : List GaxtrelLine} (s : LinesSoFar at n count old mid) where
     -- one line more, which is found in what is left of the text
     pub one_line : (next : Span) → IsNext (IsSought sought) (lines_of (drop at text)) next → (lines : ℕ) → ((ts : List Text) → All HasNoNewline ts → take next.start (drop at text) ≡ terminated ts → lines ≡ length ts)
         → at ≤ length text → next.end ≤ length (drop at text) → count < length mid → (here after : ℕ) (now : List GaxtrelLine) → here ≡ min (n + lines) (2 ^ 64 - 1) → after ≡ min (here + 1) (2 ^ 64 - 1)
@@ -138,7 +127,7 @@ module _ (sought : Sought) (text : Text) (from number : ℕ) where
         record {
           before = s.before + lines + 1;
           numbered = omega (arith, is_after, is);
-          found = one_put _ _ _ _ count old mid now s.found (λ more are. subst (λ l. AreLines sought l at (number + s.before) (line_at (at + next.start) (at + next.end) m ∷ more)) (sym x.divided)
+          found = one_put s.found (λ more are. subst (λ l. AreLines sought l at (number + s.before) (line_at (at + next.start) (at + next.end) m ∷ more)) (sym x.divided)
               (then_line sought x.before x.line x.after at (number + s.before) (at + next.start) (at + next.end) m more x.passed x.holds (omega (arith, x.starts)) (omega (arith, x.ends)) (omega (arith, passes))
               (subst (λ (p : List Text × ℕ × ℕ). AreLines sought p.0 p.1 p.2 more) (λ i. (left i, end i, one i)) are))) written;
           low = omega (arith, s.low);
@@ -153,20 +142,20 @@ module _ (sought : Sought) (text : Text) (from number : ℕ) where
       searched k middle ended few more =
           let p = length sought.expressions in
           let sum : p * (at - from) + p * k ≡ p * (at + k - from) = omega (arith, ap (λ m. p * m) (let e : at - from + k ≡ at + k - from = omega (arith, s.low) in e)) in
-          subst (λ m. AddsAtMost m begun ended) sum (adds_both _ _ _ _ begun middle ended few more)
+          rw sum at (adds_both _ _ _ _ begun middle ended few more)
 
       -- no more than the text
       pub within_text : (k : ℕ) (ended : Steps) → k ≤ length text - from + 1 → AddsAtMost (length sought.expressions * k) begun ended → AddsAtMost (length sought.expressions * (length (drop from text) + 1)) begun ended
       within_text k ended within few =
-          let most = mul-le-mul_left (length sought.expressions) (let w : k ≤ length (drop from text) + 1 = omega (arith, within, length-drop from text) in w) in
+          let most = mul-le-mul_left (length sought.expressions) (let w : k ≤ length (drop from text) + 1 = omega (arith, length-drop from text) in w) in
           adds_within _ _ _ _ begun ended most most few
 
       module _ (long : length mid ≡ length old) (ended : Steps) where
         -- no line is left
         pub no_more : count < length mid → All (λ l. ¬ IsSought sought l) (lines_of (drop at text)) → AddsAtMost (length sought.expressions * (length (drop from text) + 1)) begun ended → PutsLines sought text from number old mid count begun ended
         no_more below none few =
-            let (all, are, counted, put) = all_put _ _ count old mid s.found (no_line sought (lines_of (drop at text)) at (number + s.before) none) in
-            record { all = all; are = are; counted = omega (arith, counted, below, long); put = put; few = few; fewer = λ full. absurd (let no : ⊥ = omega (arith, full, below, long) in no) }
+            let (all, are, counted, put) = all_put s.found (no_line sought (lines_of (drop at text)) at (number + s.before) none) in
+            record { all = all; are = are; counted = omega arith; put = put; few = few; fewer = λ full. absurd (omega arith) }
 
         -- no room is left
         pub no_room : length mid ≤ count → AddsAtMost (length sought.expressions * (at - from)) begun ended → PutsLines sought text from number old mid count begun ended
@@ -176,8 +165,8 @@ module _ (sought : Sought) (text : Text) (from number : ℕ) where
             record {
               all = done ++ more;
               are = s.found.goes_on more are;
-              counted = omega (arith, s.fits, full, long, s.found.counted, length-append done more);
-              put = s.found.written ∙ sym (put_full done more old (omega (arith, full, long, s.found.counted)));
-              few = within_text (at - from) ended s.near few;
+              counted = omega (arith, s.fits, s.found.counted, length-append done more);
+              put = s.found.written ∙ sym (put_full done more old (omega (arith, s.found.counted)));
+              few = within_text _ _ s.near few;
               fewer = λ _. subst (λ k. AddsAtMost (length sought.expressions * (k - from)) begun ended) (s.after ∙ ap (after_lines from) (take_all count mid full)) few;
             }

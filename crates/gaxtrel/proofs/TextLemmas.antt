@@ -1,22 +1,12 @@
 -- The lines of a text are those of its whole lines and then the last one, if that lacks its newline.
-use Rattle.std.proofs.Common.{◌≡◌, ◌∙◌, ℕ, ◌+◌, ◌-◌, ◌*◌, ◌<◌, ◌≤◌, List, [], ◌∷◌, ◌++◌, All, Option, Some, None, inl, inr, length, take, drop, refl, sym, ap, subst, arith, mul-le-mul_left, append_assoc, length-append, length-drop}
-use Rattle.std.specs.Bool.{⊤}
-use Rattle.std.proofs.Math.Seq.{take-append_seam}
-use Rattle.std.proofs.lemmas.List.{drop_all, length-take-le, take_rest}
-use Rattle.std.proofs.lemmas.List.Elements.{All-append, All-cons, All-nil}
-use Rattle.re_syntax.specs.Bytes.{Text}
-use Rattle.re_syntax.specs.Lines.{HasNoNewline, ended_lines_of, newline, terminated, lines_of}
+use Rattle.gaxtrel.proofs.Prelude.{◌≡◌, ◌∙◌, ℕ, ◌+◌, ◌-◌, ◌*◌, ◌<◌, ◌≤◌, List, [], ◌∷◌, ◌++◌, All, Option, Some, None, inl, inr, length, take, drop, refl, sym, ap, subst, arith, mul-le-mul_left, append_assoc, length-append, ⊤, take-append_seam, drop_all, length-take-le, take_rest, All-append, All-cons, All-nil, Text, HasNoNewline, ended_lines_of, newline, terminated, lines_of, Span, Steps, AddsAtMost, FindsNext, HoldsOfMany, IsBlock, IsNext, PassesAll, CountsSought, FindsSought, IsSought, Sought, FindsLine, bytes_to_next, line_cost, moved}
+use Rattle.std.proofs.Common.{length-drop}
 use Rattle.re_syntax.proofs.lemmas.EndedLinesLaws.{ended_lines_of-unique}
-use Rattle.re_trees.specs.declared.span.Span.{Span}
 use Rattle.re_syntax.proofs.lemmas.LinesLaws.{lines_of-last, lines_of-terminated}
 use Rattle.re_syntax.proofs.lemmas.SplittingLaws.{lines_of-empty}
-use Rattle.re_meter.specs.Meters.{Steps, AddsAtMost}
 use Rattle.re_meter.proofs.lemmas.Adding.{adds_both, adds_none, adds_within}
-use Rattle.re_runs.specs.Working.Blocks.{FindsNext, HoldsOfMany, IsBlock, IsNext, PassesAll}
 use Rattle.re_runs.proofs.lemmas.NextLines.{left_after, lines_of-beyond}
-use Rattle.re_search.specs.Working.Sought.{CountsSought, FindsSought, IsSought, Sought}
 use Rattle.grep_core.proofs.lemmas.CountedLines.{many_within}
-use Rattle.gaxtrel.specs.Calls.{FindsLine, bytes_to_next, line_cost, moved}
 
 -- ---- lines that are found and counted in a longer list
 
@@ -26,7 +16,7 @@ module _ (P : Text → Type 0) where
     before = n.before;
     line = n.line;
     after = n.after ++ more;
-    divided = ap (λ l. l ++ more) n.divided ∙ append_assoc n.before (n.line ∷ n.after) more;
+    divided = cc (n.divided, append_assoc n.before (n.line ∷ n.after) more);
     passed = n.passed;
     holds = n.holds;
     starts = n.starts;
@@ -46,9 +36,9 @@ module _ (P : Text → Type 0) where
   }
 
   counted_before : (lines more : List Text) (n m : ℕ) → HoldsOfMany P lines n → HoldsOfMany P more m → HoldsOfMany P (lines ++ more) (n + m)
-  counted_before [] more n m is h = let same : m ≡ n + m = omega (arith, is) in subst (HoldsOfMany P more) same h
-  counted_before (line ∷ lines) more n m (others, counted, inl (holds, is)) h = (others + m, counted_before lines more others m counted h, inl (holds, omega (arith, is)))
-  counted_before (line ∷ lines) more n m (others, counted, inr (not, is)) h = (others + m, counted_before lines more others m counted h, inr (not, omega (arith, is)))
+  counted_before [] more n m is h = let same : m ≡ n + m = omega arith in subst (HoldsOfMany P more) same h
+  counted_before (line ∷ lines) more n m (others, counted, inl (holds, is)) h = (others + m, counted_before lines more _ m counted h, inl (holds, omega arith))
+  counted_before (line ∷ lines) more n m (others, counted, inr (not, is)) h = (others + m, counted_before lines more _ m counted h, inr (not, omega arith))
 
 -- there are no more lines than bytes
 few_lines : (lines : List Text) → length lines ≤ length (terminated lines)
@@ -57,14 +47,14 @@ few_lines (t ∷ ts) = omega (arith, few_lines ts, length-append t (newline ∷ 
 
 -- a text without newline is one line, if it is not empty
 one_line : (t : Text) → HasNoNewline t → 0 < length t → lines_of t ≡ t ∷ []
-one_line [] free some = absurd (let no : ⊥ = omega (arith, some) in no)
+one_line [] free some = absurd (omega arith)
 one_line (b ∷ t) free some = lines_of-last b t free
 
 -- ---- a text whose whole lines end at a place
 
 module _ (text : Text) (cut : ℕ) (passed : PassesAll (λ _. ⊤) text cut) where
   front_is : take cut text ≡ terminated passed.0
-  front_is = ap (λ n. take n text) passed.5 ∙ ap (take (length (terminated passed.0))) passed.4 ∙ take-append_seam (terminated passed.0) passed.1
+  front_is = cc (passed.5, passed.4, take-append_seam (terminated passed.0) passed.1)
 
   pub front_block : IsBlock (take cut text)
   front_block = (passed.0, passed.2, front_is)
@@ -82,7 +72,7 @@ module _ (text : Text) (cut : ℕ) (passed : PassesAll (λ _. ⊤) text cut) whe
   cut_within = omega (arith, passed.5, ap length passed.4, length-append (terminated passed.0) passed.1)
 
   pub whole_lines : HasNoNewline (drop cut text) → cut ≡ length (terminated (ended_lines_of text))
-  whole_lines free = passed.5 ∙ ap (λ l. length (terminated l)) (ended_lines_of-unique text passed.0 (passed.2, (passed.1, subst HasNoNewline rest_is free, passed.4)))
+  whole_lines free = cc (passed.5, ended_lines_of-unique text passed.0 (passed.2, (passed.1, rw rest_is at free, passed.4)))
 
   -- there is no last line without newline
   all_ended : length text ≤ cut → lines_of text ≡ lines_of (take cut text) ++ []
@@ -95,19 +85,19 @@ module _ (text : Text) (cut : ℕ) (passed : PassesAll (λ _. ⊤) text cut) whe
   -- the whole lines are searched
   module _ (sought : Sought) where
     none_with : (rest : List Text) → lines_of text ≡ lines_of (take cut text) ++ rest → FindsSought sought (lines_of (take cut text)) None → All (λ line. ¬ IsSought sought line) rest → FindsSought sought (lines_of text) None
-    none_with rest are none others = subst (All (λ line. ¬ IsSought sought line)) (sym are) (All-append (λ line. ¬ IsSought sought line) (lines_of (take cut text)) rest none others)
+    none_with rest are none others = rw are (All-append (λ line. ¬ IsSought sought line) (lines_of (take cut text)) rest none others)
 
     counted_with : (rest : List Text) (n m : ℕ) → lines_of text ≡ lines_of (take cut text) ++ rest → CountsSought sought (lines_of (take cut text)) n → CountsSought sought rest m → CountsSought sought (lines_of text) (n + m)
-    counted_with rest n m are counted others = subst (λ l. CountsSought sought l (n + m)) (sym are) (counted_before (IsSought sought) (lines_of (take cut text)) rest n m counted others)
+    counted_with rest n m are counted others = rw are (counted_before (IsSought sought) _ rest n m counted others)
 
     pub next_in_front : (at : Span) → FindsSought sought (lines_of (take cut text)) (Some at) → FindsSought sought (lines_of text) (Some at)
-    next_in_front at found = subst (λ l. IsNext (IsSought sought) l at) (sym all_lines) (found_before (IsSought sought) (lines_of (take cut text)) (lines_of (drop cut text)) at found)
+    next_in_front at found = rw all_lines (found_before (IsSought sought) (lines_of (take cut text)) (lines_of (drop cut text)) at found)
 
     pub none_in_front : length text ≤ cut → FindsSought sought (lines_of (take cut text)) None → FindsSought sought (lines_of text) None
     none_in_front past none = none_with [] (all_ended past) none (All-nil (λ line. ¬ IsSought sought line))
 
     pub counts_front : (n : ℕ) → length text ≤ cut → CountsSought sought (lines_of (take cut text)) n → CountsSought sought (lines_of text) n
-    counts_front n past counted = let same : n + 0 ≡ n = omega arith in subst (CountsSought sought (lines_of text)) same (counted_with [] n 0 (all_ended past) counted refl)
+    counts_front n past counted = let same : n + 0 ≡ n = omega arith in rw same at (counted_with [] n 0 (all_ended past) counted refl)
 
     -- there are no more of them than bytes
     pub few_counted : (n : ℕ) → CountsSought sought (lines_of (take cut text)) n → n ≤ cut
@@ -141,37 +131,37 @@ module _ (text : Text) (cut : ℕ) (passed : PassesAll (λ _. ⊤) text cut) whe
 
       pub none_at_last : HasNoNewline (drop cut text) → cut < length text → FindsSought sought (lines_of (take cut text)) None → (IsSought now last_line → ⊥) → FindsSought sought (lines_of text) None
       none_at_last free below none not =
-          none_with (drop cut text ∷ []) (and_last free below) none (All-cons (λ line. ¬ IsSought sought line) (drop cut text) [] (last_unsought not) (All-nil (λ line. ¬ IsSought sought line)))
+          none_with _ (and_last free below) none (All-cons (λ line. ¬ IsSought sought line) (drop cut text) [] (last_unsought not) (All-nil (λ line. ¬ IsSought sought line)))
 
       pub counts_last : (n : ℕ) → HasNoNewline (drop cut text) → cut < length text → IsSought now last_line → CountsSought sought (lines_of (take cut text)) n → CountsSought sought (lines_of text) (n + 1)
-      counts_last n free below holds counted = counted_with (drop cut text ∷ []) n 1 (and_last free below) counted (0, refl, inl (last_sought holds, refl))
+      counts_last n free below holds counted = counted_with _ n 1 (and_last free below) counted (0, refl, inl (last_sought holds, refl))
 
       pub counts_without : (n : ℕ) → HasNoNewline (drop cut text) → cut < length text → (IsSought now last_line → ⊥) → CountsSought sought (lines_of (take cut text)) n → CountsSought sought (lines_of text) n
       counts_without n free below not counted =
           let one : n + 0 ≡ n = omega arith in
-          subst (CountsSought sought (lines_of text)) one (counted_with (drop cut text ∷ []) n 0 (and_last free below) counted (0, refl, inr (last_unsought not, refl)))
+          rw one at (counted_with _ n 0 (and_last free below) counted (0, refl, inr (last_unsought not, refl)))
 
       pub last_cost : (old mid new : Steps) → AddsAtMost (length sought.expressions * length (take cut text)) old mid → AddsAtMost (line_cost (length now.expressions) last_line) mid new → AddsAtMost (line_cost (length sought.expressions) text) old new
       last_cost old mid new first then =
           let n = length sought.expressions in
           let sum : cut + (length text - cut) ≡ length text = omega (arith, cut_within) in
-          let front : length (take cut text) ≡ cut = length-take-le cut text cut_within in
-          let rest : length last_line ≡ length text - cut = ap length (take_rest text cut) ∙ length-drop cut text in
+          let front = length-take-le cut text cut_within in
+          let rest : length last_line ≡ length text - cut = cc (take_rest text cut, length-drop cut text) in
           let both : length sought.expressions * length (take cut text) + length now.expressions * (length last_line + 1) ≡ n * (length text + 1) =
           (λ i. n * front i + length ((same i).expressions) * (rest i + 1)) ∙ grouped n cut (length text - cut) ∙ ap (λ k. n * (k + 1)) sum in
-          subst (λ k. AddsAtMost k old new) both (adds_both _ _ _ _ old mid new first then)
+          rw both at (adds_both _ _ _ _ old mid new first then)
         where
           grouped : (k a b : ℕ) → k * a + k * (b + 1) ≡ k * (a + b + 1)
           grouped k a b = omega arith
 
 -- past its end a text has no line
 pub no_line_left : (P : Text → Type 0) (text : Text) (from : ℕ) → length text ≤ from → All (λ line. ¬ P line) (lines_of (drop from text))
-no_line_left P text from past = subst (All (λ line. ¬ P line)) (sym (lines_of-empty (drop from text) (ap length (drop_all from text past)))) (All-nil (λ line. ¬ P line))
+no_line_left P text from past = rw (lines_of-empty (drop from text) (rw (drop_all from text past))) (All-nil (λ line. ¬ P line))
 
 pub none_past : (sought : Sought) (text : Text) (from : ℕ) (steps : Steps) → length text ≤ from → FindsLine sought text from None steps steps
 none_past sought text from steps past = record {
   found = None;
-  finds = no_line_left (IsSought sought) text from past;
+  finds = no_line_left (IsSought sought) _ _ past;
   is_place = refl;
   few = adds_none _ _ steps;
 }

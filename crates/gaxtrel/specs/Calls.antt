@@ -86,24 +86,33 @@ steps_of work = record { built = work.built; reused = work.reused; passed = work
 abbrev pub IsEmpty : Option Held → GaxtrelWork → Type 0
 IsEmpty held work = (held ≡ None) × (steps_of work ≡ fresh)
 
--- the answer to a call for what is not held: 3, with what is held as it was, and no work
-abbrev pub IsMisused : ℕ → Option Held → Option Held → GaxtrelWork → Type 0
-IsMisused answer old new work = (answer ≡ 3) × (new ≡ old) × (steps_of work ≡ fresh)
-
 -- a search of a line by so many matchers
 abbrev pub line_cost : ℕ → Text → ℕ
 line_cost matchers line = matchers * (length line + 1)
 
--- what is held searches for this still, and the work that is shown is at most that of one search
-abbrev pub HasSearched : Terms → Sought → Text → Option Held → GaxtrelWork → Type 0
-HasSearched t sought line held work =
-    IsFor t held sought × AddsAtMost (line_cost (length sought.expressions) line) fresh (steps_of work)
+-- the work that is shown is at most that of one search of a line
+abbrev pub IsOneSearch : Sought → Text → GaxtrelWork → Type 0
+IsOneSearch sought line work =
+    AddsAtMost (line_cost (length sought.expressions) line) fresh (steps_of work)
 
--- the answer to a call for a line of so many bytes, if these may not be searched: 5, with what is
--- held as it was, and no work
-abbrev pub IsStopped : Terms → ℕ → ℕ → Option Held → Option Held → GaxtrelWork → Type 0
-IsStopped t bytes answer old new work =
-    (Allows t bytes → ⊥) × (answer ≡ 5) × (new ≡ old) × (steps_of work ≡ fresh)
+-- ---- how a call ends, by what was held, what is held then, the work that is shown and the answer
+
+module _ (old new : Option Held) (work : GaxtrelWork) (answer : ℕ) where
+  -- what the call is for is not held: 3, with what is held as it was, and no work
+  abbrev pub IsMisused : Type 0
+  IsMisused = (answer ≡ 3) × (new ≡ old) × (steps_of work ≡ fresh)
+
+  -- without patterns the call is misused; else they are held still, and this holds of them
+  abbrev pub Asks : (Terms → Sought → Type 0) → Type 0
+  Asks Found = (patterns_in old ≡ None → IsMisused)
+      × ((t : Terms) (sought : Sought) → IsFor t old sought → IsFor t new sought × Found t sought)
+
+  -- the same for a line: 5, with what is held as it was, and no work, if it may not be searched;
+  -- else the work is at most that of one search, and this holds
+  abbrev pub AsksLine : Text → (Terms → Sought → Type 0) → Type 0
+  AsksLine line Found = Asks (λ t sought. ((Allows t (length line) → ⊥) × (answer ≡ 5)
+      × (new ≡ old) × (steps_of work ≡ fresh))
+      ⊎ (Allows t (length line) × IsOneSearch sought line work × Found t sought))
 
 -- a call searches a text from a place on up to this end: that of the text; or that of the whole
 -- lines in as many bytes as may be searched

@@ -143,8 +143,8 @@ pub extern "C" fn gaxtrel_limit(alloc: Global, matcher: &mut GaxtrelHolder, limi
     ensures set { (t : Terms) (sought : Sought) → IsFor t matcher.old.handle.held sought →
         (result ≡ 0) × IsFor (record { apart = t.apart; matchers = t.matchers; limit = limit })
         matcher.new.handle.held sought }
-    ensures none { patterns_in matcher.old.handle.held ≡ None → IsMisused result
-        matcher.old.handle.held matcher.new.handle.held matcher.new.work }
+    ensures none { patterns_in matcher.old.handle.held ≡ None → IsMisused
+        matcher.old.handle.held matcher.new.handle.held matcher.new.work result }
     ensures work { steps_of matcher.new.work ≡ fresh }
 {
     let Some(mut boxed) = matcher.take(alloc) else {

@@ -1,15 +1,14 @@
 //! The calls that search a line or a text.
-ghost use Rattle.std.specs.Prelude.{◌≡◌, ◌≤◌, ◌<◌, ◌↔◌, ◌⊎◌, ℕ, true, false, None, Option};
+ghost use Rattle.std.specs.Prelude.{◌≡◌, ◌<◌, ◌↔◌, ◌⊎◌, ℕ, true, false, None, Option};
 ghost use Rattle.std.specs.Prelude.{length, take};
 ghost use Rattle.re_syntax.specs.Lines.{lines_of};
 ghost use Rattle.re_trees.specs.declared.span.Span.{Span};
 ghost use Rattle.re_meter.specs.Meters.{fresh};
 ghost use Rattle.re_auto.specs.Searches.{FindsPart};
-ghost use Rattle.re_search.specs.Working.Sought.{CountsSought, IsSought, Sought};
-ghost use Rattle.gaxtrel.specs.Kept.{Allows, Terms};
-ghost use Rattle.gaxtrel.specs.Calls.{FindsLine, HasSearched, IsFor, IsMisused, IsStopped};
-ghost use Rattle.gaxtrel.specs.Calls.{PutsLines, PutsNumbers, PutsParts, Reaches, Says, SaysOf};
-ghost use Rattle.gaxtrel.specs.Calls.{Tells, TellsOf, patterns_in, steps_of};
+ghost use Rattle.re_search.specs.Working.Sought.{CountsSought, IsSought};
+ghost use Rattle.gaxtrel.specs.Calls.{Asks, AsksLine, FindsLine, IsOneSearch, PutsLines};
+ghost use Rattle.gaxtrel.specs.Calls.{PutsNumbers, PutsParts, Reaches, Says, SaysOf, Tells};
+ghost use Rattle.gaxtrel.specs.Calls.{TellsOf, patterns_in, steps_of};
 
 use crate::held::Held;
 use crate::holder::GaxtrelHolder;
@@ -23,14 +22,8 @@ use std::alloc::Global;
 /// stopped.
 #[unsafe(no_mangle)]
 pub extern "C" fn gaxtrel_is_match(alloc: Global, matcher: &mut GaxtrelHolder, line: &[u8]) -> u32
-    ensures answered { (t : Terms) (sought : Sought) →
-        IsFor t matcher.old.handle.held sought → IsStopped t (length line.now) result
-        matcher.old.handle.held matcher.new.handle.held matcher.new.work
-        ⊎ (Allows t (length line.now)
-        × HasSearched t sought line.now matcher.new.handle.held matcher.new.work
-        × (result < 2) × ((result ≡ 1) ↔ IsSought sought line.now)) }
-    ensures none { patterns_in matcher.old.handle.held ≡ None → IsMisused result
-        matcher.old.handle.held matcher.new.handle.held matcher.new.work }
+    ensures { AsksLine matcher.old.handle.held matcher.new.handle.held matcher.new.work result
+        line.now (λ _ sought. (result < 2) × ((result ≡ 1) ↔ IsSought sought line.now)) }
 {
     let Some(mut boxed) = matcher.take(alloc) else {
         return MISUSED;
@@ -57,15 +50,10 @@ pub extern "C" fn gaxtrel_find(
     from: usize,
     part: &mut GaxtrelPart,
 ) -> u32
-    ensures found { (t : Terms) (sought : Sought) → IsFor t matcher.old.handle.held sought →
-        IsStopped t (length line.now) result
-        matcher.old.handle.held matcher.new.handle.held matcher.new.work
-        ⊎ (Allows t (length line.now)
-        × HasSearched t sought line.now matcher.new.handle.held matcher.new.work
-        × ((found : Option Span) × FindsPart sought.expressions line.now sought.whole from found
-        × Tells result part.new found)) }
-    ensures none { patterns_in matcher.old.handle.held ≡ None → IsMisused result
-        matcher.old.handle.held matcher.new.handle.held matcher.new.work }
+    ensures found { AsksLine matcher.old.handle.held matcher.new.handle.held matcher.new.work result
+        line.now (λ _ sought. (found : Option Span)
+        × FindsPart sought.expressions line.now sought.whole from found
+        × Tells result part.new found) }
     ensures no_part { (result ≡ 1 → ⊥) → part.new ≡ part.old }
 {
     let Some(mut boxed) = matcher.take(alloc) else {
@@ -95,20 +83,11 @@ pub extern "C" fn gaxtrel_parts(
     parts: &mut [GaxtrelPart],
     count: &mut usize,
 ) -> u32
-    ensures kept { (t : Terms) (sought : Sought) → IsFor t matcher.old.handle.held sought →
-        IsStopped t (length line.now) result
-        matcher.old.handle.held matcher.new.handle.held matcher.new.work
-        ⊎ (Allows t (length line.now)
-        × HasSearched t sought line.now matcher.new.handle.held matcher.new.work
-        × (result ≤ 2)) }
-    ensures found { (t : Terms) (sought : Sought) → IsFor t matcher.old.handle.held sought →
-        (result ≡ 2 → ⊥) → (result ≡ 5 → ⊥) → Says result count.new
-        × PutsParts sought line.now from parts.old parts.new count.new }
-    ensures refused { (result ≡ 2) ⊎ (result ≡ 5) → (parts.new ≡ parts.old)
-        × (count.new ≡ count.old) × (steps_of matcher.new.work ≡ fresh) }
-    ensures none { patterns_in matcher.old.handle.held ≡ None → IsMisused result
-        matcher.old.handle.held matcher.new.handle.held matcher.new.work × (parts.new ≡ parts.old)
-        × (count.new ≡ count.old) }
+    ensures found { AsksLine matcher.old.handle.held matcher.new.handle.held matcher.new.work result
+        line.now (λ _ sought. ((result ≡ 2) × (steps_of matcher.new.work ≡ fresh))
+        ⊎ (Says result count.new
+        × PutsParts sought line.now from parts.old parts.new count.new)) }
+    ensures unwritten { 1 < result → (parts.new ≡ parts.old) × (count.new ≡ count.old) }
 {
     let Some(mut boxed) = matcher.take(alloc) else {
         return MISUSED;
@@ -141,24 +120,11 @@ pub extern "C" fn gaxtrel_which(
     numbers: &mut [usize],
     count: &mut usize,
 ) -> u32
-    ensures found { (t : Terms) (sought : Sought) → IsFor t matcher.old.handle.held sought →
-        t.apart ≡ true → IsStopped t (length line.now) result
-        matcher.old.handle.held matcher.new.handle.held matcher.new.work
-        ⊎ (Allows t (length line.now)
-        × HasSearched t sought line.now matcher.new.handle.held matcher.new.work
-        × Says result count.new
-        × PutsNumbers sought line.now numbers.old numbers.new count.new) }
-    ensures joined { (t : Terms) (sought : Sought) → IsFor t matcher.old.handle.held sought →
-        t.apart ≡ false → IsStopped t (length line.now) result
-        matcher.old.handle.held matcher.new.handle.held matcher.new.work
-        ⊎ (Allows t (length line.now)
-        × IsFor t matcher.new.handle.held sought × (result ≡ 4)
-        × (steps_of matcher.new.work ≡ fresh)) }
-    ensures unwritten { (result ≡ 4) ⊎ (result ≡ 5) → (numbers.new ≡ numbers.old)
-        × (count.new ≡ count.old) }
-    ensures none { patterns_in matcher.old.handle.held ≡ None → IsMisused result
-        matcher.old.handle.held matcher.new.handle.held matcher.new.work
-        × (numbers.new ≡ numbers.old) × (count.new ≡ count.old) }
+    ensures found { AsksLine matcher.old.handle.held matcher.new.handle.held matcher.new.work result
+        line.now (λ t sought. ((t.apart ≡ false) × (result ≡ 4)
+        × (steps_of matcher.new.work ≡ fresh)) ⊎ ((t.apart ≡ true) × Says result count.new
+        × PutsNumbers sought line.now numbers.old numbers.new count.new)) }
+    ensures unwritten { 1 < result → (numbers.new ≡ numbers.old) × (count.new ≡ count.old) }
 {
     let Some(mut boxed) = matcher.take(alloc) else {
         return MISUSED;
@@ -190,13 +156,10 @@ pub extern "C" fn gaxtrel_next_line(
     from: usize,
     line: &mut GaxtrelPart,
 ) -> u32
-    ensures found { (t : Terms) (sought : Sought) → IsFor t matcher.old.handle.held sought →
-        IsFor t matcher.new.handle.held sought
-        × ((end : ℕ) × (place : Option Span) × Reaches t text.now from end
+    ensures found { Asks matcher.old.handle.held matcher.new.handle.held matcher.new.work result
+        (λ t sought. (end : ℕ) × (place : Option Span) × Reaches t text.now from end
         × FindsLine sought (take end text.now) from place fresh (steps_of matcher.new.work)
         × TellsOf result line.new place end (length text.now)) }
-    ensures none { patterns_in matcher.old.handle.held ≡ None → IsMisused result
-        matcher.old.handle.held matcher.new.handle.held matcher.new.work }
     ensures no_line { (result ≡ 1 → ⊥) → line.new ≡ line.old }
 {
     let Some(mut boxed) = matcher.take(alloc) else {
@@ -230,16 +193,14 @@ pub extern "C" fn gaxtrel_lines(
     lines: &mut [GaxtrelLine],
     count: &mut usize,
 ) -> u32
-    ensures found { (t : Terms) (sought : Sought) → IsFor t matcher.old.handle.held sought →
-        IsFor t matcher.new.handle.held sought
-        × ((end : ℕ) × Reaches t text.now from end
+    ensures found { Asks matcher.old.handle.held matcher.new.handle.held matcher.new.work result
+        (λ t sought. (end : ℕ) × Reaches t text.now from end
         × PutsLines sought (take end text.now) from number lines.old lines.new count.new fresh
         (steps_of matcher.new.work)
         × (((count.new ≡ length lines.old) × Says result count.new)
         ⊎ ((count.new < length lines.old) × SaysOf result count.new end (length text.now)))) }
-    ensures none { patterns_in matcher.old.handle.held ≡ None → IsMisused result
-        matcher.old.handle.held matcher.new.handle.held matcher.new.work
-        × (lines.new ≡ lines.old) × (count.new ≡ count.old) }
+    ensures none { patterns_in matcher.old.handle.held ≡ None →
+        (lines.new ≡ lines.old) × (count.new ≡ count.old) }
 {
     let Some(mut boxed) = matcher.take(alloc) else {
         return MISUSED;
@@ -267,14 +228,12 @@ pub extern "C" fn gaxtrel_count_lines(
     text: &[u8],
     count: &mut u64,
 ) -> u32
-    ensures counted { (t : Terms) (sought : Sought) →
-        IsFor t matcher.old.handle.held sought →
-        (end : ℕ) × Reaches t text.now 0 end
-        × HasSearched t sought (take end text.now) matcher.new.handle.held matcher.new.work
+    ensures counted { Asks matcher.old.handle.held matcher.new.handle.held matcher.new.work result
+        (λ t sought. (end : ℕ) × Reaches t text.now 0 end
+        × IsOneSearch sought (take end text.now) matcher.new.work
         × CountsSought sought (lines_of (take end text.now)) count.new
-        × SaysOf result count.new end (length text.now) }
-    ensures none { patterns_in matcher.old.handle.held ≡ None → IsMisused result
-        matcher.old.handle.held matcher.new.handle.held matcher.new.work × (count.new ≡ count.old) }
+        × SaysOf result count.new end (length text.now)) }
+    ensures none { patterns_in matcher.old.handle.held ≡ None → count.new ≡ count.old }
 {
     let Some(mut boxed) = matcher.take(alloc) else {
         return MISUSED;

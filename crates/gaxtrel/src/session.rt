@@ -63,8 +63,9 @@ pub extern "C" fn gaxtrel_session_answer(
         (after : LiveKept) × (session_in session.new.handle.held ≡ Some after)
         × AnswersText before.state commands.now fresh after (steps_of session.new.work) result
         × (count.new ≡ length after.replies) }
-    ensures none { session_in session.old.handle.held ≡ None → IsMisused result
-        session.old.handle.held session.new.handle.held session.new.work × (count.new ≡ count.old) }
+    ensures none { session_in session.old.handle.held ≡ None → IsMisused
+        session.old.handle.held session.new.handle.held session.new.work result
+        × (count.new ≡ count.old) }
 {
     let Some(mut boxed) = session.take(alloc) else {
         return 3;
@@ -93,9 +94,9 @@ pub extern "C" fn gaxtrel_session_replies(
         (result ≡ 0) × (session.new.handle.held ≡ session.old.handle.held)
         × (count.new ≡ length kept.replies)
         × (into.new ≡ text_over (drop from kept.replies) into.old) }
-    ensures none { session_in session.old.handle.held ≡ None → IsMisused result
-        session.old.handle.held session.new.handle.held session.new.work × (into.new ≡ into.old)
-        × (count.new ≡ count.old) }
+    ensures none { session_in session.old.handle.held ≡ None → IsMisused
+        session.old.handle.held session.new.handle.held session.new.work result
+        × (into.new ≡ into.old) × (count.new ≡ count.old) }
     ensures work { steps_of session.new.work ≡ fresh }
 {
     let Some(boxed) = session.take(alloc) else {

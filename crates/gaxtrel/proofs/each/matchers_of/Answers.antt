@@ -1,10 +1,5 @@
-use Rattle.std.proofs.Common.{◌≡◌, ◌∙◌, ◌≤◌, [], ◌∷◌, ◌++◌, ap, append_assoc, arith, length, map, refl, rules, subst, sym}
-use Rattle.std.proofs.lemmas.List.{map-append}
-use Rattle.std.proofs.lemmas.List.Elements.{All-push}
-use Rattle.re_syntax.specs.Lines.{lines_of}
-use Rattle.re_search.specs.Working.Matchers.{room_of}
+use Rattle.gaxtrel.proofs.Prelude.{◌≡◌, ◌∙◌, ◌≤◌, [], ◌∷◌, ◌++◌, ap, append_assoc, arith, length, map, refl, rules, sym, map-append, All-push, lines_of, room_of, most_kept}
 use Rattle.grep_core.proofs.lemmas.MatcherLemmas.{AreMatchers-push, refused_or_memory}
-use Rattle.grep_utility.specs.Working.ServingMatchers.{HaveRoom, most_kept}
 use Rattle.gaxtrel.proofs.each.matchers_of.Goals as goal
 
 pub loop-text-preserved : goal.loop-text-preserved
@@ -17,7 +12,7 @@ loop-text-preserved c =
       s.2 ++ text ∷ [],
       left,
       AreMatchers-push c.args.syntax c.args.options.now s.2 c.loop-text.matchers.items text s.4 _ _ c.in-Ok.matcher refl c.in-Ok-add.ensures c.in-Ok.ensures.meant c.in-Ok.ensures.whole c.in-Ok.ensures.small,
-      subst HaveRoom (sym c.in-Ok-add.ensures) (rw (map-append room_of c.loop-text.matchers.items (c.in-Ok.matcher ∷ [])) (All-push (λ n. n ≤ most_kept) (map room_of c.loop-text.matchers.items) (room_of c.in-Ok.matcher) s.5 (omega (arith, c.in-Ok.ensures.room)))),
+      rw c.in-Ok-add.ensures (rw (map-append room_of c.loop-text.matchers.items (c.in-Ok.matcher ∷ [])) (All-push (λ n. n ≤ most_kept) (map room_of c.loop-text.matchers.items) (room_of c.in-Ok.matcher) s.5 (omega (arith, c.in-Ok.ensures.room)))),
     )
 
 pub returns-in-Err-clause-refused : goal.returns-in-Err-clause-refused

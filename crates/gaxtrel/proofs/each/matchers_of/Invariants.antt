@@ -1,8 +1,5 @@
-use Rattle.std.proofs.Common.{◌≡◌, List, ◌++◌}
-use Rattle.re_syntax.specs.Bytes.{Text}
-use Rattle.re_syntax.specs.Lines.{lines_of}
+use Rattle.gaxtrel.proofs.Prelude.{◌≡◌, List, ◌++◌, Text, lines_of, HaveRoom}
 use Rattle.grep_core.specs.Working.MatcherLists.{AreMatchers}
-use Rattle.grep_utility.specs.Working.ServingMatchers.{HaveRoom}
 use Rattle.gaxtrel.proofs.each.matchers_of.Given as goal
 
 -- the first texts were read, and the others are left

@@ -1,4 +1,4 @@
-use Rattle.std.proofs.Common.{arith}
+use Rattle.gaxtrel.proofs.Prelude.{arith}
 use Rattle.re_meter.proofs.lemmas.Adding.{adds_none}
 use Rattle.re_search.proofs.lemmas.KeptMatchers.{as_many, none_asked, same_over, still_alike}
 use Rattle.re_search.proofs.lemmas.LinePartsLaws.{all_parts}
@@ -7,7 +7,7 @@ use Rattle.gaxtrel.proofs.line_parts.put_parts.Goals as goal
 
 pub loop-part-init : goal.loop-part-init
 loop-part-init c = record {
-  found = none_put _ _;
+  found = none_put;
   few = omega arith;
   on_line = c.requires.within;
   room = rw c.begin.ensures.room c.requires.room;
@@ -35,7 +35,7 @@ loop-part-preserved c =
     let i = c.loop-part.invariant in
     let part = rw i.same.same_expressions at c.in-Some.ensures.reported in
     record {
-      found = one_put _ _ _ _ _ _ _ _ i.found (λ more are. (part, are)) (rw c.part_of.ensures at c.put.ensures);
+      found = one_put i.found (λ more are. (part, are)) (rw c.part_of.ensures at c.put.ensures);
       few = omega (arith, i.few, part.found.begins, part.found.not_empty);
       on_line = part.found.on_line;
       room = rw c.next_part.ensures.room i.room;
@@ -47,7 +47,7 @@ loop-part-preserved c =
 pub returns-clause-put : goal.returns-clause-put
 returns-clause-put c =
     let i = c.loop-part.invariant in
-    all_put _ _ _ _ _ i.found (rw i.same.same_expressions at c.in_default.ensures.reported)
+    all_put i.found (rw i.same.same_expressions at c.in_default.ensures.reported)
 
 pub returns-clause-steps : goal.returns-clause-steps
 returns-clause-steps c =

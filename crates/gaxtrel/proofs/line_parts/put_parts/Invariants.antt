@@ -1,9 +1,5 @@
-use Rattle.std.proofs.Common.{◌+◌, ◌*◌, ◌-◌, ◌≤◌, length}
-use Rattle.re_search.specs.Working.Sought.{sought_of}
-use Rattle.re_meter.specs.Meters.{AddsAtMost}
-use Rattle.re_search.specs.Working.Matchers.{AreSame, expressions_of}
+use Rattle.gaxtrel.proofs.Prelude.{◌+◌, ◌*◌, ◌-◌, ◌≤◌, length, sought_of, AddsAtMost, AreSame, expressions_of, AreParts}
 use Rattle.re_search.specs.Working.LineParts.{ArePartsOf, spent}
-use Rattle.gaxtrel.specs.Calls.{AreParts}
 use Rattle.gaxtrel.proofs.ArrayLemmas.{PutSoFar}
 use Rattle.gaxtrel.proofs.line_parts.put_parts.Given as goal
 

@@ -1,16 +1,10 @@
-use Rattle.std.proofs.Common.{inl, inr, arith, subst}
-use Rattle.gaxtrel.specs.Kept.{Terms}
-use Rattle.gaxtrel.specs.Calls.{Reaches}
+use Rattle.gaxtrel.proofs.Prelude.{arith, inl, inr}
 use Rattle.gaxtrel.proofs.KeptLemmas.{less_of}
-use Rattle.gaxtrel.proofs.ServedLemmas.{lines_served, served}
+use Rattle.gaxtrel.proofs.ServedLemmas.{asked, lines_served}
 use Rattle.gaxtrel.proofs.search.gaxtrel_lines.Goals as goal
 
 pub returns-then-found-lines-clause-found : goal.returns-then-found-lines-clause-found
-returns-then-found-lines-clause-found c = λ t sought is.
-    let (serves, still, on) = served is c.in-Some.ensures.taken c.deref_mut.ensures.value c.in-Patterns.is in
-    (still c.of.result.handle.held c.lines-found.new.self c.of.ensures.held c.lines-found.ensures.same, (c.reach-end.result, subst (λ (u : Terms). Reaches u c.args.text.now c.args.from c.reach-end.result) on c.reach-end.ensures.reached, rw c.of.ensures.work (rw c.fresh_meter-meter.ensures at (lines_served serves _ c.args.from c.args.number c.lines-found.result c.args.lines.now c.lines-found.new.lines _ _ c.lines-found.ensures.put)), inl (omega (arith, c.if-found-lines.true, c.lines-found.auto.lines), c.some.ensures)))
+returns-then-found-lines-clause-found c = asked c.in-Some.ensures.taken c.deref_mut.ensures.value c.in-Patterns.is c.of.ensures.held c.lines-found.ensures.same (λ sought serves. (c.reach-end.result, c.reach-end.ensures.reached, rw c.of.ensures.work (rw c.fresh_meter-meter.ensures at (lines_served serves _ c.args.from c.args.number c.lines-found.result c.args.lines.now c.lines-found.new.lines _ _ c.lines-found.ensures.put)), inl (omega (arith, c.if-found-lines.true, c.lines-found.auto.lines), c.some.ensures)))
 
 pub returns-clause-found : goal.returns-clause-found
-returns-clause-found c = λ t sought is.
-    let (serves, still, on) = served is c.in-Some.ensures.taken c.deref_mut.ensures.value c.in-Patterns.is in
-    (still c.of.result.handle.held c.lines-found.new.self c.of.ensures.held c.lines-found.ensures.same, (c.reach-end.result, subst (λ (u : Terms). Reaches u c.args.text.now c.args.from c.reach-end.result) on c.reach-end.ensures.reached, rw c.of.ensures.work (rw c.fresh_meter-meter.ensures at (lines_served serves _ c.args.from c.args.number c.lines-found.result c.args.lines.now c.lines-found.new.lines _ _ c.lines-found.ensures.put)), inr (less_of _ _ (omega (arith, c.lines-found.ensures.put.counted)) (λ e. c.if-found-lines.false (omega (arith, e, c.lines-found.auto.lines))), c.answer_for.ensures)))
+returns-clause-found c = asked c.in-Some.ensures.taken c.deref_mut.ensures.value c.in-Patterns.is c.of.ensures.held c.lines-found.ensures.same (λ sought serves. (c.reach-end.result, c.reach-end.ensures.reached, rw c.of.ensures.work (rw c.fresh_meter-meter.ensures at (lines_served serves _ c.args.from c.args.number c.lines-found.result c.args.lines.now c.lines-found.new.lines _ _ c.lines-found.ensures.put)), inr (less_of _ _ (omega (arith, c.lines-found.ensures.put.counted)) (λ e. c.if-found-lines.false (omega (arith, e, c.lines-found.auto.lines))), c.answer_for.ensures)))

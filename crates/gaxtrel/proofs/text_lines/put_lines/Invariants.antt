@@ -1,7 +1,4 @@
-use Rattle.std.proofs.Common.{◌-◌, ◌*◌, length}
-use Rattle.re_meter.specs.Meters.{AddsAtMost}
-use Rattle.re_search.specs.Working.Matchers.{AreSame, expressions_of}
-use Rattle.re_search.specs.Working.Sought.{sought_of}
+use Rattle.gaxtrel.proofs.Prelude.{◌-◌, ◌*◌, length, AddsAtMost, AreSame, expressions_of, sought_of}
 use Rattle.gaxtrel.proofs.LineLemmas.{LinesSoFar}
 use Rattle.gaxtrel.proofs.text_lines.put_lines.Given as goal
 

@@ -1,9 +1,6 @@
-use Rattle.std.proofs.Common.{◌≡◌, ◌∙◌, [], get_or, arith, refl, sym, subst}
-use Rattle.std.proofs.lemmas.List.{drop_all, length-map}
-use Rattle.re_search.specs.Working.Matchers.{expressions_of, matched_expression, wants_whole}
+use Rattle.gaxtrel.proofs.Prelude.{◌≡◌, ◌∙◌, get_or, arith, refl, sym, drop_all, length-map, expressions_of, matched_expression, wants_whole}
 use Rattle.re_search.proofs.lemmas.KeptMatchers.{one_kept}
 use Rattle.re_search.proofs.lemmas.OneMatcherMore.{steps_more, value_at, within}
-use Rattle.gaxtrel.specs.Calls.{AreNumbers}
 use Rattle.gaxtrel.proofs.ArrayLemmas.{all_put}
 use Rattle.gaxtrel.proofs.WhichLemmas.{one_asked}
 use Rattle.gaxtrel.proofs.which.put_numbers.Goals as goal
@@ -33,4 +30,4 @@ pub returns-clause-put : goal.returns-clause-put
 returns-clause-put c =
     let old = c.args.matchers.now in
     let i = c.loop-matcher.matcher-index in
-    all_put _ _ c.loop-matcher.count _ _ c.loop-matcher.invariant.found (subst (λ l. AreNumbers c.args._whole c.args.line.now l i []) (sym (drop_all i (expressions_of old) (omega (arith, length-map old matched_expression, c.loop-matcher-test.false)))) refl)
+    all_put c.loop-matcher.invariant.found (rw (drop_all i (expressions_of old) (omega (arith, length-map old matched_expression, c.loop-matcher-test.false))) refl)

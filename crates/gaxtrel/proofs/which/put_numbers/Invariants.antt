@@ -1,7 +1,4 @@
-use Rattle.std.proofs.Common.{◌≡◌, ◌+◌, ◌*◌, ◌≤◌, drop, length}
-use Rattle.re_meter.specs.Meters.{AddsAtMost}
-use Rattle.re_search.specs.Working.Matchers.{AreSame, expressions_of}
-use Rattle.gaxtrel.specs.Calls.{AreNumbers}
+use Rattle.gaxtrel.proofs.Prelude.{◌≡◌, ◌+◌, ◌*◌, ◌≤◌, drop, length, AddsAtMost, AreSame, expressions_of, AreNumbers}
 use Rattle.gaxtrel.proofs.ArrayLemmas.{PutSoFar}
 use Rattle.gaxtrel.proofs.which.put_numbers.Given as goal
 

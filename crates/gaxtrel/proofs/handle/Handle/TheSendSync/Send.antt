@@ -1,21 +1,14 @@
 -- A handle may go to another thread: what it holds may, and any thread may free its block.
-use Rattle.std.specs.Prelude.{Option, Some, None}
+use Rattle.gaxtrel.proofs.Machine.{Option, Some, None, RawPtr, lone, Ptr, exits_of, shape, fields, to, Held, held_owns}
 use base.Shift.{Keyless}
 use mir.Raw.{raw}
-use denote.Builtin.{RawPtr}
-use denote.Memory.{lone}
 use denote.Param.Send.{IsSend, owning_send, struct_send, sendable}
-use denote.RawPtr.{Ptr}
-use denote.Struct.Struct.{exits_of}
-use denote.Struct.Owning.{shape, fields, to}
 use Rattle.std.specs.contracts.alloc.Global as global_heap
 use Rattle.std.proofs.Crossing.{frees}
 use Rattle.std_alloc.proofs.SendSync.{quiet, lies}
 use Rattle.std.proofs.alloc.Global.TheSendSync as global
-use Rattle.gaxtrel.specs.declared.held.Held.{Held}
 use Rattle.gaxtrel.specs.contracts.held.Held as kind
 use Rattle.gaxtrel.proofs.HeldSend as held_send
-use Rattle.gaxtrel.specs.Working.Owned.{held_owns}
 use Rattle.gaxtrel.specs.contracts.handle.Handle.{the_row, the_type}
 
 held_keyless : (alloc : (global_heap.the_row).Denot) (at : Ptr) (it : Option Held) → Keyless (held_owns kind.the_row alloc at it)

@@ -1,25 +1,8 @@
 -- `empty` makes a handle that owns nothing.
-use Rattle.std.proofs.Common.{◌≡◌, List, [], ◌∷◌, ◌++◌, refl, sym, subst}
-use Rattle.std.specs.Prelude.{Option, None}
-use mir.Val.{Val, vnull}
-use base.Logic.{SProp, ent, emp, id⊢}
-use base.Fml.{ftrue}
-use prog.Wp.{WpFn}
+use Rattle.gaxtrel.proofs.Machine.{◌≡◌, List, [], ◌∷◌, ◌++◌, refl, sym, subst, Option, None, Val, vnull, SProp, ent, emp, id⊢, ftrue, WpFn, agg, fact, fact_i, tables, yes, owns, types_at, plain, null_ptr, nothing, Stays, stay_dropped, Goes-dropped, walk_of, handle_tells, proved_at, leaves, Held}
 use types.Kit.{‵, raw, ◌⊛◌, ◌$◌, ◌∵◌, !, qed, by, keep, drop, split, fsplit, fjoin, suffices, use0}
 use types.Run.{lit, no_more, and_then, returns, enter}
 use types.ByLocal.{alloc_all, pass_all, free_all, look_at, get, sets}
-use types.Part.{agg}
-use contract.Monad.{fact, fact_i}
-use contract.Running.{tables}
-use denote.Exit.{yes}
-use denote.RattleType.{owns}
-use denote.Signature.{types_at, plain}
-use denote.RawPtr.{null_ptr}
-use denote.Steps.{nothing}
-use denote.Triple.Walked.{Stays, stay_dropped, Goes-dropped, walk_of}
-use Rattle.core.proofs.alloc.Calls.{handle_tells}
-use Rattle.std.proofs.raw_atomic.Walks.{proved_at, leaves}
-use Rattle.gaxtrel.specs.declared.held.Held.{Held}
 use Rattle.gaxtrel.proofs.Values.{both}
 use Rattle.gaxtrel.proofs.HandleValues.{Z, al, handle_good, handle_in}
 use Rattle.gaxtrel.specs.contracts.handle.Handle.empty.{ended, clauses}

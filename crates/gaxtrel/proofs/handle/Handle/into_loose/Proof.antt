@@ -1,31 +1,10 @@
 -- `into_loose` gives the pointer of a loose box back.
-use Rattle.std.proofs.Common.{◌≡◌, List, [], ◌∷◌, ◌++◌, refl, sym, ap, ◌∙◌, subst}
-use Rattle.std.specs.Prelude.{Option, Some}
-use mir.Raw.{raw as bare}
-use mir.Val.{Val, vptr}
-use base.Logic.{SProp, ent, emp, id⊢, never, fst∗}
-use base.Fml.{ftrue}
-use prog.Wp.{WpFn}
-use types.Logic.{sem}
+use Rattle.gaxtrel.proofs.Machine.{◌≡◌, List, [], ◌∷◌, ◌++◌, refl, sym, ap, ◌∙◌, subst, Option, Some, bare, Val, vptr, SProp, ent, emp, id⊢, never, fst∗, ftrue, WpFn, sem, agg, sub, whole, fact, fact_i, tables, yes, lone, owns, types_at, plain, Ptr, block_ptr, null_ptr, ptr_val, in_a_block, nothing, heard, Stays, stay_dropped, walk_of, Goes-blank, proved_at, leaves, Held, held_owns}
 use types.Kit.{‵, raw, ◌⊛◌, ◌$◌, ◌∵◌, !, qed, by, move, keep, drop, split, fsplit, fjoin, suffices, use0, rewrite}
 use types.Run.{stop, fld, of_opd, no_more, and_then, returns, enter}
 use types.ByLocal.{alloc_all, pass_all, free_all, look_at, get, get_in, sets}
-use types.Part.{agg, sub, whole}
-use contract.Monad.{fact, fact_i}
-use contract.Running.{tables}
-use denote.Exit.{yes}
-use denote.Memory.{lone}
-use denote.RattleType.{owns}
-use denote.Signature.{types_at, plain}
-use denote.RawPtr.{Ptr, block_ptr, null_ptr, ptr_val, in_a_block}
-use denote.Steps.{nothing, heard}
-use denote.Triple.Walked.{Stays, stay_dropped, walk_of}
-use Rattle.core.proofs.alloc.Calls.{Goes-blank}
 use Rattle.std.specs.contracts.impls.GlobalAllocator.TheImpl.{ghosts}
 use Rattle.std.specs.Box.Ownership.{box_owns}
-use Rattle.std.proofs.raw_atomic.Walks.{proved_at, leaves}
-use Rattle.gaxtrel.specs.declared.held.Held.{Held}
-use Rattle.gaxtrel.specs.Working.Owned.{held_owns}
 use Rattle.gaxtrel.proofs.Values.{both, loose_good, loose_in}
 use Rattle.gaxtrel.proofs.HandleValues.{R, Z, L, g, Handle, handle_out}
 use Rattle.gaxtrel.specs.contracts.handle.Handle.into_loose.{ended, clauses}

@@ -1,5 +1,4 @@
-use Rattle.std.proofs.Common.{Global, Option, Some, Vec, [], ap, arith, length, rules, subst, sym, ℕ, ◌<◌, ◌^◌, ◌≡◌, ◌≤◌}
-use Rattle.re_syntax.specs.Bytes.{Text}
+use Rattle.gaxtrel.proofs.Prelude.{Global, Option, Some, Vec, [], ap, arith, length, rules, subst, sym, ℕ, ◌<◌, ◌^◌, ◌≡◌, ◌≤◌, Text}
 use Rattle.grep_core.specs.Counted.{Tallied}
 use Rattle.grep_core.specs.Reading.{most_lines}
 use Rattle.grep_cmd.specs.Replies.{GaveLines, ScriptGives}

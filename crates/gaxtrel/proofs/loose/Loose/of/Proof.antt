@@ -1,37 +1,11 @@
 -- `of` takes the box apart.
-use Rattle.std.proofs.Common.{◌≡◌, List, [], ◌∷◌, ◌++◌, refl, sym, ap, ◌∙◌, subst}
-use mir.Syntax.{a_type, dcons, dnil}
-use mir.Raw.{raw as bare}
-use mir.Val.{Val, vptr, vstruct, of_list}
-use mir.MapTy.{inst_fn}
-use base.Logic.{SProp, ent, emp, never, id⊢, fst∗}
-use base.Fml.{ftrue, fsep, flft}
-use prog.Wp.{WpFn}
-use types.Logic.{sem}
+use Rattle.gaxtrel.proofs.Machine.{◌≡◌, List, [], ◌∷◌, ◌++◌, refl, sym, ap, ◌∙◌, subst, a_type, dcons, dnil, bare, Val, vptr, vstruct, of_list, inst_fn, SProp, ent, emp, never, id⊢, fst∗, ftrue, fsep, flft, WpFn, sem, agg, sub, whole, fact, fact_i, tables, no, RattleType, owns, types_at, plain, RawPtr, Ptr, block_ptr, null_ptr, ptr_val, in_a_block, nothing, only, heard, param, layout, bounded, param_laws, triple_of, Stays, stay_dropped, walk_of, Goes-blank, handle_tells, fm, box_owns, box_out, box_in, proved_at, leaves}
 use types.Kit.{‵, raw, ◌⊛◌, some, later, ◌$◌, ◌∵◌, !, qed, by, move, keep, drop, split, split3, join, fsplit, fjoin, fpick, pick, suffices, use0, use1, await, rewrite, feq_l}
 use types.Run.{stop, fld, of_opd, no_more, and_then, returns, enter}
 use types.ByLocal.{alloc_all, pass_all, free_all, look_at, get, get_in, sets, lands_as}
-use types.Part.{agg, sub, whole}
-use contract.Monad.{fact, fact_i}
-use contract.Running.{tables}
-use denote.Exit.{no}
-use denote.RattleType.{RattleType, owns}
-use denote.Signature.{types_at, plain}
-use denote.Builtin.{RawPtr}
-use denote.RawPtr.{Ptr, block_ptr, null_ptr, ptr_val, in_a_block}
-use denote.Steps.{nothing, only, heard}
-use denote.Param.{param, layout, bounded}
-use denote.Param.Laws.{param_laws}
 use denote.Struct.Tuple.{Tuple}
-use denote.Triple.Spec.{triple_of}
 use denote.Triple.Call.{calls_at}
-use denote.Triple.Walked.{Stays, stay_dropped, walk_of}
-use Rattle.core.proofs.alloc.Calls.{Goes-blank, handle_tells}
-use Rattle.core.proofs.atomic.Steps.{fm}
-use Rattle.std_alloc.specs.Box.Ownership.{box_owns}
 use Rattle.std_alloc.proofs.BoxSteps.Form as box
-use Rattle.std_alloc.proofs.BoxSteps.Steps.{box_out, box_in}
-use Rattle.std.proofs.raw_atomic.Walks.{proved_at, leaves}
 use Rattle.gaxtrel.proofs.Values.{both, loose_good, loose_in}
 use Rattle.std_alloc.specs.contracts.boxed.Box.into_raw_with_allocator as callee
 use Rattle.std_alloc.proofs.boxed.Box.into_raw_with_allocator.Met.{met}

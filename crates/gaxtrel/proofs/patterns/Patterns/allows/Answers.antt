@@ -1,5 +1,4 @@
-use Rattle.std.proofs.lemmas.Bool.{eq-eqb, eqb-true}
-use Rattle.gaxtrel.specs.Kept.{terms_of}
+use Rattle.gaxtrel.proofs.Prelude.{eq-eqb, eqb-true, terms_of}
 use Rattle.gaxtrel.proofs.KeptLemmas.{all_may}
 use Rattle.gaxtrel.proofs.patterns.Patterns.allows.Goals as goal
 

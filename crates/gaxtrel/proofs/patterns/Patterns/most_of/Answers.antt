@@ -1,7 +1,4 @@
-use Rattle.std.proofs.Common.{◌≡◌, ◌∙◌, ◌*◌, ◌+◌, ◌<◌, ◌≤◌, inl, inr, length, min, ap, arith, refl, rules, subst, sym}
-use Rattle.std.proofs.lemmas.List.{length-map}
-use Rattle.re_search.specs.Working.Matchers.{expressions_of}
-use Rattle.gaxtrel.specs.Kept.{Allows, Kept, terms_of}
+use Rattle.gaxtrel.proofs.Prelude.{◌≡◌, ◌∙◌, ◌*◌, ◌+◌, ◌<◌, ◌≤◌, inl, inr, length, min, ap, arith, refl, rules, subst, sym, length-map, expressions_of, Allows, Kept, terms_of}
 use Rattle.gaxtrel.proofs.KeptLemmas.{past_limit, some_of, within_limit}
 use Rattle.gaxtrel.proofs.patterns.Patterns.most_of.Goals as goal
 

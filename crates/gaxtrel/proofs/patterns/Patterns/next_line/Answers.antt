@@ -1,7 +1,4 @@
-use Rattle.std.proofs.Common.{◌∙◌, None, Some, ap, arith}
-use Rattle.re_search.specs.Working.Sought.{sought_of}
-use Rattle.std.proofs.lemmas.List.{take_rest}
-use Rattle.gaxtrel.specs.Kept.{sought_in}
+use Rattle.gaxtrel.proofs.Prelude.{◌∙◌, None, Some, ap, arith, sought_of, take_rest, sought_in}
 use Rattle.gaxtrel.proofs.KeptLemmas.{still_right}
 use Rattle.gaxtrel.proofs.TextLemmas.{none_past, line_found}
 use Rattle.gaxtrel.proofs.patterns.Patterns.next_line.Goals as goal
@@ -13,7 +10,7 @@ pub invariant_of-self-2 : goal.invariant_of-self-2
 invariant_of-self-2 c = still_right _ _ _ _ _ c.next_in_text-found.ensures.same c.deref_mut.ensures.value c.deref_mut.ensures.len c.self.invariant
 
 pub returns-then-from-text-clause-reported : goal.returns-then-from-text-clause-reported
-returns-then-from-text-clause-reported c = none_past _ c.args.text.now c.args.from _ (omega (arith, c.if-from-text.true))
+returns-then-from-text-clause-reported c = none_past _ _ _ _ (omega (arith, c.if-from-text.true))
 
 pub returns-in_default-clause-reported : goal.returns-in_default-clause-reported
 returns-in_default-clause-reported c =

@@ -1,8 +1,4 @@
-use Rattle.std.proofs.Common.{[], ◌∷◌, ap, refl}
-use Rattle.std.proofs.lemmas.List.Elements.{All-cons, All-nil}
-use Rattle.re_search.specs.Reading.{IsReadable}
-use Rattle.re_search.specs.Working.Sought.{sought_of}
-use Rattle.re_search.specs.Working.Matchers.{matched_expression}
+use Rattle.gaxtrel.proofs.Prelude.{[], ◌∷◌, refl, All-cons, All-nil, IsReadable, matched_expression}
 use Rattle.grep_core.proofs.lemmas.MatcherLemmas.{refused_or_memory}
 use Rattle.gaxtrel.proofs.ServedLemmas.{serves_itself}
 use Rattle.gaxtrel.proofs.patterns.Patterns.of_text.Goals as goal
@@ -17,7 +13,7 @@ returns-clause-made c =
       readable = All-cons readable c.args.text.now [] (e, c.in-Ok.ensures.meant, c.in-Ok.ensures.small) (All-nil readable);
       is_apart = refl;
       is_limited = refl;
-      serves = serves_itself _ _ _ (ap (sought_of c.args.options.now.whole) c.in-Ok-alone.ensures);
+      serves = serves_itself _ _ _ (rw c.in-Ok-alone.ensures);
     }
 
 pub returns-in-Err-clause-refused : goal.returns-in-Err-clause-refused
