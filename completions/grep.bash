@@ -9,7 +9,7 @@ _gaxtrel_grep() {
     if [[ $before == -[ABCe] ]]; then
         return
     elif [[ $word == -* && $before != -f ]]; then
-        mapfile -t COMPREPLY < <(compgen -W '-A -B -C -E -F -c -e -f -i -l -n -o -q -s -v -x' -- "$word")
+        mapfile -t COMPREPLY < <(compgen -W 'OPTIONS' -- "$word")
     else
         mapfile -t COMPREPLY < <(compgen -f -- "$word")
     fi

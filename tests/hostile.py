@@ -7,17 +7,13 @@ from __future__ import annotations
 import os
 from pathlib import Path
 
-from program import Answer, Bench, Cases, Skipped, Verdict, all_of
+from program import FLAGS, USAGE, Answer, Bench, Cases, Skipped, Verdict, all_of
 
 MEBIBYTE = 1 << 20
 GIBIBYTE = 1 << 30
 
 LONGEST_WORD = 131_071
 """The most bytes that Linux lets a word of a command have."""
-
-USAGE = (
-    b"usage: grep [-E|-F] [-cilnoqsvx] [-A NUM] [-B NUM] [-C NUM] "
-    b"[-e LIST]... [-f FILE]... [LIST] [FILE...]\n")
 
 case = Cases("grep", "hostile.py")
 occur_case = Cases("occur", "hostile.py")
@@ -239,7 +235,7 @@ def each_byte_as_line(bench: Bench) -> Verdict:
 
 def answer_to_option(byte: bytes) -> Answer:
     """What a command of one word gives, a hyphen with this byte after it."""
-    if byte in b"cilnoqsvxEF-":
+    if byte in f"{FLAGS}EF-".encode():
         message = b"grep: no pattern\n"
     elif byte in b"efABC":
         message = b"grep: option -%s needs an argument\n" % byte
@@ -247,7 +243,7 @@ def answer_to_option(byte: bytes) -> Answer:
         message = b"grep: unknown option -%s\n" % byte
     else:
         message = b"grep: words must be UTF-8\n"
-    return Answer(b"", message + USAGE, 2)
+    return Answer(b"", message + f"{USAGE}\n".encode(), 2)
 
 
 @case("Each byte but 0 after a hyphen is an option, or is refused by its name.")

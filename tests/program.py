@@ -13,6 +13,12 @@ from typing import Any
 SECONDS = 20
 """A run that takes longer has failed."""
 
+FLAGS = "cilnoqsvx"
+"""The options of grep that are set or not."""
+
+USAGE = f"usage: grep [-E|-F] [-{FLAGS}] [-A NUM] [-B NUM] [-C NUM] [-e LIST]... [-f FILE]... [LIST] [FILE...]"
+"""What grep writes after a fault of its words."""
+
 Word = str | bytes
 
 

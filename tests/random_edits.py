@@ -23,10 +23,7 @@ from dataclasses import dataclass, field
 from pathlib import Path
 
 from dialogue import Coprocess
-from program import Answer
-
-LETTERS = "ciln" "oqsvx"
-"""The options that a session knows."""
+from program import FLAGS, Answer
 
 PIECES = (
     *(b"a", b"b", b"ab", b"ba", b"B", b".", b"^a", b"b$", b"a*", b"[ab]", b"[^a]", b"\\.", b"x"),
@@ -137,7 +134,7 @@ class Edits:
         return Edit(b"pattern %d\n%b\n" % (at, text), put)
 
     def flag(self) -> Edit:
-        letter, is_on = self.dice.choice(LETTERS), self.dice.random() < 0.4
+        letter, is_on = self.dice.choice(FLAGS), self.dice.random() < 0.4
         change = self.session.flags.add if is_on else self.session.flags.discard
         state = "on" if is_on else "off"
         return Edit(f"flag {letter} {state}\n".encode(), lambda: change(letter))

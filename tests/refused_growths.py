@@ -43,8 +43,8 @@ ASKING = frozenset(("file", "missing", "splice", "patterns", "pattern", "flag", 
 """The kinds of edit of which some have to be refused as out of memory. `drop` may be too, where
 parts are kept."""
 
-FLAGS_OF_OUTPUT = frozenset(b"clnqsv")
-"""The options whose edits need no memory."""
+SEARCHED_FLAGS = frozenset((b"i", b"o", b"x"))
+"""The options whose edits may need memory."""
 
 Steps = tuple[Step, ...]
 Ask = Callable[[Steps, int], tuple[Answer, bool]]
@@ -96,7 +96,7 @@ def may_need_memory(step: Step) -> bool:
     """Whether a command is an edit that may be refused as out of memory."""
     words = step.sent.split(b"\n")[0].split(b" ")
     if words[0] == b"flag":
-        return len(words) == 3 and words[1] not in {bytes([letter]) for letter in FLAGS_OF_OUTPUT}
+        return len(words) == 3 and words[1] in SEARCHED_FLAGS
     return words[0] == b"drop" or words[0].decode("latin-1") in ASKING
 
 

@@ -4,7 +4,8 @@ A file of rows is on grep, or on the program that it names at its top.
 
 A text in a row is one of these:
 
-- a string, which stands for its UTF-8 bytes;
+- a string, which stands for its UTF-8 bytes; {usage} and {flags} in it are USAGE and FLAGS of
+  program.py;
 - a number from 0 to 255, which stands for that byte;
 - a table { text = TEXT, times = N }, the text this number of times;
 - a table { bytes = [...] }, each byte of the list; a member is a byte, as a number or a string of
@@ -21,7 +22,7 @@ from dataclasses import dataclass, replace
 from pathlib import Path
 from typing import Any
 
-from program import Answer, Bench, Case, Verdict
+from program import FLAGS, USAGE, Answer, Bench, Case, Verdict
 
 FOLDER = Path(__file__).parent / "rows"
 NEEDED = {"name", "words", "status"}
@@ -84,7 +85,7 @@ def text_of(value: Any) -> bytes:
     """The bytes that a text stands for."""
     match value:
         case str():
-            return value.encode()
+            return value.replace("{usage}", USAGE).replace("{flags}", FLAGS).encode()
         case int():
             return bytes((value,))
         case list():

@@ -12,7 +12,7 @@ from itertools import count
 from pathlib import Path
 
 from dialogue import Coprocess
-from program import Answer, Bench, Cases, Skipped, Verdict, all_of
+from program import FLAGS, Answer, Bench, Cases, Skipped, Verdict, all_of
 from random_edits import counted
 
 LINES = 1000
@@ -78,7 +78,7 @@ def added_and_dropped(number: int) -> list[bytes]:
 
 
 def flagged(number: int) -> list[bytes]:
-    letter = "cilnqsvxo"[number % 9]
+    letter = FLAGS[number % len(FLAGS)]
     return [f"flag {letter} on\n".encode(), f"flag {letter} off\n".encode()]
 
 

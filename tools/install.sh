@@ -30,7 +30,18 @@ linked() {
     sed -E "s|\]\(([^):#]+(#[^)]*)?)\)|]($homepage/\1)|g" "$1"
 }
 
-completions_of() { sed -E "/^(complete|#compdef) /s/\bgrep\b/$grep_name/" "completions/$1.$2"; }
+# What completes a program in a shell. For bash and fish the options of grep are those in its file for zsh.
+completions_of() {
+    local option="^ *'(\([^)]*\))?\*?-(.)\+?\[(.*)\]"
+    case $1.$2 in
+        grep.bash) sed "s/OPTIONS/$(sed -nE "s/$option.*/-\2/p" completions/grep.zsh | paste -s -d ' ')/" completions/grep.bash ;;
+        grep.fish)
+            sed -nE "s/$option:.*_files.*/complete -c grep -s \2 -r -F -d '\3'/p
+                s/$option:.*/complete -c grep -s \2 -x -d '\3'/p
+                s/$option.*/complete -c grep -s \2 -d '\3'/p" completions/grep.zsh ;;
+        *) cat "completions/$1.$2" ;;
+    esac | sed -E "/^(complete|#compdef) /s/\bgrep\b/$grep_name/"
+}
 
 for program in "${programs[@]}"; do
     name=$program

@@ -8,7 +8,7 @@ pub use Rattle.grep_core.specs.Files.{Ending, File, HasSelected, Matched, Select
 pub use Rattle.grep_core.specs.Laws.{ContextIsForLines, HasOneAnswer, IsOne, MeansOne}
 pub use Rattle.grep_core.specs.Matchers.{IsFirstRefused}
 pub use Rattle.grep_core.specs.Messages.{AnySelected, FaultMet, FaultMetBy, Message, Messages, Reached, Reported, StatusOf, Stops, cannot_open, message, read_error}
-pub use Rattle.grep_core.specs.Output.{CountOf, Form, GroupsOf, Out, OutAs, PartRowsOf, PartsOfLine, RowsOf, SelectedLines, are_many, around, counts, form, head_of, lines, lines_with, names, nothing, numbered, parts, shown_name, shown_number, written}
+pub use Rattle.grep_core.specs.Output.{CountOf, Form, GroupsOf, Out, OutAs, PartRowsOf, PartsOfLine, RowsOf, SelectedLines, around, counts, form, head_of, lines, lines_with, names, nothing, numbered, parts, shown_name, shown_number, shows_names, written}
 pub use Rattle.grep_core.specs.Row.{colon, head, hyphen, output_line, prefix}
 pub use Rattle.grep_core.specs.Run.{AreReadings, BreaksOff, Devices, FailuresMet, Finishes, LeftMet, RunGives, StopsAfter, Story, TakesAll, TakesFront, TakesPast, Writer, WritesAll, begun, count_more, file_at, files_of, first_lines, writer}
 pub use Rattle.grep_core.specs.Sources.{Returns, source_at}

@@ -9,10 +9,11 @@ use Rattle.grep_core.specs.{Row.colon, Row.prefix, Row.head, Row.output_line, Ch
 use Rattle.grep_core.specs.{Choose.Chosen, Files.File, Files.Ending, Files.missing, Files.Selected}
 use Rattle.grep_core.specs.{Files.HasSelected, Around.Groups}
 
-abbrev pub are_many : List File → Bool
-are_many files = nat_le 2 (length files)
+-- the names of this many files are shown
+abbrev pub shows_names : ℕ → Bool
+shows_names files = nat_le 2 files
 
--- the file's name is shown where there are many files
+-- the file's name, where names are shown
 abbrev pub shown_name : Bool → File → Option Text
 shown_name many file = if many then Some file.name else None
 
@@ -96,9 +97,13 @@ module _ (es : List Expression) (options : Options) (many : Bool) where
   OutAs (around context) files out =
       (groups : List Text) × EachGives (GroupsOf context) files groups × (out ≡ drop 1 groups)
 
+-- the lines that grep writes for some of all its files
+abbrev pub OutOf : List Expression → Options → List File → List File → List Text → Type 0
+OutOf es options all files out = OutAs es options (shows_names (length all)) (form options) files out
+
 -- the lines that grep writes
 abbrev pub Out : List Expression → Options → List File → List Text → Type 0
-Out es options files out = OutAs es options (are_many files) (form options) files out
+Out es options files out = OutOf es options files files out
 
 -- the bytes of some output lines
 abbrev pub written : Text → List Text → Text

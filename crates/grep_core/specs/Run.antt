@@ -5,7 +5,7 @@ use Rattle.std.specs.{List.AllZip, Io.KnownBytes.Appends}
 use Rattle.re_syntax.specs.{Bytes.Text, Expression.Expression}
 use Rattle.re_search.specs.Meters.{Steps}
 use Rattle.grep_core.specs.declared.status.RunFault.TheVariants.{Write, MessageWrite, Memory}
-use Rattle.grep_core.specs.Output.{Form, parts, lines, around, form, OutAs, Out, are_many, written}
+use Rattle.grep_core.specs.Output.{Form, parts, lines, around, form, OutOf, Out, written}
 use Rattle.grep_core.specs.{declared.options.Options.Options, declared.status.Status.Status}
 use Rattle.grep_core.specs.{declared.status.RunFault.RunFault, Choose.IfHolds, Files.File}
 use Rattle.grep_core.specs.{Files.whole, Files.missing, Files.HasSelected, Messages.FaultMet}
@@ -139,11 +139,6 @@ module _ (es : List Expression) (options : Options) (sources : List Source) wher
     pub gave_back : returned_with left
     pub steps : SearchesFiles options (length es) (files_of sources readings) old.steps new.steps
 
-  -- the output for some of the files for which the sources stand
-  abbrev pub OutOf : List Reading → List File → List Text → Type 0
-  OutOf readings files output =
-      OutAs es options (are_many (files_of sources readings)) (form options) files output
-
   -- `returned_with l`: readers that had l left were returned in the run
   module _ (returned_with : List (Option Text) → Type 0) (old new : Devices) where
     -- a whole run: output, messages and status are those of the files for which the sources stand
@@ -160,7 +155,8 @@ module _ (es : List Expression) (options : Options) (sources : List Source) wher
       pub at : ℕ
       pub in_sources : at < length sources
       pub story : Story (take (suc at) sources) returned_with old new
-      pub wrote : WritesPast (OutOf story.readings (take at (files_of sources story.readings)))
+      pub wrote : WritesPast (OutOf es options (files_of sources story.readings)
+          (take at (files_of sources story.readings)))
           (Out es options (files_of sources story.readings)) old.out new.out
       pub reported : WritesPast (Messages es options (take at (files_of sources story.readings)))
           (Messages es options (files_of sources story.readings)) old.messages new.messages
@@ -175,7 +171,8 @@ module _ (es : List Expression) (options : Options) (sources : List Source) wher
       pub in_file : n ≤ length (file_at (files_of sources story.readings) k).lines
       pub read : HasRead (source_at sources k) rest
           (take n (file_at (files_of sources story.readings) k).lines)
-      pub wrote : WritesAll (OutOf story.readings (take k (files_of sources story.readings)
+      pub wrote : WritesAll (OutOf es options (files_of sources story.readings)
+          (take k (files_of sources story.readings)
           ++ begun (form options) n (file_at (files_of sources story.readings) k))) old.out new.out
       pub reported : WritesAll (Messages es options (take k (files_of sources story.readings)))
           old.messages new.messages

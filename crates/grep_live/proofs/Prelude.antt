@@ -9,7 +9,7 @@ pub use Rattle.grep_core.specs.Options.{option_of, with_option}
 pub use Rattle.grep_core.specs.Written.{GoesOut, StopsWithin, Writes}
 pub use Rattle.grep_core.specs.declared.options.Context.{Context}
 pub use Rattle.grep_core.specs.declared.options.Flag.{Flag}
-pub use Rattle.grep_core.specs.declared.options.Flag.TheVariants.{Count, FilesWithMatches, IgnoreCase, InvertMatch, LineNumber, LineRegexp, NoMessages, OnlyMatching, Quiet}
+pub use Rattle.grep_core.specs.declared.options.Flag.TheVariants.{IgnoreCase, InvertMatch, LineRegexp, OnlyMatching}
 pub use Rattle.grep_core.specs.declared.options.Options.{Options}
 pub use Rattle.grep_core.specs.declared.status.Status.{Status}
 pub use Rattle.grep_io.specs.declared.devices.counted.WriteFault.{WriteFault}

@@ -7,7 +7,7 @@ pub use Rattle.grep_core.specs.Matchers.{IsFirstRefused}
 pub use Rattle.grep_core.specs.Messages.{AnySelected, FaultMet, Message, Messages, Reached, StatusOf, Stops, message}
 pub use Rattle.grep_core.specs.Meters.{Steps}
 pub use Rattle.grep_core.specs.Options.{option_of, with_option}
-pub use Rattle.grep_core.specs.Output.{Form, Out, OutAs, SelectedLines, around, counts, form, lines, lines_with, names, nothing, parts, shown_number, written}
+pub use Rattle.grep_core.specs.Output.{Form, Out, OutAs, SelectedLines, around, counts, form, lines, lines_with, names, nothing, parts, shown_number, shows_names, written}
 pub use Rattle.grep_core.specs.Row.{output_line}
 pub use Rattle.grep_core.specs.Run.{file_at}
 pub use Rattle.grep_core.specs.Working.Groups.{GroupedAs, rows_after}
@@ -20,7 +20,7 @@ pub use Rattle.grep_core.specs.Working.Searched.{ending_of, is_fault, reported_o
 pub use Rattle.grep_core.specs.Written.{GoesOut, StopsWithin, Writes}
 pub use Rattle.grep_core.specs.declared.options.Context.{Context}
 pub use Rattle.grep_core.specs.declared.options.Flag.{Flag}
-pub use Rattle.grep_core.specs.declared.options.Flag.TheVariants.{Count, FilesWithMatches, IgnoreCase, InvertMatch, LineNumber, LineRegexp, NoMessages, OnlyMatching, Quiet}
+pub use Rattle.grep_core.specs.declared.options.Flag.TheVariants.{Count}
 pub use Rattle.grep_core.specs.declared.options.Options.{Options}
 pub use Rattle.grep_core.specs.declared.status.FileEnd.{FileEnd}
 pub use Rattle.grep_core.specs.declared.status.FileEnd.TheVariants.{Missing, Whole}

@@ -39,11 +39,7 @@ pub fn effect_of(flag: Flag, on: bool) -> Effect
         Flag::LineRegexp => Effect::Verdicts,
         Flag::OnlyMatching if on => Effect::Parts,
         Flag::OnlyMatching => Effect::Hits,
-        Flag::Count => Effect::Output,
-        Flag::FilesWithMatches => Effect::Output,
-        Flag::LineNumber => Effect::Output,
-        Flag::Quiet => Effect::Output,
-        Flag::NoMessages => Effect::Output,
         Flag::InvertMatch => Effect::Hits,
+        _ => Effect::Output,
     }
 }

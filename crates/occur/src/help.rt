@@ -15,7 +15,7 @@ The script has a command on each line. The lines or patterns that a command coun
   patterns COUNT               new patterns, the next COUNT lines
   drop P                       takes pattern P away
   pattern P                    the next line in place of pattern P
-  flag LETTER on|off           sets an option of grep: c, i, l, n, o, q, s, v or x
+  flag LETTER on|off           sets an option of grep that has no argument, but E and F
   context BEFORE AFTER         shows so many lines around selected ones
   context off                  shows no others
   syntax basic|extended|fixed  sets how patterns are read

@@ -1,5 +1,5 @@
 -- A run over sources, one more source at a time, and how it ends.
-use Rattle.grep_core.proofs.Prelude.{◌≡◌, ℕ, zero, suc, ◌+◌, nat_lt, nat_le, ◌<◌, ◌≤◌, Bool, true, false, ◌||◌, ◌&&◌, IsTrue, Decides, List, [], ◌∷◌, ◌++◌, length, take, drop, get_or, Option, None, Ok, Err, Any, refl, sym, ap, subst, ◌∙◌, inl, inr, arith, append-nil, append_assoc, take-suc, take-append_seam, get_or-append_seam, false≢true, cond-true, length-append, length-take-le, take_all, Text, Expression, Options, Status, RunFault, MessageWrite, FileEnd, one_more, IfHolds, File, missing, HasSelected, Form, nothing, names, counts, parts, lines, around, form, Out, are_many, FaultMet, Stops, Reported, Messages, AnySelected, StatusOf, Source, Reading, IsReadingOf, file_of, failures_of, AreLeft, HasRead, Writer, Devices, TakesAll, TakesFront, TakesPast, files_of, AreReadings, FailuresMet, LeftMet, begun, file_at, count_more, Story, Finishes, BreaksOff, StopsAfter, RunGives, source_at, SearchesLines, SearchesFiles, GroupedAs, rows_after, is_fault, status_by, SourceGives, CountsSource, FinishesSource}
+use Rattle.grep_core.proofs.Prelude.{◌≡◌, ℕ, zero, suc, ◌+◌, nat_lt, ◌<◌, ◌≤◌, Bool, true, false, ◌||◌, ◌&&◌, IsTrue, Decides, List, [], ◌∷◌, ◌++◌, length, take, drop, get_or, Option, None, Ok, Err, Any, refl, sym, ap, subst, ◌∙◌, inl, inr, arith, append-nil, append_assoc, take-suc, take-append_seam, get_or-append_seam, false≢true, cond-true, length-append, length-take-le, take_all, Text, Expression, Options, Status, RunFault, MessageWrite, FileEnd, one_more, IfHolds, File, missing, HasSelected, Form, nothing, names, counts, parts, lines, around, form, Out, shows_names, FaultMet, Stops, Reported, Messages, AnySelected, StatusOf, Source, Reading, IsReadingOf, file_of, failures_of, AreLeft, HasRead, Writer, Devices, TakesAll, TakesFront, TakesPast, files_of, AreReadings, FailuresMet, LeftMet, begun, file_at, count_more, Story, Finishes, BreaksOff, StopsAfter, RunGives, source_at, SearchesLines, SearchesFiles, GroupedAs, rows_after, is_fault, status_by, SourceGives, CountsSource, FinishesSource}
 use Rattle.re_syntax.proofs.lemmas.Decisions.{Any-none, Any-first}
 use Rattle.grep_core.specs.declared.status.Status.TheVariants.{Selected as selected}
 use Rattle.grep_core.specs.declared.status.RunFault.TheVariants.{Write, Memory}
@@ -190,9 +190,9 @@ module _ {es : List Expression} {options : Options} {many : Bool} where
         steps = spent new steps;
       }
 
-      module _ (is_many : many ≡ nat_le 2 (length all_sources)) where
-        all_many : many ≡ are_many files
-        all_many = is_many ∙ ap (nat_le 2) (sym (length-files_of _ _ are_all))
+      module _ (is_many : many ≡ shows_names (length all_sources)) where
+        all_many : many ≡ shows_names (length files)
+        all_many = is_many ∙ ap shows_names (sym (length-files_of _ _ are_all))
 
         within : length before < length all_sources
         within = omega (arith, length-append before (source ∷ after))
@@ -346,9 +346,9 @@ module _ {es : List Expression} {options : Options} {many : Bool} where
 
     -- ---- the answers, for the sources as they are listed
 
-    module _ {sources : List Source} (after : List Source) (cut : sources ≡ before ++ source ∷ after) (is_many : many ≡ nat_le 2 (length sources)) (new : Devices) where
-      many_here : many ≡ nat_le 2 (length (before ++ source ∷ after))
-      many_here = is_many ∙ ap (λ l. nat_le 2 (length l)) cut
+    module _ {sources : List Source} (after : List Source) (cut : sources ≡ before ++ source ∷ after) (is_many : many ≡ shows_names (length sources)) (new : Devices) where
+      many_here : many ≡ shows_names (length (before ++ source ∷ after))
+      many_here = is_many ∙ ap (λ l. shows_names (length l)) cut
 
       pub run_stopped : {end : FileEnd} {found : ℕ} → FinishesSource es options many some source own_given mid new end found → (options.quiet && nat_lt 0 found) ≡ true → Finishes es options sources all_given old new selected
       run_stopped {found = found} f both =
@@ -372,14 +372,14 @@ module _ {es : List Expression} {options : Options} {many : Bool} where
           rw (here ∙ place) (rw cut (stops after b.reading b.is_reading many_here new n b.rows b.in_file b.read b.are_rows b.wrote same b.none_failed b.gave_back b.steps))
 
   -- all sources were read
-  pub run_all : {sources : List Source} (given : List (Option Text) → Type 0) {old new : Devices} {some faulty : Bool} → many ≡ nat_le 2 (length sources) → RunSoFar es options many sources given old new some faulty → Finishes es options sources given old new (status_by some faulty)
+  pub run_all : {sources : List Source} (given : List (Option Text) → Type 0) {old new : Devices} {some faulty : Bool} → many ≡ shows_names (length sources) → RunSoFar es options many sources given old new some faulty → Finishes es options sources given old new (status_by some faulty)
   run_all {sources} given {some = some} {faulty = faulty} is_many s =
       let files = files_of sources s.story.readings in
       record {
         story = s.story;
         wrote = record {
           text = rows_after (form options) false s.output;
-          due = rw (is_many ∙ ap (nat_le 2) (sym (length-files_of _ _ s.story.are_readings))) at (grouped_out es options many (form options) files s.output s.is_output);
+          due = rw (is_many ∙ ap shows_names (sym (length-files_of _ _ s.story.are_readings))) at (grouped_out es options many (form options) files s.output s.is_output);
           all = s.wrote;
         };
         reported = record { text = s.messages; due = Messages-reached es options _ _ _ (Reached-all es options _ s.goes_on) s.are_reported; all = s.reported };
@@ -410,20 +410,20 @@ module _ {es : List Expression} {options : Options} {many : Bool} where
         let longer = ap (λ n. take n sources) one ∙ take-suc sources k (record { name = []; opens = None; bytes = None }) inside in
         rw (longer, reported_is, fault_is) (run_next _ own_given all_given join s f (rw here_is at goes))
 
-    module _ (is_many : many ≡ nat_le 2 (length sources)) where
+    module _ {count : ℕ} (is_many : many ≡ shows_names count) (counted : count ≡ length sources) where
       -- under `-q` a line of it is selected
       pub run_ends_at : {end : FileEnd} {found : ℕ} {here : Bool} → FinishesSource es options many some (source_at sources k) own_given mid new end found → here ≡ nat_lt 0 found → (options.quiet && here) ≡ true → RunGives es options sources all_given old new (Ok selected)
       run_ends_at f here_is both =
-          run_stopped _ own_given all_given join s (drop (suc k) sources) (cut_at _ k _ inside) is_many _ f (rw here_is at both)
+          run_stopped _ own_given all_given join s (drop (suc k) sources) (cut_at _ k _ inside) (is_many ∙ ap shows_names counted) _ f (rw here_is at both)
 
       -- its search was given up
       pub run_given_up : (fault : RunFault) {ds : List Expression} {listed : List Source} → ds ≡ es → listed ≡ sources → SourceGives ds options many some (source_at listed k) own_given k mid new (Err fault) → RunGives es options sources all_given old new (Err fault)
       run_given_up fault {listed = listed} same_expressions same_sources h =
           let searched = subst (λ l. SourceGives es options many some (source_at l k) own_given k mid new (Err fault)) same_sources (subst (λ xs. SourceGives xs options many some (source_at listed k) own_given k mid new (Err fault)) same_expressions h) in
-          run_fault _ own_given all_given join s (drop (suc k) sources) (cut_at _ k _ inside) is_many _ _ place searched
+          run_fault _ own_given all_given join s (drop (suc k) sources) (cut_at _ k _ inside) (is_many ∙ ap shows_names counted) _ _ place searched
 
   -- all sources were searched
-  pub run_ends : (sources : List Source) (given : List (Option Text) → Type 0) (k : ℕ) (old new : Devices) {some faulty : Bool} {status : Status} → many ≡ nat_le 2 (length sources) → length sources ≤ k → RunSoFar es options many (take k sources) given old new some faulty → status ≡ status_by some faulty
+  pub run_ends : (sources : List Source) (given : List (Option Text) → Type 0) (k : ℕ) (old new : Devices) {some faulty : Bool} {count : ℕ} {status : Status} → many ≡ shows_names count → count ≡ length sources → length sources ≤ k → RunSoFar es options many (take k sources) given old new some faulty → status ≡ status_by some faulty
       → RunGives es options sources given old new (Ok status)
-  run_ends sources given k old new is_many over s is =
-      rw is (run_all given is_many (rw (take_all k sources over) at s))
+  run_ends sources given k old new is_many counted over s is =
+      rw is (run_all given (is_many ∙ ap shows_names counted) (rw (take_all k sources over) at s))

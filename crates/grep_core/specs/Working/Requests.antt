@@ -19,6 +19,6 @@ form_of (Around context) = around context
 abbrev pub selects : Options → Bool → Bool
 selects options matched = if options.invert_match then not matched else matched
 
--- a file's name is shown where there are many files
+-- a file's name, where names are shown
 abbrev pub name_shown : Bool → Text → Option Text
 name_shown many name = if many then Some name else None

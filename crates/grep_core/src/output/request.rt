@@ -18,7 +18,7 @@ use re_search::Span;
 pub struct FileRequest<'a> {
     /// The options of the run.
     pub options: Options,
-    /// Whether there are two files or more: rows and counts then begin with the file's name.
+    /// Whether rows and counts begin with the file's name.
     pub many: bool,
     /// The file's name.
     pub name: &'a [u8],

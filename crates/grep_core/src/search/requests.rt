@@ -21,7 +21,7 @@ pub struct SourceRequest<'a> {
     pub search: &'a SearchRequest,
     /// The source's place among all, counted from 0.
     pub place: usize,
-    /// Whether there are two sources or more: rows and counts then begin with the source's name.
+    /// Whether rows and counts begin with the source's name.
     pub many: bool,
     /// Whether a line of an earlier source is selected: where lines around selected ones are shown,
     /// a separator is then written before the first group.

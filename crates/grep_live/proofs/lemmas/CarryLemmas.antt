@@ -1,5 +1,5 @@
 -- What each edit leaves: marks that fit, and views that follow.
-use Rattle.grep_live.proofs.Prelude.{◌≡◌, ℕ, zero, suc, ◌+◌, ◌<◌, ◌≤◌, Bool, List, [], ◌∷◌, ◌++◌, length, map, get_or, Result, Ok, Err, refl, sym, ap, subst, ◌∙◌, inl, inr, arith, cases_lt, Option, slice_set, remove, splice, Syntax, Text, list_of, Expression, Flag, Count, IgnoreCase, FilesWithMatches, LineNumber, OnlyMatching, Quiet, NoMessages, InvertMatch, LineRegexp, Context, IfHolds, File, Inputs, AreMeant, Selected, file_at, EditFault, NoSuchFile, FileIsMissing, OutOfRange, LineHasNewline, NoSuchPattern, Pattern, TooManyPatterns, Memory, Edit, AddFile, AddMissing, DropFile, Splice, AddPatterns, DropPattern, ChangePattern, SetFlag, SetSyntax, SetContext, Applies, EditGives, Reads, with_option, with_files, with_patterns, with_context, whole_file, missing_file, spliced, ListedParts, Marked, Splices, AllThree, Hit, HitOf, View, moved, hits_at, Watched, new_mark, whole_mark, mark_at, lost, changes_hits, if◌then◌else◌, MarksAfter, FollowsFile, Follows, view_after, EditsCarry, IsFit, AreFit}
+use Rattle.grep_live.proofs.Prelude.{◌≡◌, ℕ, zero, suc, ◌+◌, ◌<◌, ◌≤◌, Bool, List, [], ◌∷◌, ◌++◌, length, map, get_or, Result, Ok, Err, refl, sym, ap, subst, ◌∙◌, inl, inr, arith, cases_lt, Option, slice_set, remove, splice, Syntax, Text, list_of, Expression, Flag, IgnoreCase, OnlyMatching, InvertMatch, LineRegexp, Context, IfHolds, File, Inputs, AreMeant, Selected, file_at, EditFault, NoSuchFile, FileIsMissing, OutOfRange, LineHasNewline, NoSuchPattern, Pattern, TooManyPatterns, Memory, Edit, AddFile, AddMissing, DropFile, Splice, AddPatterns, DropPattern, ChangePattern, SetFlag, SetSyntax, SetContext, Applies, EditGives, Reads, with_option, with_files, with_patterns, with_context, whole_file, missing_file, spliced, ListedParts, Marked, Splices, AllThree, Hit, HitOf, View, moved, hits_at, Watched, new_mark, whole_mark, mark_at, lost, changes_hits, if◌then◌else◌, MarksAfter, FollowsFile, Follows, view_after, EditsCarry, IsFit, AreFit}
 use Rattle.grep_session.proofs.lemmas.{AllPatternsRead.with_same, FitLemmas.fit_added, FitLemmas.fit_dropped, FitLemmas.fit_lose, FitLemmas.fit_spliced}
 use Rattle.grep_live.proofs.lemmas.{HitLemmas.HitBy, HitLemmas.moved_again, HitLemmas.one_moved, MarkLemmas.kept_line, MarkLemmas.none_kept}
 use Rattle.grep_live.proofs.lemmas.ListLemmas.{three-append, three-remove, three-set, three-map, three-weaker}
@@ -176,15 +176,11 @@ module _ (old : Watched) (fit : AreFit old.inputs.files old.marks) where
 
   -- an option by which no list changes
   left_option : (flag : Flag) (on : Bool) → IsLeft old (record { inputs = record old.inputs { options = with_option flag on old.inputs.options }; marks = if changes_hits flag then map lost old.marks else old.marks; states = old.states }) (λ view. view)
-  left_option Count on = (fit, same_views (record old.inputs { options = with_option Count on old.inputs.options }) (λ es m. m) (λ es line hits x. x))
-  left_option FilesWithMatches on = (fit, same_views (record old.inputs { options = with_option FilesWithMatches on old.inputs.options }) (λ es m. m) (λ es line hits x. x))
-  left_option LineNumber on = (fit, same_views (record old.inputs { options = with_option LineNumber on old.inputs.options }) (λ es m. m) (λ es line hits x. x))
-  left_option Quiet on = (fit, same_views (record old.inputs { options = with_option Quiet on old.inputs.options }) (λ es m. m) (λ es line hits x. x))
-  left_option NoMessages on = (fit, same_views (record old.inputs { options = with_option NoMessages on old.inputs.options }) (λ es m. m) (λ es line hits x. x))
   left_option IgnoreCase on = left_lost _ refl
   left_option OnlyMatching on = left_lost _ refl
   left_option InvertMatch on = left_lost _ refl
   left_option LineRegexp on = left_lost _ refl
+  left_option flag on = (fit, same_views _ (λ es m. m) (λ es line hits x. x))
 
   -- nothing is another
   left_same : IsLeft old old (λ view. view)

@@ -1,5 +1,5 @@
 -- All patterns were read again.
-use Rattle.grep_session.proofs.Prelude.{◌≡◌, Bool, true, false, IsTrue, MatchBool, List, [], map, Option, None, Some, IfSome, Result, Ok, Err, All, inl, inr, refl, sym, ap, subst, ◌∙◌, AllZip, Text, AreParts, IsMeant, Matcher, KeptFile, KeptLine, Syntax, Expression, IsReadable, matched_expression, Flag, Count, IgnoreCase, FilesWithMatches, LineNumber, OnlyMatching, Quiet, NoMessages, InvertMatch, LineRegexp, Options, Inputs, EditFault, NoSuchFile, FileIsMissing, OutOfRange, LineHasNewline, NoSuchPattern, Pattern, TooManyPatterns, Memory, ReadsAgain, read_as, SetFlag, SetSyntax, Applies, EditGives, option_of, with_option, AreMatching, IsKept, IsFileKept, kept_lines, span_places, AreMatchers, RefusesFirst, false≢true, All-weaker}
+use Rattle.grep_session.proofs.Prelude.{◌≡◌, Bool, true, false, IsTrue, MatchBool, List, [], map, Option, None, Some, IfSome, Result, Ok, Err, All, inl, inr, refl, sym, ap, subst, ◌∙◌, AllZip, Text, AreParts, IsMeant, Matcher, KeptFile, KeptLine, Syntax, Expression, IsReadable, matched_expression, Flag, Count, Options, Inputs, EditFault, NoSuchFile, FileIsMissing, OutOfRange, LineHasNewline, NoSuchPattern, Pattern, TooManyPatterns, Memory, ReadsAgain, read_as, SetFlag, SetSyntax, Applies, EditGives, option_of, with_option, AreMatching, IsKept, IsFileKept, kept_lines, span_places, AreMatchers, RefusesFirst, false≢true, All-weaker}
 use Rattle.re_search.specs.Working.Matchers.{AreAlike}
 use Rattle.std.specs.Bool.{⊤}
 
@@ -69,14 +69,7 @@ sets_flag flag on old new (Err Memory) h = h
 -- the value that an option has
 pub with_same : (flag : Flag) (options : Options) → with_option flag (option_of flag options) options ≡ options
 with_same Count options = refl
-with_same IgnoreCase options = refl
-with_same FilesWithMatches options = refl
-with_same LineNumber options = refl
-with_same OnlyMatching options = refl
-with_same Quiet options = refl
-with_same NoMessages options = refl
-with_same InvertMatch options = refl
-with_same LineRegexp options = refl
+with_same _ options = refl
 
 -- options that read the patterns as before
 pub applies_flag : (flag : Flag) (on : Bool) (old : Inputs) → (with_option flag on old.options).ignore_case ≡ old.options.ignore_case → All (IsReadable old.syntax old.options.ignore_case) old.patterns

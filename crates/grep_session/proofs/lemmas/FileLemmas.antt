@@ -1,6 +1,6 @@
 -- What is written for a file after the rows of its lines, for files one after the other, and about
 -- them.
-use Rattle.grep_session.proofs.Prelude.{◌≡◌, ℕ, ◌+◌, ◌<◌, ◌≤◌, Bool, true, false, ◌&&◌, Decides, List, [], ◌∷◌, ◌++◌, length, map, drop, get_or, nat_le, All, MatchBool, Option, None, Some, IfSome, Result, Ok, Err, IfOk, IsErr, inl, inr, refl, sym, ap, subst, ◌∙◌, arith, append-nil, append_assoc, if◌then◌else◌, enumerate_from, false≢true, drop_all, length-map, Text, Expression, Options, Chosen, EachGives, File, Selected, Status, StatusOf, Form, nothing, names, counts, parts, lines, around, form, Out, OutAs, written, GroupedAs, rows_after, LineRowsOf, SelectedLines, file_so_far, FileEnd, Missing, Whole, ending_of, summary_as, reported_of, message, Stops, Reached, Message, Messages, GoesOut, StopsWithin, Writes, HoldsOfMany, KeptLine, line_text, KeptFile, file_with, kept_file, kept_lines, end_of, has_selected, IsKept, IsFileKept, selected_count, WritesGroups, Reports, ReportsMessages}
+use Rattle.grep_session.proofs.Prelude.{◌≡◌, ℕ, ◌+◌, ◌<◌, ◌≤◌, Bool, true, false, ◌&&◌, Decides, List, [], ◌∷◌, ◌++◌, length, map, drop, get_or, All, MatchBool, Option, None, Some, IfSome, Result, Ok, Err, IfOk, IsErr, inl, inr, refl, sym, ap, subst, ◌∙◌, arith, append-nil, append_assoc, if◌then◌else◌, enumerate_from, false≢true, drop_all, length-map, Text, Expression, Options, Chosen, EachGives, File, Selected, Status, StatusOf, Form, nothing, names, counts, parts, lines, around, form, Out, OutAs, shows_names, written, GroupedAs, rows_after, LineRowsOf, SelectedLines, file_so_far, FileEnd, Missing, Whole, ending_of, summary_as, reported_of, message, Stops, Reached, Message, Messages, GoesOut, StopsWithin, Writes, HoldsOfMany, KeptLine, line_text, KeptFile, file_with, kept_file, kept_lines, end_of, has_selected, IsKept, IsFileKept, selected_count, WritesGroups, Reports, ReportsMessages}
 use Rattle.grep_core.proofs.lemmas.Exist.{Messages-exist}
 use Rattle.grep_core.proofs.lemmas.FileOutput.{output_all, rows_none}
 use Rattle.grep_core.proofs.lemmas.GroupLaws.{after_nothing}
@@ -108,9 +108,9 @@ module _ {W : Type 0} (p : Reporting W) where
     pub files_none : (a : W) → FilesTo 0 a a false
     files_none a = record { wrote = groups_none (record { with_rest = λ rest h. h }) }
 
-    out_is : many ≡ nat_le 2 (length files) → (rows : List Text) → AllFiles rows → Out es options (map kept_file files) (rows_after (form options) false rows)
+    out_is : many ≡ shows_names (length files) → (rows : List Text) → AllFiles rows → Out es options (map kept_file files) (rows_after (form options) false rows)
     out_is many_is rows h =
-        subst (λ m. OutAs es options m (form options) (map kept_file files) (rows_after (form options) false rows)) (many_is ∙ ap (nat_le 2) (sym (length-map files kept_file))) (grouped_out es options many (form options) (map kept_file files) rows h)
+        subst (λ m. OutAs es options m (form options) (map kept_file files) (rows_after (form options) false rows)) (many_is ∙ ap shows_names (sym (length-map files kept_file))) (grouped_out es options many (form options) (map kept_file files) rows h)
 
     module _ {i : ℕ} {a b : W} {mid : Bool} (s : FilesTo i a b mid) where
       further : {E : Type 0} {file : KeptFile} {c : W} {r : Result Bool E} → i < length files → file ≡ get_or files i file → Gives (FilesDue (kept_file file ∷ [])) mid b c r → Gives (Leads (FilesFrom (i + 1)) AllFiles) false a c r
@@ -122,7 +122,7 @@ module _ {W : Type 0} (p : Reporting W) where
       pub files_on : {E : Type 0} {file : KeptFile} {c : W} {now : Bool} → i < length files → file ≡ get_or files i file → Gives {E = E} (FilesDue (kept_file file ∷ [])) mid b c (Ok now) → FilesTo (i + 1) a c now
       files_on inside is g = record { wrote = groups_are (further inside is g) (λ us l. l) }
 
-      pub files_all : many ≡ nat_le 2 (length files) → {E : Type 0} {status : Status} → length files ≤ i → StatusOf es options (map kept_file files) status → Reports contents failures es options (map kept_file files) margin a b {E = E} (Ok status)
+      pub files_all : many ≡ shows_names (length files) → {E : Type 0} {status : Status} → length files ≤ i → StatusOf es options (map kept_file files) status → Reports contents failures es options (map kept_file files) margin a b {E = E} (Ok status)
       files_all many_is past is = record {
         out = rows_after (form options) false s.wrote.groups;
         is_output = out_is many_is s.wrote.groups (leads_to s.wrote.are_due (subst (λ fs. FilesDue (map kept_file fs) []) (sym (drop_all i files past)) no_file));
@@ -130,7 +130,7 @@ module _ {W : Type 0} (p : Reporting W) where
         is_status = is;
       }
 
-      pub files_stop : many ≡ nat_le 2 (length files) → {E F : Type 0} {file : KeptFile} {c : W} {r : Result Bool E} (result : Result Status F) → i < length files → file ≡ get_or files i file → IsErr r → Gives (FilesDue (kept_file file ∷ [])) mid b c r → IsErr result → Reports contents failures es options (map kept_file files) margin a c result
+      pub files_stop : many ≡ shows_names (length files) → {E F : Type 0} {file : KeptFile} {c : W} {r : Result Bool E} (result : Result Status F) → i < length files → file ≡ get_or files i file → IsErr r → Gives (FilesDue (kept_file file ∷ [])) mid b c r → IsErr result → Reports contents failures es options (map kept_file files) margin a c result
       files_stop many_is {c = c} {r = r} result inside is err g too =
           let all : Gives {E = Unit {0}} AllFiles false a c (Err tt) = groups_front err refl (further inside is g) (λ us l. let rest = GroupedAs-exist es options many (form options) (map kept_file (drop (i + 1) files)) in (rest.0, l.with_rest rest.0 rest.1)) in
           record { out = rows_after (form options) false all.groups; is_output = out_is many_is all.groups all.are_due; wrote = writes_err contents failures margin a c _ result too all.wrote; is_status = if_ok (StatusOf es options (map kept_file files)) result too }

@@ -1,4 +1,4 @@
-use Rattle.grep_core.proofs.Prelude.{◌<◌, ◌≤◌, nat_le, length, refl, ap, ◌∙◌, arith}
+use Rattle.grep_core.proofs.Prelude.{◌<◌, ◌≤◌, length, refl, ◌∙◌, arith}
 use Rattle.re_search.proofs.lemmas.KeptMatchers.{none_asked, same_over}
 use Rattle.grep_core.proofs.lemmas.SourceLaws.{gives_none, gives_both}
 use Rattle.grep_core.proofs.lemmas.RunLaws.{run_none, run_further, run_ends_at, run_given_up, run_ends}
@@ -34,7 +34,7 @@ returns-then-request-has_selected-clause-run g c =
     let given = rw (known, s.listed) at c.in-Ok.ensures.given in
     let join = gives_both g.S.Sources.returned_readers c.args.sources.now c.loop-k.sources c.search_source.new.sources in
     let inside : c.loop-k.k < length sources = omega (arith, c.loop-k-test.true, c.count-count.ensures) in
-    run_ends_at sources c.loop-k.k inside _ _ join _ s.so_far (ap (nat_le 2) c.count-count.ensures)
+    run_ends_at sources c.loop-k.k inside _ _ join _ s.so_far refl c.count-count.ensures
     given c.has_selected.ensures c.if-request-has_selected.true
 
 pub returns-in-Err-clause-run : goal.returns-in-Err-clause-run
@@ -44,11 +44,11 @@ returns-in-Err-clause-run g c =
     let known = s.same.same_expressions in
     let join = gives_both g.S.Sources.returned_readers c.args.sources.now c.loop-k.sources c.search_source.new.sources in
     let inside : c.loop-k.k < length sources = omega (arith, c.loop-k-test.true, c.count-count.ensures) in
-    run_given_up sources c.loop-k.k inside _ _ join _ s.so_far (ap (nat_le 2) c.count-count.ensures) c.in-Err.fault known s.listed c.in-Err.ensures.given
+    run_given_up sources c.loop-k.k inside _ _ join _ s.so_far refl c.count-count.ensures c.in-Err.fault known s.listed c.in-Err.ensures.given
 
 pub returns-clause-run : goal.returns-clause-run
 returns-clause-run g c =
     let sources = g.S.Sources.listed c.args.sources.now in
     let s = c.loop-k.invariant in
     let over : length sources ≤ c.loop-k.k = omega (arith, c.loop-k-test.false, c.count-count.ensures) in
-    run_ends _ _ _ _ _ (ap (nat_le 2) c.count-count.ensures) over s.so_far c.status_of.ensures
+    run_ends _ _ _ _ _ refl c.count-count.ensures over s.so_far c.status_of.ensures
