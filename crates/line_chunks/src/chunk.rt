@@ -1,10 +1,12 @@
 //! Some lines with what is found in each.
-ghost use Rattle.std.specs.Prelude.{◌≡◌, ℕ, ◌^◌, ◌<◌, ◌≤◌, [], ◌∷◌, ◌++◌, length, map, take, drop, get_or, IfOk, OnErr, IsTrue, not, slice_range};
+ghost use Rattle.std.specs.Prelude.{◌≡◌, ℕ, ◌^◌, ◌<◌, ◌≤◌, [], ◌∷◌, ◌++◌, length, map, take, drop};
+ghost use Rattle.std.specs.Prelude.{get_or, IfOk, OnErr, IsTrue, not, slice_range};
 ghost use Rattle.std.specs.List.{remove_range};
 ghost use Rattle.re_trees.specs.Lines.{HasNoNewline, lines_of, terminated};
-ghost use Rattle.re_runs.specs.Working.Blocks.{IsBlock};
-ghost use Rattle.line_finds.specs.Working.Finds.{numbers_at, AreBelow};
-ghost use Rattle.line_chunks.specs.Working.Chunks.{no_line, new_line, line_text, is_matched, matched_count, seen, line_without};
+ghost use Rattle.{re_runs.specs.Working.Blocks.IsBlock, line_finds.specs.Working.Finds.numbers_at};
+ghost use Rattle.line_finds.specs.Working.Finds.{AreBelow};
+ghost use Rattle.line_chunks.specs.Working.Chunks.{no_line, new_line, line_text, is_matched};
+ghost use Rattle.line_chunks.specs.Working.Chunks.{matched_count, seen, line_without};
 
 use line_finds::{Found, Matches, Pieces};
 use re_trees::Span;

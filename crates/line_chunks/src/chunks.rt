@@ -1,9 +1,11 @@
 //! What is done with the chunks of a file.
-ghost use Rattle.std.specs.Prelude.{◌≡◌, ℕ, ◌+◌, ◌-◌, ◌*◌, ◌<◌, ◌≤◌, ◌^◌, [], ◌∷◌, ◌++◌, length, map, take, drop, get_or, IfOk, OnErr, slice_set};
+ghost use Rattle.std.specs.Prelude.{IfOk, length, slice_set, ◌+◌, OnErr, drop, ◌-◌, ◌*◌, map};
+ghost use Rattle.std.specs.Prelude.{get_or, ◌++◌, [], ◌≤◌, ◌^◌, ◌≡◌, ℕ, ◌<◌, ◌∷◌, take};
 ghost use Rattle.std.specs.List.{splice, remove_range};
 ghost use Rattle.re_trees.specs.Lines.{HasNoNewline};
-ghost use Rattle.line_chunks.specs.Working.Chunks.{new_line, has_room, with_line, matched_count, all_of, AreFilled, MakesFull};
-ghost use Rattle.line_chunks.specs.Working.Sums.{chunks_of, AreSummed, IsSummedTo};
+ghost use Rattle.line_chunks.specs.Working.Chunks.{matched_count, has_room, AreFilled, new_line};
+ghost use Rattle.line_chunks.specs.Working.{Chunks.{with_line, MakesFull, all_of}, Sums.AreSummed};
+ghost use Rattle.line_chunks.specs.Working.Sums.{chunks_of, IsSummedTo};
 
 use crate::chunk::Chunk;
 use crate::entries::{Entry, find_seam, lines_before, matched_before, sum_from};

@@ -1,9 +1,7 @@
 //! How what is found in the lines of all chunks changes.
-ghost use Rattle.std.specs.Prelude.{◌≡◌, ℕ, length, map, drop};
-ghost use Rattle.std.specs.Vec.Iter.{into_iter_items};
+ghost use Rattle.std.specs.{Prelude.{◌≡◌, ℕ, length, map, drop}, Vec.Iter.into_iter_items};
 ghost use Rattle.line_chunks.specs.Working.Chunks.{line_without, with_columns, FitColumns};
-ghost use Rattle.line_chunks.specs.Working.Columns.{next_column, FitsNext};
-ghost use Rattle.line_chunks.specs.Working.Sums.{chunks_of};
+ghost use Rattle.line_chunks.specs.Working.{Columns.{next_column, FitsNext}, Sums.chunks_of};
 
 use crate::entries::Entry;
 use line_finds::Found;

@@ -1,8 +1,9 @@
 //! Chunks with the numbers of their lines, summed up.
-ghost use Rattle.std.specs.Prelude.{◌≡◌, ℕ, ◌+◌, ◌<◌, ◌≤◌, ◌^◌, [], ◌∷◌, ◌++◌, length, map, take, get_or, not, if◌then◌else◌};
-ghost use Rattle.line_chunks.specs.Working.Chunks.{no_line, is_matched, all_of, matched_count};
+ghost use Rattle.std.specs.Prelude.{map, ◌<◌, take, [], get_or, ◌≡◌, ◌+◌, ◌∷◌, if◌then◌else◌, ◌++◌};
+ghost use Rattle.std.specs.Prelude.{length, not, ◌^◌, ◌≤◌, ℕ};
+ghost use Rattle.line_chunks.specs.Working.Chunks.{is_matched, matched_count, no_line, all_of};
+ghost use Rattle.line_chunks.specs.Working.Sums.{chunks_of, IsSummedTo, AreSummed};
 ghost use Rattle.line_chunks.specs.Working.Places.{IsPlace};
-ghost use Rattle.line_chunks.specs.Working.Sums.{chunks_of, AreSummed, IsSummedTo};
 
 use crate::chunk::Chunk;
 

@@ -1,9 +1,11 @@
 //! The lines of a file, in chunks.
-ghost use Rattle.std.specs.Prelude.{◌≡◌, ℕ, ◌+◌, ◌<◌, ◌≤◌, [], ◌∷◌, ◌++◌, length, map, take, drop, get_or, not, IfOk, OnErr, IfErr};
-ghost use Rattle.std.specs.List.{splice};
+ghost use Rattle.std.specs.Prelude.{◌≡◌, ℕ, ◌+◌, ◌<◌, ◌≤◌, [], ◌∷◌, ◌++◌, length, map, take, drop};
+ghost use Rattle.std.specs.{Prelude.{get_or, not, IfOk, OnErr, IfErr}, List.splice};
 ghost use Rattle.std.specs.Vec.Iter.{into_iter_items};
 ghost use Rattle.re_trees.specs.Lines.{HasNoNewline};
-ghost use Rattle.line_chunks.specs.Working.Chunks.{no_line, new_line, with_line, line_text, is_matched, matched_count, all_of, line_without, with_columns, FitColumns, MakesFull};
+ghost use Rattle.line_chunks.specs.Working.Chunks.{matched_count, line_text, with_line, new_line};
+ghost use Rattle.line_chunks.specs.Working.Chunks.{with_columns, FitColumns, MakesFull, all_of};
+ghost use Rattle.line_chunks.specs.Working.Chunks.{no_line, is_matched, line_without};
 
 use crate::chunk::Chunk;
 use crate::chunks::{add_line, insert, remove};

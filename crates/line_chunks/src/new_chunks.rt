@@ -1,5 +1,6 @@
 //! New chunks of the lines of others.
-ghost use Rattle.std.specs.Prelude.{◌≡◌, ℕ, ◌+◌, ◌<◌, ◌≤◌, [], ◌∷◌, ◌++◌, length, take, drop, get_or, IfOk, slice_range};
+ghost use Rattle.std.specs.Prelude.{◌≡◌, ℕ, ◌+◌, ◌<◌, ◌≤◌, [], ◌∷◌, ◌++◌, length, take, drop};
+ghost use Rattle.std.specs.Prelude.{get_or, IfOk, slice_range};
 ghost use Rattle.line_chunks.specs.Working.Chunks.{AreFilled, AreFull, IsLastFull, all_of};
 ghost use Rattle.line_chunks.specs.Working.Sums.{AddsLines, chunks_of};
 

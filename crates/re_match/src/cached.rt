@@ -1,28 +1,23 @@
 //! Search by stepping an automaton over the line, with a cache of the steps between sets of
 //! positions.
-ghost use Rattle.std.specs.Prelude.{◌≡◌, ℕ, ◌+◌, ◌-◌, ◌<◌, ◌≤◌, ◌↔◌, [], ◌∷◌, true, false, IsTrue, IfOk};
-ghost use Rattle.std.specs.Prelude.{IfErr, IfSome, length, slice_index, vec_capacity, ◌⊎◌};
+ghost use Rattle.std.specs.Prelude.{◌≡◌, ℕ, ◌+◌, ◌-◌, ◌<◌, ◌≤◌, ◌↔◌, [], ◌∷◌, true, false, IsTrue};
+ghost use Rattle.std.specs.Prelude.{IfOk, IfErr, IfSome, length, slice_index, vec_capacity, ◌⊎◌};
 ghost use Rattle.std.specs.NonZero.{non_zero_usize_get};
-ghost use Rattle.re_trees.specs.Working.Trees.{expression_of};
-ghost use Rattle.re_trees.specs.Holds.{Matches, positions};
-ghost use Rattle.re_trees.specs.Limits.{most_positions};
-ghost use Rattle.re_auto.specs.declared.build.BuildFault.TheVariants.{Memory};
-ghost use Rattle.re_auto.specs.Working.Tables.{IsRefused};
-ghost use Rattle.re_auto.specs.Working.StateSets.{IsMadeFor};
-ghost use Rattle.re_auto.specs.Searches.{FindsPart};
-ghost use Rattle.re_match.specs.Working.Prefilters.{IsSaidAtOnce};
+ghost use Rattle.re_trees.specs.{Working.Trees.expression_of, Limits.most_positions, Holds.Matches};
+ghost use Rattle.re_trees.specs.Holds.{positions};
+ghost use Rattle.re_auto.specs.{declared.build.BuildFault.TheVariants.Memory, Searches.FindsPart};
+ghost use Rattle.re_auto.specs.Working.{Tables.IsRefused, StateSets.IsMadeFor};
+ghost use Rattle.re_match.specs.Working.CachedMatchers.{no_cache, SameCached, AnswersLine};
+ghost use Rattle.re_match.specs.Working.Sweeps.{LooksOver, StopsAt, CountsSweep};
+ghost use Rattle.re_match.specs.Working.{Prefilters.IsSaidAtOnce, Aheads.AreEdgesFor};
+ghost use Rattle.re_match.specs.Working.Aheads.{CountsAhead, IsAhead, IsSaid, IsWindowOf, past};
 ghost use Rattle.re_meter.specs.Meters.{AddsAtMost, AddsJust, many_built};
-ghost use Rattle.re_steps.specs.Working.Simulations.{AreSetsFor};
-ghost use Rattle.re_steps.specs.Working.Stages.{Cache, Searches, FinishesFrom, IsReadied, mode_for};
+ghost use Rattle.re_steps.specs.Working.{Simulations.AreSetsFor, Walks.{IsAt, IsReported}};
+ghost use Rattle.re_steps.specs.Working.Stages.{Searches, IsReadied, FinishesFrom, mode_for, Cache};
+ghost use Rattle.re_steps.specs.Working.{Stages.Stage, Rows.{Lasts, IsKnownFor, IsReady, IsRow}};
 ghost use Rattle.re_ends.specs.Working.GreatestEnds.{AddsEnds, FoundPast, FindsIn, IsBorder};
 ghost use Rattle.re_ends.specs.Working.EndTables.{AreEndsFor};
-ghost use Rattle.re_match.specs.Working.Aheads.{AreEdgesFor, CountsAhead, IsAhead, IsSaid, IsWindowOf, past};
-ghost use Rattle.re_match.specs.Working.CachedMatchers.{AnswersLine, SameCached, no_cache};
-ghost use Rattle.re_match.specs.Working.Sweeps.{CountsSweep, LooksOver, StopsAt};
-ghost use Rattle.re_runs.specs.Working.Blocks.{IsBlock, PassesUnmatched};
-ghost use Rattle.re_steps.specs.Working.Rows.{IsKnownFor, IsReady, IsRow, Lasts};
-ghost use Rattle.re_steps.specs.Working.Stages.{Stage};
-ghost use Rattle.re_steps.specs.Working.Walks.{IsAt, IsReported};
+ghost use Rattle.re_runs.specs.Working.Blocks.{PassesUnmatched, IsBlock};
 
 use crate::ahead::Ahead;
 use crate::line_match::LineMatch;

@@ -1,15 +1,11 @@
-ghost use Rattle.std.specs.Prelude.{◌≡◌, Bool, ℕ, ◌+◌, ◌-◌, ◌<◌, ◌≤◌, ◌↔◌, [], ◌∷◌, IsTrue, IfSome, false};
-ghost use Rattle.std.specs.Prelude.{length, vec_capacity};
-ghost use Rattle.re_trees.specs.Expression.{Expression};
-ghost use Rattle.re_trees.specs.Holds.{Matches};
-ghost use Rattle.re_trees.specs.Lines.{lines_of};
-ghost use Rattle.re_auto.specs.Searches.{FindsPart, AddsAtMost};
-ghost use Rattle.re_meter.specs.Meters.{AddsJust};
-ghost use Rattle.re_runs.specs.Working.Blocks.{IsBlock, CountsMatched};
-ghost use Rattle.re_runs.specs.Working.Blocks.{FindsMatched, next_cost};
+ghost use Rattle.std.specs.Prelude.{◌≡◌, Bool, ℕ, ◌+◌, ◌-◌, ◌<◌, ◌≤◌, ◌↔◌, [], ◌∷◌, IsTrue, IfSome};
+ghost use Rattle.std.specs.Prelude.{false, length, vec_capacity};
+ghost use Rattle.re_trees.specs.{Holds.Matches, Lines.lines_of, Expression.Expression};
+ghost use Rattle.{re_auto.specs.Searches.{FindsPart, AddsAtMost}, re_meter.specs.Meters.AddsJust};
+ghost use Rattle.re_runs.specs.Working.Blocks.{next_cost, FindsMatched, IsBlock, CountsMatched};
 ghost use Rattle.re_ends.specs.Working.GreatestEnds.{AddsEnds, FoundPast};
+ghost use Rattle.re_match.specs.Working.Aheads.{IsAhead, IsWindowOf, CountsAhead};
 ghost use Rattle.re_match.specs.Working.Same.{SameMatcher};
-ghost use Rattle.re_match.specs.Working.Aheads.{CountsAhead, IsAhead, IsWindowOf};
 
 use crate::ahead::Ahead;
 use re_auto::Meter;

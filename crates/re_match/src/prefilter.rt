@@ -1,20 +1,16 @@
 //! What is known of lines, parts and blocks by what each match contains.
-ghost use Rattle.std.specs.Prelude.{◌≡◌, ℕ, ◌+◌, ◌-◌, ◌<◌, ◌≤◌, ◌⊎◌, Bool, false, IfOk, IfSome, IsTrue, Some};
-ghost use Rattle.std.specs.Prelude.{All, [], ◌∷◌, ◌++◌, drop, length, map, slice_range};
-ghost use Rattle.re_trees.specs.Expression.{Expression};
-ghost use Rattle.re_trees.specs.Working.Trees.{expression_of};
-ghost use Rattle.re_trees.specs.Bytes.{Text};
-ghost use Rattle.re_trees.specs.Lines.{HasNoNewline, lines_of, newline};
+ghost use Rattle.std.specs.Prelude.{IsTrue, ◌<◌, ◌≡◌, Some, map, ◌+◌, [], ℕ, All, ◌-◌, false, ◌≤◌};
+ghost use Rattle.std.specs.Prelude.{IfSome, ◌++◌, drop, length, slice_range, ◌⊎◌, Bool, IfOk, ◌∷◌};
+ghost use Rattle.re_trees.specs.{Expression.Expression, Working.Trees.expression_of, Bytes.Text};
+ghost use Rattle.re_trees.specs.Lines.{newline, HasNoNewline, lines_of};
 ghost use Rattle.re_meter.specs.Meters.{AddsJust, AddsUpTo, Steps};
 ghost use Rattle.re_needle.specs.Working.Needles.{IsNeeded, IsNeedleOf};
-ghost use Rattle.re_runs.specs.Working.Finders.{runs_of};
+ghost use Rattle.re_runs.specs.Working.{Blocks.{PassesUnmatched, IsBlock}, Finders.runs_of};
 ghost use Rattle.re_runs.specs.Working.Runs.{FindsRun, IsLongestRun};
-ghost use Rattle.re_match.specs.Working.Sweeps.{StopsAt, LooksOver};
-ghost use Rattle.re_match.specs.Working.Aheads.{AreEdgesFor, IsSaid, PassesAtLeast};
-ghost use Rattle.re_match.specs.declared.ahead.Ahead.TheVariants.{In};
 ghost use Rattle.re_match.specs.Working.Prefilters.{AreNeeded, IsPrefilterFor, IsSaidAtOnce};
-ghost use Rattle.re_match.specs.Working.Prefilters.{NeedsOneOf};
-ghost use Rattle.re_runs.specs.Working.Blocks.{IsBlock, PassesUnmatched};
+ghost use Rattle.re_match.specs.Working.{Prefilters.NeedsOneOf, Sweeps.{LooksOver, StopsAt}};
+ghost use Rattle.re_match.specs.Working.Aheads.{PassesAtLeast, AreEdgesFor, IsSaid};
+ghost use Rattle.re_match.specs.declared.ahead.Ahead.TheVariants.{In};
 
 use crate::ahead::Ahead;
 use crate::scan_backoff::ScanBackoff;

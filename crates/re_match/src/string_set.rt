@@ -1,18 +1,13 @@
 //! Many fixed strings that are looked for at once.
-ghost use Rattle.std.specs.Prelude.{◌≡◌, ℕ, ◌+◌, ◌^◌, ◌<◌, ◌≤◌, ◌↔◌, [], ◌∷◌, true, false, IsTrue, IfOk};
-ghost use Rattle.std.specs.Prelude.{◌++◌, Bool, IfSome, length, map, slice_range};
-ghost use Rattle.re_strings.specs.Working.Branches.{AreAscending, HaveSame};
+ghost use Rattle.std.specs.Prelude.{ℕ, length, ◌<◌, [], IfOk, true, ◌++◌, false, ◌^◌, ◌+◌, ◌≡◌};
+ghost use Rattle.std.specs.Prelude.{◌↔◌, Bool, IsTrue, map, slice_range, ◌≤◌, ◌∷◌, IfSome};
+ghost use Rattle.re_strings.specs.Working.{Keys.keys, Branches.{AreAscending, HaveSame}};
 ghost use Rattle.re_strings.specs.Working.FixedSets.{IsString};
-ghost use Rattle.re_trees.specs.Holds.{Matches};
-ghost use Rattle.re_trees.specs.Lines.{lines_of, newline};
-ghost use Rattle.re_meter.specs.Meters.{AddsUpTo};
+ghost use Rattle.re_trees.specs.{Expression.Expression, Lines.{lines_of, newline}, Parts.IsFound};
+ghost use Rattle.{re_trees.specs.Holds.Matches, re_meter.specs.Meters.AddsUpTo};
 ghost use Rattle.re_match.specs.Working.Literals.{any_literal, LooksForAny, ReachesPart};
-ghost use Rattle.re_match.specs.Working.Sweeps.{StopsAt};
-ghost use Rattle.re_trees.specs.Expression.{Expression};
-ghost use Rattle.re_strings.specs.Working.Keys.{keys};
-ghost use Rattle.re_auto.specs.Searches.{FindsPart};
+ghost use Rattle.{re_match.specs.Working.Sweeps.StopsAt, re_auto.specs.Searches.FindsPart};
 ghost use Rattle.re_runs.specs.Working.Blocks.{IsBlock, IsLineFrom, PassesUnmatched};
-ghost use Rattle.re_trees.specs.Parts.{IsFound};
 ghost use Rattle.re_ends.specs.Working.GreatestEnds.{AddsEnds};
 
 use crate::sweeps::{Stop, Sweep};

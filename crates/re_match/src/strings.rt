@@ -1,24 +1,18 @@
 //! Search for fixed strings (XCU grep, option `-F`).
-ghost use Rattle.std.specs.Prelude.{◌≡◌, ℕ, ◌+◌, ◌-◌, ◌<◌, ◌≤◌, ◌↔◌, [], ◌∷◌, false, true, IsTrue, IfOk};
-ghost use Rattle.std.specs.Prelude.{IfSome, Bool, ◌⊎◌, ◌^◌, length, map, vec_capacity};
-ghost use Rattle.re_trees.specs.Bytes.{Text};
-ghost use Rattle.re_trees.specs.Expression.{byte, sequence};
-ghost use Rattle.re_trees.specs.Holds.{Matches};
-ghost use Rattle.re_trees.specs.Lines.{lines_of};
-ghost use Rattle.re_meter.specs.Meters.{AddsAtMost, AddsJust, AddsUpTo, many_built, many_passed};
-ghost use Rattle.re_runs.specs.Working.Blocks.{IsBlock, PassesUnmatched, CountsMatched};
-ghost use Rattle.re_runs.specs.Working.Blocks.{FindsMatched, next_cost};
-ghost use Rattle.re_match.specs.declared.strings.Look.TheVariants.{One};
-ghost use Rattle.re_match.specs.Working.Strings.{look_expression, matched_strings, IsPartOfLines};
-ghost use Rattle.re_match.specs.Working.Strings.{IsForSet, IsOnLines, LooksFor, CountsLook};
-ghost use Rattle.re_match.specs.Working.Strings.{LooksForPart, CountsPart, part_cost};
-ghost use Rattle.re_match.specs.Working.Literals.{any_literal};
-ghost use Rattle.re_match.specs.Working.Aheads.{CountsAhead, IsAhead, IsWindowOf};
-ghost use Rattle.re_match.specs.Working.Same.{SameMatcher};
-ghost use Rattle.re_match.specs.Working.Sweeps.{StopsAt};
-ghost use Rattle.re_auto.specs.Searches.{FindsPart};
-ghost use Rattle.re_trees.specs.Parts.{IsFound};
-ghost use Rattle.re_ends.specs.Working.GreatestEnds.{AddsEnds, FoundPast};
+ghost use Rattle.std.specs.Prelude.{IfSome, ◌≤◌, [], IfOk, ◌≡◌, length, ◌↔◌, false, IsTrue, ℕ, ◌-◌};
+ghost use Rattle.std.specs.Prelude.{◌+◌, ◌<◌, Bool, map, ◌⊎◌, vec_capacity, true, ◌∷◌, ◌^◌};
+ghost use Rattle.re_trees.specs.{Holds.Matches, Parts.IsFound, Lines.lines_of, Expression.byte};
+ghost use Rattle.re_trees.specs.{Expression.sequence, Bytes.Text};
+ghost use Rattle.re_meter.specs.Meters.{AddsAtMost, AddsUpTo, many_passed, AddsJust, many_built};
+ghost use Rattle.re_runs.specs.Working.Blocks.{CountsMatched, next_cost, FindsMatched, IsBlock};
+ghost use Rattle.re_runs.specs.Working.Blocks.{PassesUnmatched};
+ghost use Rattle.re_match.specs.{declared.strings.Look.TheVariants.One, Working.Same.SameMatcher};
+ghost use Rattle.re_match.specs.Working.Strings.{IsForSet, part_cost, look_expression, IsOnLines};
+ghost use Rattle.re_match.specs.Working.Strings.{IsPartOfLines, LooksFor, CountsLook};
+ghost use Rattle.re_match.specs.Working.Strings.{matched_strings, LooksForPart, CountsPart};
+ghost use Rattle.re_match.specs.Working.{Aheads.{CountsAhead, IsAhead, IsWindowOf}, Sweeps.StopsAt};
+ghost use Rattle.{re_match.specs.Working.Literals.any_literal, re_auto.specs.Searches.FindsPart};
+ghost use Rattle.re_ends.specs.Working.GreatestEnds.{FoundPast, AddsEnds};
 
 use crate::ahead::Ahead;
 use crate::line_match::LineMatch;

@@ -1,15 +1,12 @@
 //! Matchers that pass lines of a block in one sweep, as far as it is known without a search that
 //! they are not matched.
-ghost use Rattle.std.specs.Prelude.{Bool, ℕ, ◌≡◌, ◌+◌, ◌<◌, ◌≤◌, ◌↔◌, IsTrue, IfSome, length};
-ghost use Rattle.re_trees.specs.Expression.{Expression};
-ghost use Rattle.re_trees.specs.Holds.{Matches};
-ghost use Rattle.re_trees.specs.Lines.{lines_of};
+ghost use Rattle.std.specs.Prelude.{◌≤◌, ◌≡◌, IsTrue, ◌+◌, ◌↔◌, ℕ, ◌<◌, length, IfSome, Bool};
+ghost use Rattle.re_trees.specs.{Expression.Expression, Holds.Matches, Lines.lines_of};
 ghost use Rattle.re_meter.specs.Meters.{AddsAtMost, AddsUpTo};
 ghost use Rattle.re_match.specs.declared.sweeps.Stop.TheVariants.{Decided};
+ghost use Rattle.re_match.specs.Working.Sweeps.{CountsSweep, left_for, steps_left, StopsAt};
 ghost use Rattle.re_match.specs.Working.Same.{SameMatcher};
-ghost use Rattle.re_match.specs.Working.Sweeps.{CountsSweep, StopsAt, left_for, steps_left};
-ghost use Rattle.re_runs.specs.Working.Blocks.{IsBlock, PassesUnmatched};
-ghost use Rattle.re_runs.specs.Working.Blocks.{FindsMatched, next_cost};
+ghost use Rattle.re_runs.specs.Working.Blocks.{FindsMatched, next_cost, PassesUnmatched, IsBlock};
 
 use re_auto::Meter;
 use re_runs::line_end;

@@ -1,9 +1,7 @@
 //! The stretch of a line in which the next match is, by the bytes that matches have.
 ghost use Rattle.std.specs.Prelude.{◌≡◌, ◌+◌, ◌-◌, ◌<◌, ◌≤◌, IfSome, IfNone, length, slice_index};
-ghost use Rattle.re_trees.specs.Expression.{Expression};
-ghost use Rattle.re_trees.specs.Working.Trees.{expression_of};
-ghost use Rattle.re_meter.specs.Meters.{AddsUpTo};
-ghost use Rattle.re_auto.specs.Working.Beginnings.{IsMarked};
+ghost use Rattle.re_trees.specs.{Expression.Expression, Working.Trees.expression_of};
+ghost use Rattle.{re_meter.specs.Meters.AddsUpTo, re_auto.specs.Working.Beginnings.IsMarked};
 ghost use Rattle.re_ends.specs.Working.GreatestEnds.{IsBorder};
 ghost use Rattle.re_match.specs.Working.Aheads.{AreEdgesFor, IsSaid, past};
 

@@ -1,6 +1,5 @@
 -- A line is added to the last chunk, or as a chunk of its own.
-use Rattle.line_chunks.proofs.Prelude.{◌≡◌, ℕ, zero, suc, ◌+◌, ◌-◌, ◌<◌, Bool, true, false, if◌then◌else◌, IfOk, OnErr, Result, Ok, Err, List, [], ◌∷◌, ◌++◌, length, set, get_or, ap, sym, ◌∙◌, refl, arith, append_assoc, append-nil, length-append, ◌≤◌, All-cons, All-head, All-nil, All-push, All-tail, Text, KeptLine, AreFilled, all_of, has_room, with_line, chunks_of, Entry}
-use Rattle.line_chunks.proofs.lemmas.Sums.{chunk_at}
+use Rattle.line_chunks.proofs.{Prelude.{◌≡◌, ℕ, zero, suc, ◌+◌, ◌-◌, ◌<◌, Bool, true, false, if◌then◌else◌, IfOk, OnErr, Result, Ok, Err, List, [], ◌∷◌, ◌++◌, length, set, get_or, ap, sym, ◌∙◌, refl, arith, append_assoc, append-nil, length-append, ◌≤◌, All-cons, All-head, All-nil, All-push, All-tail, Text, KeptLine, AreFilled, all_of, has_room, with_line, chunks_of, Entry}, lemmas.Sums.chunk_at}
 
 -- the lines are those that were there, and the new one
 pub joined_with : (limit : ℕ) (cs : List (List KeptLine)) (line : KeptLine) → all_of (with_line limit cs line) ≡ all_of cs ++ line ∷ []

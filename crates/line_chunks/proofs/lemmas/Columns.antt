@@ -1,6 +1,5 @@
 -- What is found in the lines of all chunks, put or changed chunk by chunk.
-use Rattle.line_chunks.proofs.Prelude.{◌≡◌, ℕ, suc, zero, ◌+◌, ◌<◌, ◌≤◌, List, [], ◌∷◌, ◌++◌, length, map, take, drop, set, get_or, refl, ap, sym, arith, add-one, length-append, length-map, All-from_get_or, All-get_or, set-get_or, Option, Some, None, FoundIn, KeptLine, AreFilled, line_text, all_of, with_column, with_columns, FitColumns, next_column, FitsNext, chunks_of, Entry}
-use Rattle.line_chunks.proofs.lemmas.{SeenLaws.length-seen, Sums.chunks_of-set, Sums.chunk_at}
+use Rattle.line_chunks.proofs.{Prelude.{◌≡◌, ℕ, suc, zero, ◌+◌, ◌<◌, ◌≤◌, List, [], ◌∷◌, ◌++◌, length, map, take, drop, set, get_or, refl, ap, sym, arith, add-one, length-append, length-map, All-from_get_or, All-get_or, set-get_or, Option, Some, None, FoundIn, KeptLine, AreFilled, line_text, all_of, with_column, with_columns, FitColumns, next_column, FitsNext, chunks_of, Entry}, lemmas.{SeenLaws.length-seen, Sums.{chunks_of-set, chunk_at}}}
 
 -- nothing is put
 pub columns_none : (cs : List (List KeptLine)) → with_columns cs [] ≡ cs

@@ -1,7 +1,5 @@
 -- Entries that are changed, removed or put in the place of others.
-use Rattle.line_chunks.proofs.Prelude.{◌≡◌, ℕ, suc, ◌+◌, ◌-◌, ◌^◌, ◌<◌, ◌≤◌, List, [], ◌∷◌, ◌++◌, length, take, drop, set, get_or, ap, sym, ◌∙◌, arith, length-append, add-one, inl, inr, take_all, length-take, length-drop, map-append, set-get_or, length-set, take-append-le, take-take, take-append-drop, take-set-le, take_at, drop_at, drop_more, drop-set-lt, drop-append-add, All-append, All-cons, All-drop, All-nil, All-take, drop-map, drop_all, cases_lt, IfOk, OnErr, remove_range, Result, Ok, Err, Text, KeptLine, AreFilled, all_of, new_line, matched_count, IsPlace, chunks_of, AreSummed, IsSummedTo, Entry}
-use Rattle.line_chunks.proofs.lemmas.Joins.{joined_more, size_suc, all_taken, put_in}
-use Rattle.line_chunks.proofs.lemmas.Sums.{chunks_of-set, chunks_of-take, length-chunks_of, chunk_at, summed_all, summed_set, summed_take, end_suc, hits_suc, matched-append, summed_push}
+use Rattle.line_chunks.proofs.{Prelude.{◌≡◌, ℕ, suc, ◌+◌, ◌-◌, ◌^◌, ◌<◌, ◌≤◌, List, [], ◌∷◌, ◌++◌, length, take, drop, set, get_or, ap, sym, ◌∙◌, arith, length-append, add-one, inl, inr, take_all, length-take, length-drop, map-append, set-get_or, length-set, take-append-le, take-take, take-append-drop, take-set-le, take_at, drop_at, drop_more, drop-set-lt, drop-append-add, All-append, All-cons, All-drop, All-nil, All-take, drop-map, drop_all, cases_lt, IfOk, OnErr, remove_range, Result, Ok, Err, Text, KeptLine, AreFilled, all_of, new_line, matched_count, IsPlace, chunks_of, AreSummed, IsSummedTo, Entry}, lemmas.{Joins.{joined_more, size_suc, all_taken, put_in}, Sums.{chunks_of-set, chunks_of-take, length-chunks_of, chunk_at, summed_all, summed_set, summed_take, end_suc, hits_suc, matched-append, summed_push}}}
 
 -- ---- what an entry says of the lines up to its chunk
 

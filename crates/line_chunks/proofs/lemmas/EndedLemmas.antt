@@ -1,7 +1,5 @@
 -- Lines with their newlines, and what is found in them.
-use Rattle.line_chunks.proofs.Prelude.{◌≡◌, ℕ, ◌+◌, ◌<◌, ◌≤◌, List, [], ◌∷◌, ◌++◌, All, length, map, take, drop, get_or, refl, ap, arith, length-append, append_assoc, take_at, take-append-le, take_all, drop_all, append-nil, take-map, drop-map, map-append, All-head, All-map, All-tail, All-take, All-drop, All-append, Text, newline, terminated, HasNoNewline, FoundIn, KeptLine, line_text, seen, all_items, bare, IsEnded}
-use Rattle.line_finds.proofs.lemmas.PieceLemmas.{drop-items, begins_in_order, one_longer}
-use Rattle.line_chunks.proofs.lemmas.SeenLaws.{texts_are}
+use Rattle.{line_chunks.proofs.{Prelude.{◌≡◌, ℕ, ◌+◌, ◌<◌, ◌≤◌, List, [], ◌∷◌, ◌++◌, All, length, map, take, drop, get_or, refl, ap, arith, length-append, append_assoc, take_at, take-append-le, take_all, drop_all, append-nil, take-map, drop-map, map-append, All-head, All-map, All-tail, All-take, All-drop, All-append, Text, newline, terminated, HasNoNewline, FoundIn, KeptLine, line_text, seen, all_items, bare, IsEnded}, lemmas.SeenLaws.texts_are}, line_finds.proofs.lemmas.PieceLemmas.{drop-items, begins_in_order, one_longer}}
 
 pub bare_line : (line : Text) → bare (line ++ newline ∷ []) ≡ line
 bare_line line = take_at line (newline ∷ []) _ (omega (arith, length-append line (newline ∷ [])))

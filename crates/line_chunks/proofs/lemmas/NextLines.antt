@@ -1,7 +1,5 @@
 -- The first line from a place on that some pattern matches, or that none does.
-use Rattle.line_chunks.proofs.Prelude.{◌≡◌, ℕ, suc, zero, ◌+◌, ◌-◌, ◌<◌, ◌≤◌, Bool, true, false, not, List, [], ◌∷◌, length, get_or, refl, ap, arith, inl, inr, beq, if◌then◌else◌, KeptLine, no_line, is_matched, matched_count, all_of, IsPlace, chunks_of, Entry, get_or_past, cases_lt}
-use Rattle.line_chunks.proofs.lemmas.Joins.{line_of, size_at, begins_within, all_taken}
-use Rattle.line_chunks.proofs.lemmas.Sums.{matched_few, chunk_at, length-chunks_of}
+use Rattle.line_chunks.proofs.{Prelude.{◌≡◌, ℕ, suc, zero, ◌+◌, ◌-◌, ◌<◌, ◌≤◌, Bool, true, false, not, List, [], ◌∷◌, length, get_or, refl, ap, arith, inl, inr, beq, if◌then◌else◌, KeptLine, no_line, is_matched, matched_count, all_of, IsPlace, chunks_of, Entry, get_or_past, cases_lt}, lemmas.{Joins.{line_of, size_at, begins_within, all_taken}, Sums.{matched_few, chunk_at, length-chunks_of}}}
 
 -- ---- a chunk's count says of each of its lines what they all are
 

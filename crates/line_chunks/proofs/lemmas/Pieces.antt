@@ -1,9 +1,5 @@
 -- Chunks that take more lines.
-use Rattle.line_chunks.proofs.Prelude.{◌≡◌, ℕ, ◌+◌, ◌-◌, ◌<◌, ◌≤◌, List, [], ◌∷◌, ◌++◌, length, take, drop, set, get_or, get_or_append_left, get_or-set_other, length-set, cases_lt, inl, inr, ap, sym, ◌∙◌, arith, append_assoc, append-nil, length-append, take_more, take_all, map-append, All-get_or, All-nil, All-push, All-set, IfOk, Result, Ok, Err, KeptLine, AreFilled, AreFull, IsLastFull, all_of, AddsLines, chunks_of, Entry}
-use Rattle.std.specs.Prelude.{◌*◌, ◌/◌}
-use Rattle.std.proofs.Math.Nat.{div-mul-le_self, lt-mul-div-succ, mul-le-mul_left, mul-le-mul_right}
-use Rattle.line_chunks.proofs.lemmas.Joins.{joined_push, joined_set_last, range_joined}
-use Rattle.line_chunks.proofs.lemmas.Sums.{chunks_of-set, length-chunks_of, chunk_at}
+use Rattle.{line_chunks.proofs.{Prelude.{◌≡◌, ℕ, ◌+◌, ◌-◌, ◌<◌, ◌≤◌, List, [], ◌∷◌, ◌++◌, length, take, drop, set, get_or, get_or_append_left, get_or-set_other, length-set, cases_lt, inl, inr, ap, sym, ◌∙◌, arith, append_assoc, append-nil, length-append, take_more, take_all, map-append, All-get_or, All-nil, All-push, All-set, IfOk, Result, Ok, Err, KeptLine, AreFilled, AreFull, IsLastFull, all_of, AddsLines, chunks_of, Entry}, lemmas.{Joins.{joined_push, joined_set_last, range_joined}, Sums.{chunks_of-set, length-chunks_of, chunk_at}}}, std.{specs.Prelude.{◌*◌, ◌/◌}, proofs.Math.Nat.{div-mul-le_self, lt-mul-div-succ, mul-le-mul_left, mul-le-mul_right}}}
 
 pub lines_push : (es : List Entry) (e : Entry) → all_of (chunks_of (es ++ e ∷ [])) ≡ all_of (chunks_of es) ++ e.chunk
 lines_push es e = cc (map-append (λ (one : Entry). one.chunk) es (e ∷ []), joined_push (chunks_of es) e.chunk)

@@ -1,6 +1,5 @@
 -- The sums of entries: what each says, and where they stay right.
-use Rattle.line_chunks.proofs.Prelude.{◌≡◌, ◌≢◌, ℕ, suc, zero, ◌+◌, ◌-◌, ◌^◌, ◌<◌, ◌≤◌, List, [], ◌∷◌, ◌++◌, length, take, set, get_or, ap, sym, ◌∙◌, arith, length-append, length-set, take_more_set, take_more, take_all, length-map, map-set, take-map, get_or-map, length-take, map-set_same, KeptLine, no_line, all_of, matched_count, is_matched, IsPlace, Bool, if◌then◌else◌, chunks_of, AreSummed, IsSummedTo, Entry}
-use Rattle.line_chunks.proofs.lemmas.Joins.{begins_within, begins_in_order, line_of, size_at, take_seam}
+use Rattle.line_chunks.proofs.{Prelude.{◌≡◌, ◌≢◌, ℕ, suc, zero, ◌+◌, ◌-◌, ◌^◌, ◌<◌, ◌≤◌, List, [], ◌∷◌, ◌++◌, length, take, set, get_or, ap, sym, ◌∙◌, arith, length-append, length-set, take_more_set, take_more, take_all, length-map, map-set, take-map, get_or-map, length-take, map-set_same, KeptLine, no_line, all_of, matched_count, is_matched, IsPlace, Bool, if◌then◌else◌, chunks_of, AreSummed, IsSummedTo, Entry}, lemmas.Joins.{begins_within, begins_in_order, line_of, size_at, take_seam}}
 
 -- ---- matched lines
 

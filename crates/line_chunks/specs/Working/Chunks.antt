@@ -1,8 +1,9 @@
 -- Lines with what was found in each, in chunks.
-use Rattle.std.specs.Prelude.{◌≡◌, ℕ, suc, ◌+◌, ◌*◌, ◌==◌, Bool, ◌<◌, ◌≤◌, not, List, [], ◌∷◌, ◌++◌, All, length, map, take, drop, get_or, if◌then◌else◌, nat_lt, Option, Some, None, IfSome, ⊤}
-use Rattle.re_trees.specs.Bytes.{Text}
-use Rattle.re_trees.specs.Lines.{terminated}
-use Rattle.line_finds.specs.Working.Finds.{Finds, no_finds, FoundIn, finds_at, without}
+use Rattle.std.specs.Prelude.{◌≡◌, ℕ, suc, ◌+◌, ◌*◌, ◌==◌, Bool, ◌<◌, ◌≤◌, not, List, [], ◌∷◌, ◌++◌}
+use Rattle.std.specs.Prelude.{All, length, map, take, drop, get_or, if◌then◌else◌, nat_lt, Option}
+use Rattle.std.specs.Prelude.{Some, None, IfSome, ⊤}
+use Rattle.{re_trees.specs.{Bytes.Text, Lines.terminated}, line_finds.specs.Working.Finds.Finds}
+use Rattle.line_finds.specs.Working.Finds.{no_finds, FoundIn, finds_at, without}
 
 -- a line, and what was found in it
 pub record KeptLine : Type 0 where

@@ -1,7 +1,7 @@
 -- What is put in place of what was found in a chunk: the next of a list.
 use Rattle.std.specs.Prelude.{List, [], ◌∷◌, Option, ⊤}
-use Rattle.line_finds.specs.Working.Finds.{FoundIn}
-use Rattle.line_chunks.specs.Working.Chunks.{KeptLine, with_column, FitsColumn}
+use Rattle.{line_finds.specs.Working.Finds.FoundIn, line_chunks.specs.Working.Chunks.KeptLine}
+use Rattle.line_chunks.specs.Working.Chunks.{with_column, FitsColumn}
 
 -- the chunk with the first of these
 abbrev pub next_column : List KeptLine → List (Option FoundIn) → List KeptLine

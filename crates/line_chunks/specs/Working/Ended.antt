@@ -1,6 +1,6 @@
 -- Lines with their newlines, as a chunk keeps them.
 use Rattle.std.specs.Prelude.{◌≡◌, ◌-◌, [], ◌∷◌, ◌++◌, length, take}
-use Rattle.re_trees.specs.{Bytes.Text, Lines.HasNoNewline, Lines.newline}
+use Rattle.re_trees.specs.{Bytes.Text, Lines.{HasNoNewline, newline}}
 
 -- the text without its last byte
 abbrev pub bare : Text → Text

@@ -1,9 +1,5 @@
 -- The work of a look over a line, and of steps after it.
-use Rattle.re_match.proofs.Prelude.{Bool, Option, ◌+◌, min, inl, inr, length, arith, AddsUpTo, Text, Expression, LooksOver}
-use Rattle.re_meter.specs.Meters.{Steps, AddsAtMost}
-use Rattle.re_meter.proofs.lemmas.Adding.{adds_none, adds_within, only_passed}
-use Rattle.re_match.proofs.lemmas.{StepSums.adds_on, NeededStrings.look_for_any}
-use Rattle.re_runs.{specs.Working.Runs.longest_of, proofs.lemmas.Looks.look_within}
+use Rattle.{re_match.proofs.{Prelude.{Bool, Option, ◌+◌, min, inl, inr, length, arith, AddsUpTo, Text, Expression, LooksOver}, lemmas.{StepSums.adds_on, NeededStrings.look_for_any}}, re_meter.{specs.Meters.{Steps, AddsAtMost}, proofs.lemmas.Adding.{adds_none, adds_within, only_passed}}, re_runs.{specs.Working.Runs.longest_of, proofs.lemmas.Looks.look_within}}
 
 module _ (e : Expression) (line : Text) where
   -- no byte is passed twice

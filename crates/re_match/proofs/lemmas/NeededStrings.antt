@@ -1,17 +1,5 @@
 -- Strings, one of which each match of an expression contains.
-use Rattle.re_match.proofs.Prelude.{◌≡◌, ℕ, ◌+◌, ◌<◌, ◌≤◌, inl, inr, Bool, true, false, List, [], ◌∷◌, ◌++◌, All, length, drop, get_or, refl, sym, ◌∙◌, arith, cases_lt, drop-drop, false≢true, IsTrue, ◌↔◌, Text, Expression, alt, Holds, Matches, expression_of, Literals, any_literal, keys, EndsFirst, AddsUpTo}
-use Rattle.std.specs.Prelude.{Any, Option, None, Some}
-use Rattle.std.proofs.lemmas.List.{get_or_default, Elements.All-head, Elements.All-tail}
-use Rattle.re_trees.specs.declared.tree.Tree.{Tree}
-use Rattle.re_meter.specs.Meters.{Steps}
-use Rattle.re_meter.proofs.lemmas.Adding.{adds_none, only_passed}
-use Rattle.re_needle.specs.Working.Needles.{IsNeeded, StandsBetween}
-use Rattle.re_needle.proofs.lemmas.NeedleLaws.{settled_says}
-use Rattle.re_runs.proofs.lemmas.Occurrences.{occurs-stands}
-use Rattle.re_strings.specs.Working.Reached.{end_cost}
-use Rattle.re_trees.proofs.lemmas.{Decisions.Any-first, SomeOfJoined.Any-left, SomeOfJoined.Any-right}
-use Rattle.re_match.specs.Working.{Literals.LooksForAny, Literals.keyed, Prefilters.AreNeeded, Prefilters.IsSaidAtOnce, Prefilters.NeedsOneOf}
-use Rattle.re_match.proofs.lemmas.{SetBlocks.ends_within, SetMatches.text_between, SetMatches.stands_choice}
+use Rattle.{re_match.{proofs.{Prelude.{◌≡◌, ℕ, ◌+◌, ◌<◌, ◌≤◌, inl, inr, Bool, true, false, List, [], ◌∷◌, ◌++◌, All, length, drop, get_or, refl, sym, ◌∙◌, arith, cases_lt, drop-drop, false≢true, IsTrue, ◌↔◌, Text, Expression, alt, Holds, Matches, expression_of, Literals, any_literal, keys, EndsFirst, AddsUpTo}, lemmas.{SetBlocks.ends_within, SetMatches.{text_between, stands_choice}}}, specs.Working.{Literals.{LooksForAny, keyed}, Prefilters.{AreNeeded, IsSaidAtOnce, NeedsOneOf}}}, std.{specs.Prelude.{Any, Option, None, Some}, proofs.lemmas.List.{get_or_default, Elements.{All-head, All-tail}}}, re_trees.{specs.declared.tree.Tree.Tree, proofs.lemmas.{Decisions.Any-first, SomeOfJoined.{Any-left, Any-right}}}, re_meter.{specs.Meters.Steps, proofs.lemmas.Adding.{adds_none, only_passed}}, re_needle.{specs.Working.Needles.{IsNeeded, StandsBetween}, proofs.lemmas.NeedleLaws.settled_says}, re_runs.proofs.lemmas.Occurrences.occurs-stands, re_strings.specs.Working.Reached.end_cost}
 
 -- one branch more has its string
 pub needed_more : (strings : List Text) (t : Text) (branches : List Tree) (place : ℕ) (b : Tree) → place < length branches → b ≡ get_or branches place b → IsNeeded t (expression_of b)

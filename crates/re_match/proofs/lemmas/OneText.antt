@@ -1,8 +1,5 @@
 -- What is matched of a line by one text, by where a search for the text finds it.
-use Rattle.re_match.proofs.Prelude.{◌≡◌, ℕ, ◌+◌, ◌-◌, ◌<◌, ◌≤◌, true, false, IsTrue, [], ◌∷◌, ◌++◌, length, map, drop, Option, None, Some, ◌↔◌, refl, sym, ap, ◌∙◌, arith, zero-add, length-append, length-drop, is_some, bytes_eq, Text, byte, sequence, Holds, Matches, IsFound, IsPart, OccursAt, FindsNeedle, false≢true, bytes_eq-Decides, dec_le, drop-length, drop-drop, append-nil}
-use Rattle.re_trees.proofs.lemmas.{Decisions.Any-first, SomeOfJoined.Any-single}
-use Rattle.re_trees.proofs.lemmas.FixedStrings.{stands-holds, holds-stands, stands-matches, matches-stands}
-use Rattle.re_runs.proofs.lemmas.Occurrences.{occurs-stands, stands-occurs}
+use Rattle.{re_match.proofs.Prelude.{◌≡◌, ℕ, ◌+◌, ◌-◌, ◌<◌, ◌≤◌, true, false, IsTrue, [], ◌∷◌, ◌++◌, length, map, drop, Option, None, Some, ◌↔◌, refl, sym, ap, ◌∙◌, arith, zero-add, length-append, length-drop, is_some, bytes_eq, Text, byte, sequence, Holds, Matches, IsFound, IsPart, OccursAt, FindsNeedle, false≢true, bytes_eq-Decides, dec_le, drop-length, drop-drop, append-nil}, re_trees.proofs.lemmas.{Decisions.Any-first, SomeOfJoined.Any-single, FixedStrings.{stands-holds, holds-stands, stands-matches, matches-stands}}, re_runs.proofs.lemmas.Occurrences.{occurs-stands, stands-occurs}}
 
 -- the place after a text at a place
 place_after : (line text : Text) (i j : ℕ) → i < j → j ≤ length line → drop i line ≡ text ++ drop j line → j ≡ i + length text

@@ -1,10 +1,6 @@
 -- The line of a block in which the first of many strings ends.
-use Rattle.re_match.proofs.Prelude.{◌≡◌, ℕ, ◌+◌, ◌-◌, ◌<◌, ◌≤◌, false, inl, inr, refl, All, Some, length, take, drop, get_or, slice_range, sym, ap, ◌∙◌, arith, length-drop, length-take, ⊤, Text, Matches, newline, terminated, HasNoNewline, IsLineFrom, PassesAll, IsString, Occurs, key, keys, EndsFirst, Literals, any_literal, eqb-true, get_or_append_left, get_or-drop, get_or-map, get_or-take, length-map}
+use Rattle.{re_match.{proofs.{Prelude.{◌≡◌, ℕ, ◌+◌, ◌-◌, ◌<◌, ◌≤◌, false, inl, inr, refl, All, Some, length, take, drop, get_or, slice_range, sym, ap, ◌∙◌, arith, length-drop, length-take, ⊤, Text, Matches, newline, terminated, HasNoNewline, IsLineFrom, PassesAll, IsString, Occurs, key, keys, EndsFirst, Literals, any_literal, eqb-true, get_or_append_left, get_or-drop, get_or-map, get_or-take, length-map}, lemmas.{StretchLaws.any_shift, SetMatches.stands_any}}, specs.Working.Literals.keyed}, re_runs.proofs.lemmas.{BlockLemmas.passed_within, CountedBlocks.more_follow, Looks.place_in_line, Ranges.length_range}, std.proofs.lemmas.Bool.cases_eq, re_strings.proofs.lemmas.KeyLaws.key_newline}
 use native.Mathlib.Omega.{by_contra}
-use Rattle.re_runs.proofs.lemmas.{BlockLemmas.passed_within, CountedBlocks.more_follow, Looks.place_in_line, Ranges.length_range}
-use Rattle.std.proofs.lemmas.Bool.{cases_eq}
-use Rattle.re_match.{specs.Working.Literals.keyed, proofs.lemmas.StretchLaws.any_shift, proofs.lemmas.SetMatches.stands_any}
-use Rattle.re_strings.proofs.lemmas.KeyLaws.{key_newline}
 
 -- ---- the line around a string
 

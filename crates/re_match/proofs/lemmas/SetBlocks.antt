@@ -1,8 +1,5 @@
 -- Lines of a block that have none of many strings.
-use Rattle.re_match.proofs.Prelude.{ℕ, Bool, true, false, length, get_or, arith, ◌≡◌, ◌+◌, ◌≤◌, List, [], ◌++◌, take, drop, Some, None, ap, ◌∙◌, length-append, Text, Expression, PassesUnmatched, IsBlock, PassesAll, ⊤, Matches, IsString, Occurs, EndsFirst, Literals, any_literal, key, keys, false≢true, length-map, map-append, take-append-le}
-use Rattle.std.proofs.Math.Seq.{drop-append-add, take-append-add}
-use Rattle.re_match.{specs.Working.Literals.keyed, proofs.lemmas.SetMatches.occurs_decides}
-use Rattle.re_runs.proofs.lemmas.BlockLemmas.{passes_free_block, passes_free_front}
+use Rattle.{re_match.{proofs.{Prelude.{ℕ, Bool, true, false, length, get_or, arith, ◌≡◌, ◌+◌, ◌≤◌, List, [], ◌++◌, take, drop, Some, None, ap, ◌∙◌, length-append, Text, Expression, PassesUnmatched, IsBlock, PassesAll, ⊤, Matches, IsString, Occurs, EndsFirst, Literals, any_literal, key, keys, false≢true, length-map, map-append, take-append-le}, lemmas.SetMatches.occurs_decides}, specs.Working.Literals.keyed}, std.proofs.Math.Seq.{drop-append-add, take-append-add}, re_runs.proofs.lemmas.BlockLemmas.{passes_free_block, passes_free_front}}
 
 -- ---- where a string ends
 

@@ -1,6 +1,5 @@
 -- Strings and lines as they are compared: what both cases of each letter have alike.
-use Rattle.re_match.proofs.Prelude.{◌≡◌, ◌↔◌, ℕ, zero, suc, inl, inr, Bool, true, false, List, [], ◌∷◌, map, slice_get, Some, refl, ap, ◌∙◌, option_map, Text, cat, alt, byte, sequence, Holds, folded, key, keys, literal_meaning, slice_get-map}
-use Rattle.re_strings.proofs.lemmas.KeyLaws.{closed_byte, keys_plain}
+use Rattle.{re_match.proofs.Prelude.{◌≡◌, ◌↔◌, ℕ, zero, suc, inl, inr, Bool, true, false, List, [], ◌∷◌, map, slice_get, Some, refl, ap, ◌∙◌, option_map, Text, cat, alt, byte, sequence, Holds, folded, key, keys, literal_meaning, slice_get-map}, re_strings.proofs.lemmas.KeyLaws.{closed_byte, keys_plain}}
 
 -- ---- where they hold
 

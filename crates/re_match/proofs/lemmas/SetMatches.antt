@@ -1,8 +1,5 @@
 -- What a choice of fixed strings matches: the lines that have one of them, as strings are compared.
-use Rattle.re_match.proofs.Prelude.{◌≡◌, ◌↔◌, ℕ, ◌+◌, ◌-◌, ◌<◌, ◌≤◌, inl, inr, Bool, true, false, IsTrue, List, [], ◌∷◌, ◌++◌, length, map, take, drop, Option, Some, None, refl, sym, ap, ◌∙◌, arith, length-append, length-drop, is_some, Text, alt, byte, sequence, Holds, Matches, IsFound, Span, IsString, Occurs, IsBestOccurrence, EndsFirst, Literals, any_literal, key, keys, FindsPart, drop-append-le, take-append-drop, length-take-le, length-map, drop_of_length-le, cases_lt, false≢true}
-use Rattle.re_trees.proofs.lemmas.{Decisions.Any-first, Decisions.Any-later, Decisions.Any-cases, Decisions.Any-none, FixedStrings.stands-holds, FixedStrings.holds-stands, HoldsDecided.Holds-le, SomeOfJoined.Any-single}
-use Rattle.re_strings.proofs.lemmas.{SetBranches.begins_take, SetSearch.all_read}
-use Rattle.re_match.{specs.Working.Literals.keyed, proofs.lemmas.SetFolded.choice_keys}
+use Rattle.{re_match.{proofs.{Prelude.{◌≡◌, ◌↔◌, ℕ, ◌+◌, ◌-◌, ◌<◌, ◌≤◌, inl, inr, Bool, true, false, IsTrue, List, [], ◌∷◌, ◌++◌, length, map, take, drop, Option, Some, None, refl, sym, ap, ◌∙◌, arith, length-append, length-drop, is_some, Text, alt, byte, sequence, Holds, Matches, IsFound, Span, IsString, Occurs, IsBestOccurrence, EndsFirst, Literals, any_literal, key, keys, FindsPart, drop-append-le, take-append-drop, length-take-le, length-map, drop_of_length-le, cases_lt, false≢true}, lemmas.SetFolded.choice_keys}, specs.Working.Literals.keyed}, re_trees.proofs.lemmas.{Decisions.{Any-first, Any-later, Any-cases, Any-none}, FixedStrings.{stands-holds, holds-stands}, HoldsDecided.Holds-le, SomeOfJoined.Any-single}, re_strings.proofs.lemmas.{SetBranches.begins_take, SetSearch.all_read}}
 
 -- the bytes between two places are what follows the first, up to what follows the second
 stretch : (line : Text) (i j : ℕ) → i ≤ j → j ≤ length line → drop i line ≡ drop i (take j line) ++ drop j line

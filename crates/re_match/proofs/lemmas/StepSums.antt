@@ -1,9 +1,5 @@
 -- Steps after steps.
-use Rattle.re_match.proofs.Prelude.{sym, subst, ◌≡◌, ℕ, ◌+◌, ◌-◌, ◌≤◌, arith, length, Text, AddsUpTo, many_passed}
-use Rattle.re_auto.specs.{Meters.Steps, Searches.AddsAtMost}
-use Rattle.re_meter.proofs.lemmas.Adding.{adds_both, adds_within, only_passed, built_adds, reused_adds}
-use Rattle.re_meter.specs.Meters.{AddsJust, many_built, many_reused}
-use Rattle.re_match.specs.{Working.Aheads.CountsAhead, Working.Aheads.PassesAtLeast, declared.ahead.Ahead.TheVariants.Nothing}
+use Rattle.{re_match.{proofs.Prelude.{sym, subst, ◌≡◌, ℕ, ◌+◌, ◌-◌, ◌≤◌, arith, length, Text, AddsUpTo, many_passed}, specs.{Working.Aheads.{CountsAhead, PassesAtLeast}, declared.ahead.Ahead.TheVariants.Nothing}}, re_auto.specs.{Meters.Steps, Searches.AddsAtMost}, re_meter.{proofs.lemmas.Adding.{adds_both, adds_within, only_passed, built_adds, reused_adds}, specs.Meters.{AddsJust, many_built, many_reused}}}
 
 -- steps and bytes after others
 pub adds_on : {first next first_bytes next_bytes most_steps most_bytes : ℕ} {old mid new : Steps} → AddsUpTo first first_bytes old mid → AddsUpTo next next_bytes mid new

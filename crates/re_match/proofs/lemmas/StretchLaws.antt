@@ -1,8 +1,5 @@
 -- Strings in a stretch of a line are those of the line.
-use Rattle.re_match.proofs.Prelude.{false, ◌≡◌, ◌∙◌, ◌↔◌, ℕ, ◌+◌, ◌-◌, ◌<◌, ◌≤◌, inl, inr, [], ◌∷◌, length, take, drop, slice_range, sym, ap, arith, length-drop, length-take-le, drop-drop, Text, Holds, Literals, any_literal, key, keys, Look, One, Many, look_expression}
-use Rattle.std.{proofs.Math.Seq.take-take, specs.List.take-map}
-use Rattle.std.proofs.lemmas.List.{drop-take, drop-map}
-use Rattle.re_match.proofs.lemmas.SetMatches.{any_stands, stands_any}
+use Rattle.{re_match.proofs.{Prelude.{false, ◌≡◌, ◌∙◌, ◌↔◌, ℕ, ◌+◌, ◌-◌, ◌<◌, ◌≤◌, inl, inr, [], ◌∷◌, length, take, drop, slice_range, sym, ap, arith, length-drop, length-take-le, drop-drop, Text, Holds, Literals, any_literal, key, keys, Look, One, Many, look_expression}, lemmas.SetMatches.{any_stands, stands_any}}, std.{proofs.{Math.Seq.take-take, lemmas.List.{drop-take, drop-map}}, specs.List.take-map}}
 
 -- the bytes between two places
 between : (line : Text) (a n i j : ℕ) → j ≤ n → drop i (take j (take n (drop a line))) ≡ drop (a + i) (take (a + j) line)

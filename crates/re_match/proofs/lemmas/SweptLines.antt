@@ -1,15 +1,6 @@
 -- What a look over a block says of the line in which it stopped.
-use Rattle.re_match.proofs.Prelude.{◌≡◌, ◌∙◌, ℕ, ◌+◌, ◌-◌, ◌<◌, ◌≤◌, ◌↔◌, ◌∷◌, inr, List, Bool, true, false, Some, length, take, drop, get_or, slice_range, slice_index, ap, refl, arith, length-take, length-drop, IsTrue, Text, Expression, Matches, newline, HasNoNewline, AddsUpTo, IsLineFrom, StopsInLine, PassesAll, PassesUnmatched, ⊤, IsJustRun, Runs, RunStandsAt, FindsRun, look_cost, Swept, Sweep, Stop, Unseen, Seen, Decided, StopsAt, left_for, steps_left, steps_to, false≢true}
+use Rattle.{re_match.{proofs.{Prelude.{◌≡◌, ◌∙◌, ℕ, ◌+◌, ◌-◌, ◌<◌, ◌≤◌, ◌↔◌, ◌∷◌, inr, List, Bool, true, false, Some, length, take, drop, get_or, slice_range, slice_index, ap, refl, arith, length-take, length-drop, IsTrue, Text, Expression, Matches, newline, HasNoNewline, AddsUpTo, IsLineFrom, StopsInLine, PassesAll, PassesUnmatched, ⊤, IsJustRun, Runs, RunStandsAt, FindsRun, look_cost, Swept, Sweep, Stop, Unseen, Seen, Decided, StopsAt, left_for, steps_left, steps_to, false≢true}, lemmas.StepSums.adds_on}, specs.Working.Sweeps.{CountsSweep, StopsIn, Says}}, re_trees.specs.Bytes.Bytes, re_runs.{specs.Working.Runs.{IsLongestRun, IsNoWider, RunIsAt}, proofs.lemmas.{BlockLemmas.passed_within, Looks.{look_within, place_in_line}, RunLaws.{run_before, run_whole}, Ranges.{at_range, drop_range, length_range, line_after, newline_at, range_after}}}, re_meter.{specs.Meters.{Steps, AddsAtMost}, proofs.lemmas.Adding.adds_both}, re_needle.{specs.Working.Needles.{HasNoBegin, RunBegins}, proofs.lemmas.{NeedleLaws.settled_says, LaterStarts.rest_matched}}}
 use native.Mathlib.Omega.{by_contra}
-use Rattle.re_trees.specs.Bytes.{Bytes}
-use Rattle.re_runs.specs.Working.Runs.{IsLongestRun, IsNoWider, RunIsAt}
-use Rattle.re_meter.{specs.Meters.Steps, specs.Meters.AddsAtMost, proofs.lemmas.Adding.adds_both}
-use Rattle.re_match.proofs.lemmas.StepSums.{adds_on}
-use Rattle.re_runs.proofs.lemmas.{BlockLemmas.passed_within, Looks.look_within, Looks.place_in_line, RunLaws.run_before, RunLaws.run_whole}
-use Rattle.re_match.specs.Working.Sweeps.{CountsSweep, StopsIn, Says}
-use Rattle.re_runs.proofs.lemmas.Ranges.{at_range, drop_range, length_range, line_after, newline_at, range_after}
-use Rattle.re_needle.specs.Working.Needles.{HasNoBegin, RunBegins}
-use Rattle.re_needle.proofs.lemmas.{NeedleLaws.settled_says, LaterStarts.rest_matched}
 
 -- what a look says of the line in which it stopped, after which no byte is passed
 pub stops_saying : (e : Expression) (whole : Bool) (block : Text) (start reached : ℕ) (stop : Stop) → ((n : ℕ) → left_for stop n ≡ 0) → reached ≤ length block

@@ -1,11 +1,5 @@
 -- Walks by kept steps over the lines of a block, and the line that is searched where one stops.
-use Rattle.re_match.proofs.Prelude.{◌≡◌, ℕ, ◌+◌, ◌-◌, ◌≤◌, inl, inr, Bool, false, length, slice_range, refl, arith, Text, Expression, Steps, IsLineFrom, Cache, Searches, cache_of, Decided, StopsAt}
-use Rattle.re_match.{proofs.lemmas.StepSums.adds_on, specs.Working.CachedMatchers.IsTableFor, specs.Working.Sweeps.CountsSweep, proofs.lemmas.SweptLines.stops_saying}
-use Rattle.re_runs.proofs.lemmas.Ranges.{joined_range, length_range, line_before, same_end}
-use Rattle.re_steps.specs.{declared.table.LineSearch.LineSearch, declared.table.StepTable.StepTable, declared.walk.Lines.Lines, Working.Stages.Stage, Working.Stages.Finishes, Working.Walks.GoesOverLines}
-use Rattle.re_auto.specs.declared.mode.Mode.TheVariants.{Search}
-use Rattle.re_steps.specs.Working.Rows.{IsRight, IsRightFor, ComesTo, expression_in, walked}
-use Rattle.re_steps.proofs.lemmas.{StageLaws.searches_say, StageLaws.searches_steps, WalkLaws.walked_on, WalkLaws.adds_walked}
+use Rattle.{re_match.{proofs.{Prelude.{◌≡◌, ℕ, ◌+◌, ◌-◌, ◌≤◌, inl, inr, Bool, false, length, slice_range, refl, arith, Text, Expression, Steps, IsLineFrom, Cache, Searches, cache_of, Decided, StopsAt}, lemmas.{StepSums.adds_on, SweptLines.stops_saying}}, specs.Working.{CachedMatchers.IsTableFor, Sweeps.CountsSweep}}, re_runs.proofs.lemmas.Ranges.{joined_range, length_range, line_before, same_end}, re_steps.{specs.{declared.{table.{LineSearch.LineSearch, StepTable.StepTable}, walk.Lines.Lines}, Working.{Stages.{Stage, Finishes}, Walks.GoesOverLines, Rows.{IsRight, IsRightFor, ComesTo, expression_in, walked}}}, proofs.lemmas.{StageLaws.{searches_say, searches_steps}, WalkLaws.{walked_on, adds_walked}}}, re_auto.specs.declared.mode.Mode.TheVariants.Search}
 
 -- a table with rows is right
 pub right_of : {e : Expression} {most : ℕ} (t : StepTable) → IsTableFor e false most t → (length t.marks.items ≡ 0 → ⊥) → IsRight e Search t

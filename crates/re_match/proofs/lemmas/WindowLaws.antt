@@ -1,13 +1,6 @@
 -- The stretch of a line in which the next match is.
-use Rattle.re_match.proofs.Prelude.{RunStandsAt, ◌≡◌, slice_index, slice_range, ℕ, ◌+◌, ◌-◌, ◌<◌, ◌≤◌, ◌↔◌, inl, inr, subst, false, None, IsTrue, List, Bool, [], ◌∷◌, length, drop, Some, arith, length-drop, length-take-le, cases_lt, dec_le, Text, Expression, Holds, IsFound, IsPart, Span, Needle, FindsRun, IsNeedleOf, runs_of, AddsEnds, FoundPast}
+use Rattle.{re_match.{proofs.Prelude.{RunStandsAt, ◌≡◌, slice_index, slice_range, ℕ, ◌+◌, ◌-◌, ◌<◌, ◌≤◌, ◌↔◌, inl, inr, subst, false, None, IsTrue, List, Bool, [], ◌∷◌, length, drop, Some, arith, length-drop, length-take-le, cases_lt, dec_le, Text, Expression, Holds, IsFound, IsPart, Span, Needle, FindsRun, IsNeedleOf, runs_of, AddsEnds, FoundPast}, specs.{declared.window.Edges.Edges, Working.Aheads.{AreEdgesFor, BeginsLater, past}}}, re_trees.proofs.lemmas.{Decisions.Any-first, SomeOfJoined.Any-single}, re_auto.{specs.Working.{Beginnings.IsMarked, Positions.part_of}, proofs.lemmas.PositionsDecide.each_byte_taken}, re_runs.proofs.lemmas.RunLaws.{run_rest, run_whole}, re_ends.{specs.Working.GreatestEnds.{IsBorder, FindsIn}, proofs.lemmas.FoundEnds.adds_alike}}
 use native.Mathlib.Omega.{by_contra}
-use Rattle.re_trees.proofs.lemmas.{Decisions.Any-first, SomeOfJoined.Any-single}
-use Rattle.re_auto.{specs.Working.Beginnings.IsMarked, specs.Working.Positions.part_of, proofs.lemmas.PositionsDecide.each_byte_taken}
-use Rattle.re_runs.proofs.lemmas.RunLaws.{run_rest, run_whole}
-use Rattle.re_ends.specs.Working.GreatestEnds.{IsBorder, FindsIn}
-use Rattle.re_ends.proofs.lemmas.FoundEnds.{adds_alike}
-use Rattle.re_match.specs.declared.window.Edges.{Edges}
-use Rattle.re_match.specs.Working.Aheads.{AreEdgesFor, BeginsLater, past}
 
 -- a stretch is found from each place up to its start
 pub from_place : (es : List Expression) (line : Text) (whole : Bool) (a b i j : ℕ) → b ≤ i → IsFound es line whole a i j → IsFound es line whole b i j

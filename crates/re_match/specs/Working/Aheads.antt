@@ -1,11 +1,11 @@
 -- What a matcher says of the next part of a line, and the steps that it takes to say so.
 use Rattle.std.specs.Prelude.{ℕ, ◌+◌, ◌-◌, ◌^◌, ◌≤◌, false, [], ◌∷◌, min, length}
-use Rattle.re_trees.specs.{Bytes.Text, Expression.Expression, Parts.IsFound, Parts.IsPart}
-use Rattle.re_auto.specs.{Working.Positions.part_of, Working.Tables.Marks}
-use Rattle.re_meter.specs.Meters.{Steps, AddsAtMost, AddsUpTo}
+use Rattle.re_trees.specs.{Expression.Expression, Parts.{IsPart, IsFound}, Bytes.Text}
+use Rattle.re_auto.specs.Working.{Tables.Marks, Positions.part_of}
+use Rattle.re_meter.specs.Meters.{AddsAtMost, Steps, AddsUpTo}
 use Rattle.re_ends.specs.{Working.GreatestEnds.IsBorder, declared.table.Window.Window}
-use Rattle.re_match.specs.declared.ahead.Ahead.TheVariants.{Part, In, Nothing}
-use Rattle.re_match.specs.{declared.window.Edges.Edges, declared.ahead.Ahead.Ahead}
+use Rattle.re_match.specs.declared.ahead.Ahead.{Ahead, TheVariants.{Part, In, Nothing}}
+use Rattle.re_match.specs.declared.window.Edges.{Edges}
 
 -- no match goes over the end of the stretch
 abbrev pub IsWindowOf : Expression → Text → Window → Type 0

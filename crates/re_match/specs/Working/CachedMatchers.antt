@@ -2,10 +2,9 @@
 use Rattle.std.specs.Prelude.{◌≡◌, ◌⊎◌, Bool, ℕ, Option, None, Some, []}
 use Rattle.re_trees.specs.{Bytes.Text, Expression.Expression, declared.tree.Tree.Tree}
 use Rattle.re_auto.specs.{Meters.Steps, Working.StateSets.IsMadeFor}
-use Rattle.re_steps.specs.Working.Stages.{Cache, Searches, mode_for}
-use Rattle.re_steps.specs.{Working.Rows.IsKnownFor, Working.Rows.cache_of}
+use Rattle.re_steps.specs.Working.{Stages.{Cache, Searches, mode_for}, Rows.{IsKnownFor, cache_of}}
 use Rattle.re_steps.specs.declared.table.StepTable.{StepTable}
-use Rattle.re_match.specs.{Working.Prefilters.IsSaidAtOnce, Working.Sweeps.LooksOver}
+use Rattle.re_match.specs.Working.{Prefilters.IsSaidAtOnce, Sweeps.LooksOver}
 
 -- the expression's tree, whether the whole line has to be matched (XCU grep, option -x), the cache,
 -- and how many entries it may have

@@ -1,11 +1,10 @@
 -- Many fixed strings (XCU grep, options -F and -i).
 use Rattle.std.specs.Prelude.{◌≡◌, ℕ, ◌-◌, ◌≤◌, ◌⊎◌, [], Bool, List, Option, Some, length, map}
 use Rattle.std.specs.Prelude.{take, drop, if◌then◌else◌}
-use Rattle.re_trees.specs.Expression.{Expression, byte, sequence, alt}
-use Rattle.re_trees.specs.{Bytes.Text, declared.span.Span.Span, Holds.folded}
-use Rattle.re_meter.specs.Meters.{Steps, many_passed}
-use Rattle.re_strings.specs.{Working.FixedSets.IsFront, Working.FixedSets.IsString}
-use Rattle.re_strings.specs.{Working.Keys.keys, Working.Reached.EndsFirst, Working.Reached.end_cost}
+use Rattle.re_trees.specs.{Expression.{Expression, byte, sequence, alt}, Bytes.Text, Holds.folded}
+use Rattle.{re_trees.specs.declared.span.Span.Span, re_meter.specs.Meters.{Steps, many_passed}}
+use Rattle.re_strings.specs.Working.{FixedSets.{IsFront, IsString}, Reached.{EndsFirst, end_cost}}
+use Rattle.re_strings.specs.Working.Keys.{keys}
 
 -- the strings, and whether both cases of each letter are alike
 pub record Literals : Type 0 where

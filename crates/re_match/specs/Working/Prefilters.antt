@@ -2,7 +2,7 @@
 use Rattle.std.specs.Prelude.{◌≡◌, ◌⊎◌, Any, Bool, List, IfSome, false}
 use Rattle.re_trees.specs.{Bytes.Text, Expression.Expression, Holds.Matches}
 use Rattle.re_needle.specs.Working.Needles.{HasNoBegin, IsNeeded, IsNeedleFor, IsSettled}
-use Rattle.re_match.specs.{Working.Literals.Literals, Working.Literals.any_literal}
+use Rattle.re_match.specs.Working.Literals.{Literals, any_literal}
 use Rattle.re_match.specs.declared.prefilter.Prefilter.{Prefilter}
 
 -- the line has none of the strings

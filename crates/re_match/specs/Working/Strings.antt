@@ -1,13 +1,11 @@
 -- Matchers for fixed strings: one string by itself, or many in one pass.
-use Rattle.std.specs.Prelude.{◌≡◌, ⊤, ℕ, ◌+◌, ◌-◌, ◌⊎◌, [], Bool, true, false, Option, Some, None}
-use Rattle.std.specs.Prelude.{length, map, drop}
-use Rattle.re_trees.specs.{Bytes.Text, Expression.Expression, Expression.byte, Expression.sequence}
-use Rattle.re_trees.specs.{declared.span.Span.Span, Lines.HasNoNewline}
-use Rattle.re_meter.specs.Meters.{Steps, many_built}
-use Rattle.re_runs.specs.Working.Blocks.{LooksOnce}
-use Rattle.re_match.specs.declared.strings.Look.TheVariants.{One, Many}
-use Rattle.re_match.specs.Working.Literals.{Literals, any_literal, LooksForAny, ReachesPart}
-use Rattle.re_match.specs.declared.strings.Look.{Look}
+use Rattle.std.specs.Prelude.{◌⊎◌, Option, ◌-◌, ◌≡◌, map, ◌+◌, Bool, Some, drop, [], None, true}
+use Rattle.std.specs.Prelude.{false, ⊤, length, ℕ}
+use Rattle.re_trees.specs.{Bytes.Text, declared.span.Span.Span, Lines.HasNoNewline}
+use Rattle.re_trees.specs.Expression.{Expression, byte, sequence}
+use Rattle.{re_meter.specs.Meters.{many_built, Steps}, re_runs.specs.Working.Blocks.LooksOnce}
+use Rattle.re_match.specs.declared.strings.Look.{TheVariants.{One, Many}, Look}
+use Rattle.re_match.specs.Working.Literals.{LooksForAny, any_literal, Literals, ReachesPart}
 
 -- how strings are looked for, and whether the whole line has to be one of them (XCU grep, option -x)
 pub record StringMatcher : Type 0 where

@@ -1,15 +1,13 @@
 -- Looks over lines and blocks: what they pass, where a sweep stops, and what is known of the line
 -- there.
-use Rattle.std.specs.Prelude.{◌≡◌, ℕ, ◌+◌, ◌-◌, ◌≤◌, ◌↔◌, ◌⊎◌, Bool, IsTrue, Option, None, min, max}
-use Rattle.std.specs.Prelude.{length, slice_range, ⊤}
-use Rattle.re_trees.specs.{Bytes.Text, Expression.Expression, Holds.Matches}
-use Rattle.re_meter.specs.Meters.{Steps, AddsBetween, many_passed}
-use Rattle.re_runs.specs.Working.Runs.{Runs, FindsRun, longest_of, look_cost}
-use Rattle.re_runs.specs.Working.Blocks.{IsLineFrom}
-use Rattle.re_needle.specs.Working.Needles.{RunIsNeeded, RunBegins}
-use Rattle.re_match.specs.declared.sweeps.Stop.TheVariants.{Unseen, Seen, Decided}
-use Rattle.re_match.specs.{Working.Literals.Literals, Working.Literals.LooksForAny}
-use Rattle.re_match.specs.{Working.Prefilters.AreNeeded, declared.sweeps.Stop.Stop}
+use Rattle.std.specs.Prelude.{max, None, ℕ, min, ◌≤◌, ◌↔◌, ◌⊎◌, slice_range, Bool, ◌-◌, Option}
+use Rattle.std.specs.Prelude.{length, ⊤, ◌≡◌, ◌+◌, IsTrue}
+use Rattle.re_trees.specs.{Holds.Matches, Expression.Expression, Bytes.Text}
+use Rattle.re_meter.specs.Meters.{AddsBetween, Steps, many_passed}
+use Rattle.re_runs.specs.Working.{Runs.{Runs, FindsRun, longest_of, look_cost}, Blocks.IsLineFrom}
+use Rattle.re_needle.specs.Working.Needles.{RunBegins, RunIsNeeded}
+use Rattle.re_match.specs.Working.{Literals.{LooksForAny, Literals}, Prefilters.AreNeeded}
+use Rattle.re_match.specs.declared.sweeps.Stop.{Stop, TheVariants.{Seen, Unseen, Decided}}
 use Rattle.re_match.specs.declared.sweeps.Sweep.{Sweep}
 
 -- how many bytes of a line may still be passed

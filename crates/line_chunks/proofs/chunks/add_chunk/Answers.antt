@@ -1,5 +1,4 @@
-use Rattle.line_chunks.proofs.Prelude.{◌∙◌}
-use Rattle.line_chunks.proofs.lemmas.Edits.{new_chunk_put, new_chunk_summed}
+use Rattle.line_chunks.proofs.{Prelude.◌∙◌, lemmas.Edits.{new_chunk_put, new_chunk_summed}}
 use Rattle.line_chunks.proofs.chunks.add_chunk.Goals as goal
 
 pub returns-clause-ok : goal.returns-clause-ok

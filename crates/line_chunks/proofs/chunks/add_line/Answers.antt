@@ -1,8 +1,5 @@
-use Rattle.line_chunks.proofs.Prelude.{◌≡◌, ◌+◌, ◌-◌, length, arith, ◌∙◌, sym, chunks_of, new_line}
-use Rattle.line_chunks.proofs.lemmas.Added.{with_last, with_new, with_first, room_last, made_ok}
-use Rattle.line_chunks.proofs.lemmas.Sums.{length-chunks_of}
+use Rattle.line_chunks.proofs.{Prelude.{◌≡◌, ◌+◌, ◌-◌, length, arith, ◌∙◌, sym, chunks_of, new_line}, lemmas.{Added.{with_last, with_new, with_first, room_last, made_ok}, Sums.length-chunks_of}, chunks.add_line.Goals.{else-count-gt0-via-then-count-gt0+else-takes, else-count-gt0-via-else-count-gt0}}
 use Rattle.line_chunks.proofs.chunks.add_line.Goals as goal
-use Rattle.line_chunks.proofs.chunks.add_line.Goals.{else-count-gt0-via-then-count-gt0+else-takes, else-count-gt0-via-else-count-gt0}
 
 pub returns-then-takes-clause-ok : goal.returns-then-takes-clause-ok
 returns-then-takes-clause-ok c =

@@ -1,5 +1,4 @@
-use Rattle.line_chunks.proofs.Prelude.{arith}
-use Rattle.line_chunks.proofs.lemmas.Edits.{last_end, add_summed, add_ok}
+use Rattle.line_chunks.proofs.{Prelude.arith, lemmas.Edits.{last_end, add_summed, add_ok}}
 use Rattle.line_chunks.proofs.chunks.add_to_last.Goals as goal
 
 pub add_to-requires-clause-few : goal.add_to-requires-clause-few

@@ -1,7 +1,4 @@
-use Rattle.line_chunks.proofs.Prelude.{arith, ap, ◌+◌, length, get_or, [], chunks_of}
-use Rattle.line_chunks.proofs.lemmas.Joins.{without_empty}
-use Rattle.line_chunks.proofs.lemmas.Edits.{chunks_of-without, dropped_at, none_at, some_at}
-use Rattle.line_chunks.proofs.lemmas.Sums.{length-chunks_of}
+use Rattle.line_chunks.proofs.{Prelude.{arith, ap, ◌+◌, length, get_or, [], chunks_of}, lemmas.{Joins.without_empty, Edits.{chunks_of-without, dropped_at, none_at, some_at}, Sums.length-chunks_of}}
 use Rattle.line_chunks.proofs.chunks.drop_empty.Goals as goal
 
 pub returns-clause-lines : goal.returns-clause-lines

@@ -1,5 +1,4 @@
-use Rattle.line_chunks.proofs.Prelude.{arith, cases_lt, inl, inr}
-use Rattle.line_chunks.proofs.lemmas.Pieces.{half_full}
+use Rattle.line_chunks.proofs.{Prelude.{arith, cases_lt, inl, inr}, lemmas.Pieces.half_full}
 use Rattle.line_chunks.proofs.chunks.even_limit.Goals as goal
 
 pub returns-clause-half : goal.returns-clause-half

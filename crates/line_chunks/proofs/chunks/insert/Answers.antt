@@ -1,6 +1,4 @@
-use Rattle.line_chunks.proofs.Prelude.{◌+◌, ap, ◌∙◌, all_of, arith, chunks_of}
-use Rattle.line_chunks.proofs.lemmas.Joins.{seams_in_order}
-use Rattle.line_chunks.proofs.lemmas.Edits.{seam_end, lines_put, put_summed, put_few, put_filled, chunks_put}
+use Rattle.line_chunks.proofs.{Prelude.{◌+◌, ap, ◌∙◌, all_of, arith, chunks_of}, lemmas.{Joins.seams_in_order, Edits.{seam_end, lines_put, put_summed, put_few, put_filled, chunks_put}}}
 use Rattle.line_chunks.proofs.chunks.insert.Goals as goal
 
 pub put_chunks-requires-clause-in_order : goal.put_chunks-requires-clause-in_order

@@ -1,5 +1,4 @@
-use Rattle.line_chunks.proofs.Prelude.{ap, ◌∙◌, splice}
-use Rattle.line_chunks.proofs.lemmas.Joins.{drained}
+use Rattle.line_chunks.proofs.{Prelude.{ap, ◌∙◌, splice}, lemmas.Joins.drained}
 use Rattle.line_chunks.proofs.chunks.put_chunks.Goals as goal
 
 pub returns-clause-ok : goal.returns-clause-ok

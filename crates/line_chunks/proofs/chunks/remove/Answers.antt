@@ -1,5 +1,4 @@
-use Rattle.line_chunks.proofs.Prelude.{arith, ◌+◌, ◌≡◌}
-use Rattle.line_chunks.proofs.lemmas.Edits.{filled_both}
+use Rattle.line_chunks.proofs.{Prelude.{arith, ◌+◌, ◌≡◌}, lemmas.Edits.filled_both}
 use Rattle.line_chunks.proofs.chunks.remove.Goals as goal
 
 pub returns-clause-filled : goal.returns-clause-filled

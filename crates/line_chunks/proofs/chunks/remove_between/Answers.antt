@@ -1,7 +1,4 @@
-use Rattle.line_chunks.proofs.Prelude.{arith, ◌+◌, chunks_of}
-use Rattle.line_chunks.proofs.lemmas.Joins.{between}
-use Rattle.line_chunks.proofs.lemmas.Edits.{chunks_of-without}
-use Rattle.line_chunks.proofs.lemmas.Sums.{length-chunks_of}
+use Rattle.line_chunks.proofs.{Prelude.{arith, ◌+◌, chunks_of}, lemmas.{Joins.between, Edits.chunks_of-without, Sums.length-chunks_of}}
 use Rattle.line_chunks.proofs.chunks.remove_between.Goals as goal
 
 pub returns-clause-chunks : goal.returns-clause-chunks

@@ -1,7 +1,4 @@
-use Rattle.line_chunks.proofs.Prelude.{◌+◌, arith, rules, ◌<◌, length}
-use Rattle.line_chunks.proofs.lemmas.Joins.{out_of_one, out_of_many, seams_in_order}
-use Rattle.line_chunks.proofs.lemmas.Sums.{length-chunks_of, summed_to}
-use Rattle.line_chunks.proofs.lemmas.Edits.{filled_around, filled_beside}
+use Rattle.line_chunks.proofs.{Prelude.{◌+◌, arith, rules, ◌<◌, length}, lemmas.{Joins.{out_of_one, out_of_many, seams_in_order}, Sums.{length-chunks_of, summed_to}, Edits.{filled_around, filled_beside}}}
 use Rattle.line_chunks.proofs.chunks.remove_lines.Goals as goal
 
 pub returns-then-first-last-clause-lines : goal.returns-then-first-last-clause-lines

@@ -1,6 +1,4 @@
-use Rattle.line_chunks.proofs.Prelude.{arith, ◌∙◌, sym, map, length-set, line_without, chunks_of}
-use Rattle.line_chunks.proofs.lemmas.Columns.{chunks_mapped}
-use Rattle.line_chunks.proofs.lemmas.Sums.{length-chunks_of}
+use Rattle.line_chunks.proofs.{Prelude.{arith, ◌∙◌, sym, map, length-set, line_without, chunks_of}, lemmas.{Columns.chunks_mapped, Sums.length-chunks_of}}
 use Rattle.line_chunks.proofs.columns.drop_in_all.Goals as goal
 
 pub loop-k-preserved : goal.loop-k-preserved

@@ -1,6 +1,4 @@
-use Rattle.line_chunks.proofs.Prelude.{arith, ◌∙◌, refl, sym, add-one, length-set, into_iter_items, chunks_of}
-use Rattle.line_chunks.proofs.lemmas.Columns.{columns_none, columns_all, drop_drop, next_fits, next_put}
-use Rattle.line_chunks.proofs.lemmas.Sums.{length-chunks_of}
+use Rattle.line_chunks.proofs.{Prelude.{arith, ◌∙◌, refl, sym, add-one, length-set, into_iter_items, chunks_of}, lemmas.{Columns.{columns_none, columns_all, drop_drop, next_fits, next_put}, Sums.length-chunks_of}}
 use Rattle.line_chunks.proofs.columns.put_all.Goals as goal
 
 pub loop-k-init : goal.loop-k-init

@@ -1,5 +1,4 @@
-use Rattle.line_chunks.proofs.Prelude.{arith}
-use Rattle.line_chunks.proofs.lemmas.Sums.{matched_within, matched_next}
+use Rattle.line_chunks.proofs.{Prelude.arith, lemmas.Sums.{matched_within, matched_next}}
 use Rattle.line_chunks.proofs.entries.count_matched.Goals as goal
 
 pub overflow_add-count : goal.overflow_add-count

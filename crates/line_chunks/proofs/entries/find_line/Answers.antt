@@ -1,6 +1,4 @@
-use Rattle.line_chunks.proofs.Prelude.{arith}
-use Rattle.line_chunks.proofs.lemmas.Joins.{place_here}
-use Rattle.line_chunks.proofs.lemmas.Sums.{summed_to, length-chunks_of, comes_before}
+use Rattle.line_chunks.proofs.{Prelude.arith, lemmas.{Joins.place_here, Sums.{summed_to, length-chunks_of, comes_before}}}
 use Rattle.line_chunks.proofs.entries.find_line.Goals as goal
 
 pub lines_before-requires : goal.lines_before-requires

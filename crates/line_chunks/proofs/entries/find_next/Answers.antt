@@ -1,5 +1,4 @@
-use Rattle.line_chunks.proofs.Prelude.{arith}
-use Rattle.line_chunks.proofs.lemmas.NextLines.{passed_on, found_there, next_chunk, next_within, all_passed}
+use Rattle.line_chunks.proofs.{Prelude.arith, lemmas.NextLines.{passed_on, found_there, next_chunk, next_within, all_passed}}
 use Rattle.line_chunks.proofs.entries.find_next.Goals as goal
 
 pub overflow_add-place : goal.overflow_add-place

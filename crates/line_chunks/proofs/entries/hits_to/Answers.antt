@@ -1,5 +1,4 @@
-use Rattle.line_chunks.proofs.Prelude.{arith, all_of, chunks_of}
-use Rattle.line_chunks.proofs.lemmas.Sums.{summed_to, matched_to, matched_within}
+use Rattle.line_chunks.proofs.{Prelude.{arith, all_of, chunks_of}, lemmas.Sums.{summed_to, matched_to, matched_within}}
 use Rattle.line_chunks.proofs.entries.hits_to.Goals as goal
 
 pub matched_before-requires : goal.matched_before-requires

@@ -1,5 +1,4 @@
-use Rattle.line_chunks.proofs.Prelude.{[], refl, take_all}
-use Rattle.line_chunks.proofs.lemmas.Pieces.{adds_none, chunk_next}
+use Rattle.line_chunks.proofs.{Prelude.{[], refl, take_all}, lemmas.Pieces.{adds_none, chunk_next}}
 use Rattle.line_chunks.proofs.new_chunks.add_all.Goals as goal
 
 pub loop-entry-init : goal.loop-entry-init

@@ -1,5 +1,4 @@
-use Rattle.line_chunks.proofs.Prelude.{arith, ◌≡◌, ◌-◌}
-use Rattle.line_chunks.proofs.lemmas.Pieces.{adds_none, piece_next}
+use Rattle.line_chunks.proofs.{Prelude.{arith, ◌≡◌, ◌-◌}, lemmas.Pieces.{adds_none, piece_next}}
 use Rattle.line_chunks.proofs.new_chunks.add_lines.Goals as goal
 
 pub loop-at-init : goal.loop-at-init

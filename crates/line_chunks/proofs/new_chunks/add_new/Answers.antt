@@ -1,5 +1,4 @@
-use Rattle.line_chunks.proofs.Prelude.{arith, length-drop, length-take, drop, ◌-◌}
-use Rattle.line_chunks.proofs.lemmas.Pieces.{adds_chunk}
+use Rattle.line_chunks.proofs.{Prelude.{arith, length-drop, length-take, drop, ◌-◌}, lemmas.Pieces.adds_chunk}
 use Rattle.line_chunks.proofs.new_chunks.add_new.Goals as goal
 
 pub returns : goal.returns

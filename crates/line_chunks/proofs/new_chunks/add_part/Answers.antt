@@ -1,6 +1,4 @@
-use Rattle.line_chunks.proofs.Prelude.{arith, ap, ◌≡◌, ◌-◌, ◌<◌, [], inl, inr, cases_lt, length, get_or, get_or_past, chunks_of}
-use Rattle.line_chunks.proofs.lemmas.Pieces.{adds_none}
-use Rattle.line_chunks.proofs.lemmas.Sums.{chunk_at, length-chunks_of}
+use Rattle.line_chunks.proofs.{Prelude.{arith, ap, ◌≡◌, ◌-◌, ◌<◌, [], inl, inr, cases_lt, length, get_or, get_or_past, chunks_of}, lemmas.{Pieces.adds_none, Sums.{chunk_at, length-chunks_of}}}
 use Rattle.line_chunks.proofs.new_chunks.add_part.Goals as goal
 
 pub returns-then-from-to : goal.returns-then-from-to

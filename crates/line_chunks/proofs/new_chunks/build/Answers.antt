@@ -1,5 +1,4 @@
-use Rattle.line_chunks.proofs.Prelude.{arith, ap, ◌∙◌, ◌≡◌, ◌-◌, ◌++◌, [], take, take_all, drop, get_or, length-drop, slice_range, all_of, chunks_of}
-use Rattle.line_chunks.proofs.lemmas.Pieces.{adds_three}
+use Rattle.line_chunks.proofs.{Prelude.{arith, ap, ◌∙◌, ◌≡◌, ◌-◌, ◌++◌, [], take, take_all, drop, get_or, length-drop, slice_range, all_of, chunks_of}, lemmas.Pieces.adds_three}
 use Rattle.line_chunks.proofs.new_chunks.build.Goals as goal
 
 pub returns-clause-filled : goal.returns-clause-filled

@@ -1,5 +1,4 @@
-use Rattle.line_chunks.proofs.Prelude.{◌∙◌, slice_range}
-use Rattle.line_chunks.proofs.lemmas.Pieces.{lines_extended}
+use Rattle.line_chunks.proofs.{Prelude.{◌∙◌, slice_range}, lemmas.Pieces.lines_extended}
 use Rattle.line_chunks.proofs.new_chunks.extend_last.Goals as goal
 
 pub returns : goal.returns

@@ -1,5 +1,4 @@
-use Rattle.re_trees.proofs.lemmas.ExpressionLaws.{expression-Alt}
-use Rattle.re_match.proofs.lemmas.NeededStrings.{texts_are_needed}
+use Rattle.{re_trees.proofs.lemmas.ExpressionLaws.expression-Alt, re_match.proofs.lemmas.NeededStrings.texts_are_needed}
 use Rattle.re_match.proofs.prefilter.needed_strings.Goals as goal
 
 pub returns : goal.returns

@@ -1,8 +1,5 @@
-use Rattle.re_match.proofs.Prelude.{◌≡◌, arith, ◌++◌, [], ◌∷◌, sym, ap, ◌∙◌, HasNoNewline, lines_of, expression_of}
+use Rattle.{re_match.{proofs.{Prelude.{◌≡◌, arith, ◌++◌, [], ◌∷◌, sym, ap, ◌∙◌, HasNoNewline, lines_of, expression_of}, lemmas.NeededStrings.needed_more}, specs.Working.Prefilters.NeedsOneOf}, std.proofs.lemmas.List.Elements.{All-push, All-map}, re_trees.proofs.lemmas.LinesLaws.{lines_of-terminated, terminated-append}}
 use Rattle.re_match.proofs.prefilter.needed_texts.Goals as goal
-use Rattle.std.proofs.lemmas.List.Elements.{All-push, All-map}
-use Rattle.re_match.{specs.Working.Prefilters.NeedsOneOf, proofs.lemmas.NeededStrings.needed_more}
-use Rattle.re_trees.proofs.lemmas.LinesLaws.{lines_of-terminated, terminated-append}
 
 pub branches-preserved : goal.branches-preserved
 branches-preserved c =

@@ -1,6 +1,4 @@
-use Rattle.re_match.proofs.Prelude.{◌≡◌, ℕ, ◌<◌, List, All, get_or, Text, HasNoNewline, terminated, expression_of}
-use Rattle.re_trees.specs.declared.tree.Tree.{Tree}
-use Rattle.re_match.specs.Working.Prefilters.{NeedsOneOf}
+use Rattle.{re_match.{proofs.Prelude.{◌≡◌, ℕ, ◌<◌, List, All, get_or, Text, HasNoNewline, terminated, expression_of}, specs.Working.Prefilters.NeedsOneOf}, re_trees.specs.declared.tree.Tree.Tree}
 use Rattle.re_match.proofs.prefilter.needed_texts.Given as goal
 
 abbrev pub invariant-branches : goal.invariant-branches

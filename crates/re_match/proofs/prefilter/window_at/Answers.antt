@@ -1,6 +1,5 @@
-use Rattle.re_match.proofs.Prelude.{rules, ℕ, ◌+◌, ◌-◌, ◌<◌, inl, refl, slice_index, arith}
+use Rattle.re_match.proofs.{Prelude.{rules, ℕ, ◌+◌, ◌-◌, ◌<◌, inl, refl, slice_index, arith}, lemmas.{StepSums.adds_on, WindowLaws.{later_by_needle, later_by_bytes}}}
 use Rattle.re_match.proofs.prefilter.window_at.Goals as goal
-use Rattle.re_match.proofs.lemmas.{StepSums.adds_on, WindowLaws.later_by_needle, WindowLaws.later_by_bytes}
 
 pub returns-then-needle : goal.returns-then-needle
 returns-then-needle c = λ e before of right looked over.

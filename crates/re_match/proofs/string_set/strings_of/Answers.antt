@@ -1,5 +1,4 @@
-use Rattle.re_match.proofs.Prelude.{List, ◌++◌, map, sym, ap, ◌∙◌, append-nil, Text, lines_of}
-use Rattle.re_strings.proofs.lemmas.SetSorted.{sorted_ascends, same_strings}
+use Rattle.{re_match.proofs.Prelude.{List, ◌++◌, map, sym, ap, ◌∙◌, append-nil, Text, lines_of}, re_strings.proofs.lemmas.SetSorted.{sorted_ascends, same_strings}}
 use Rattle.re_match.proofs.string_set.strings_of.Goals as goal
 
 pub returns-clause-ordered : goal.returns-clause-ordered

@@ -1,9 +1,6 @@
-use Rattle.re_match.proofs.Prelude.{◌+◌, refl, rules, arith, false≢true, take_rest, Text, Matches, PassesUnmatched}
+use Rattle.{re_match.proofs.{Prelude.{◌+◌, refl, rules, arith, false≢true, take_rest, Text, Matches, PassesUnmatched}, lemmas.{SameLaws.same_twice, SweptLines.{decided_at, same_line, turn_adds, last_sweep}}, sweeps.next_by_sweeps.Goals.After-sweep-sweep}, re_runs.proofs.lemmas.NextLines.{block_after, passed_on, none_next, next_from, passed_from}}
 use Rattle.re_match.proofs.sweeps.next_by_sweeps.Given as given
 use Rattle.re_match.proofs.sweeps.next_by_sweeps.Goals as goal
-use Rattle.re_runs.proofs.lemmas.NextLines.{block_after, passed_on, none_next, next_from, passed_from}
-use Rattle.re_match.proofs.{lemmas.SameLaws.same_twice, sweeps.next_by_sweeps.Goals.After-sweep-sweep}
-use Rattle.re_match.proofs.lemmas.SweptLines.{decided_at, same_line, turn_adds, last_sweep}
 
 -- the lines before the one at which the sweep stopped
 passed : (g : given.Over) (c : After-sweep-sweep g) → PassesUnmatched (g.M.Sweeps.expression c.args.matcher.now) (g.M.Sweeps.whole c.args.matcher.now) c.args.block.now (c.lines.start + c.sweep-sweep.result.start)

@@ -1,5 +1,4 @@
-use Rattle.re_match.proofs.Prelude.{◌-◌, ◌≤◌, length, PassesUnmatched, SameMatcher}
-use Rattle.re_auto.specs.Searches.{AddsAtMost}
+use Rattle.{re_match.proofs.Prelude.{◌-◌, ◌≤◌, length, PassesUnmatched, SameMatcher}, re_auto.specs.Searches.AddsAtMost}
 use Rattle.re_match.proofs.sweeps.next_by_sweeps.Given as goal
 
 -- the lines before the place were passed or searched, and none is matched

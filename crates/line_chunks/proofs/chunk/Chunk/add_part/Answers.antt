@@ -1,6 +1,4 @@
-use Rattle.line_chunks.proofs.Prelude.{arith, ◌∙◌, ◌-◌, ◌++◌, sym, take, drop, map, length-map, seen, bare}
-use Rattle.line_chunks.proofs.lemmas.SeenLaws.{as_many, part_added, size_added, seen_same}
-use Rattle.line_chunks.proofs.lemmas.EndedLemmas.{ended_part, bare_part, undone}
+use Rattle.line_chunks.proofs.{Prelude.{arith, ◌∙◌, ◌-◌, ◌++◌, sym, take, drop, map, length-map, seen, bare}, lemmas.{SeenLaws.{as_many, part_added, size_added, seen_same}, EndedLemmas.{ended_part, bare_part, undone}}}
 use Rattle.line_chunks.proofs.chunk.Chunk.add_part.Goals as goal
 
 pub add_part-requires-clause-within : goal.add_part-requires-clause-within

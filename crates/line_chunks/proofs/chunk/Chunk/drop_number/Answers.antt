@@ -1,5 +1,4 @@
-use Rattle.line_chunks.proofs.Prelude.{map, bare}
-use Rattle.line_chunks.proofs.lemmas.SeenLaws.{seen_without}
+use Rattle.line_chunks.proofs.{Prelude.{map, bare}, lemmas.SeenLaws.seen_without}
 use Rattle.line_chunks.proofs.chunk.Chunk.drop_number.Goals as goal
 
 pub returns : goal.returns

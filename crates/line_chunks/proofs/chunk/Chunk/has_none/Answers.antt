@@ -1,5 +1,4 @@
-use Rattle.line_chunks.proofs.Prelude.{arith, eqb-true}
-use Rattle.line_chunks.proofs.lemmas.NextLines.{none_matched, all_matched}
+use Rattle.line_chunks.proofs.{Prelude.{arith, eqb-true}, lemmas.NextLines.{none_matched, all_matched}}
 use Rattle.line_chunks.proofs.chunk.Chunk.has_none.Goals as goal
 
 pub returns-then-matched : goal.returns-then-matched

@@ -1,5 +1,4 @@
-use Rattle.line_chunks.proofs.Prelude.{◌∙◌, sym, map, length-map, bare}
-use Rattle.line_chunks.proofs.lemmas.SeenLaws.{hits_seen}
+use Rattle.line_chunks.proofs.{Prelude.{◌∙◌, sym, map, length-map, bare}, lemmas.SeenLaws.hits_seen}
 use Rattle.line_chunks.proofs.chunk.Chunk.hits.Goals as goal
 
 pub returns : goal.returns

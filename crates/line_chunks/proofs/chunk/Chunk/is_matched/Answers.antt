@@ -1,5 +1,4 @@
-use Rattle.line_chunks.proofs.Prelude.{arith, ◌∙◌, ap, length, not, ◌==◌, Finds}
-use Rattle.line_chunks.proofs.lemmas.SeenLaws.{as_many, found_at}
+use Rattle.line_chunks.proofs.{Prelude.{arith, ◌∙◌, ap, length, not, ◌==◌, Finds}, lemmas.SeenLaws.{as_many, found_at}}
 use Rattle.line_chunks.proofs.chunk.Chunk.is_matched.Goals as goal
 
 pub is_matched-requires : goal.is_matched-requires

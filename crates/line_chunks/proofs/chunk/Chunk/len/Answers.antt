@@ -1,5 +1,4 @@
-use Rattle.line_chunks.proofs.Prelude.{◌∙◌}
-use Rattle.line_chunks.proofs.lemmas.SeenLaws.{as_many}
+use Rattle.line_chunks.proofs.{Prelude.◌∙◌, lemmas.SeenLaws.as_many}
 use Rattle.line_chunks.proofs.chunk.Chunk.len.Goals as goal
 
 pub returns : goal.returns

@@ -1,6 +1,4 @@
-use Rattle.line_chunks.proofs.Prelude.{arith, ◌∙◌, ap, length, bare}
-use Rattle.line_chunks.proofs.lemmas.SeenLaws.{as_many, text_at}
-use Rattle.line_chunks.proofs.lemmas.EndedLemmas.{has_byte}
+use Rattle.line_chunks.proofs.{Prelude.{arith, ◌∙◌, ap, length, bare}, lemmas.{SeenLaws.{as_many, text_at}, EndedLemmas.has_byte}}
 use Rattle.line_chunks.proofs.chunk.Chunk.line.Goals as goal
 
 pub slice_bounds-result-count : goal.slice_bounds-result-count

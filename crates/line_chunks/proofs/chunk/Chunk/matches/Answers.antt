@@ -1,5 +1,4 @@
-use Rattle.line_chunks.proofs.Prelude.{◌∙◌, ap, Finds, numbers_at}
-use Rattle.line_chunks.proofs.lemmas.SeenLaws.{as_many, found_at}
+use Rattle.line_chunks.proofs.{Prelude.{◌∙◌, ap, Finds, numbers_at}, lemmas.SeenLaws.{as_many, found_at}}
 use Rattle.line_chunks.proofs.chunk.Chunk.matches.Goals as goal
 
 pub returns-clause-at : goal.returns-clause-at

@@ -1,6 +1,4 @@
-use Rattle.line_chunks.proofs.Prelude.{arith, ◌∙◌, sym}
-use Rattle.line_chunks.proofs.lemmas.SeenLaws.{as_many}
-use Rattle.line_chunks.proofs.lemmas.EndedLemmas.{begins_at, not_yet, here_now}
+use Rattle.line_chunks.proofs.{Prelude.{arith, ◌∙◌, sym}, lemmas.{SeenLaws.as_many, EndedLemmas.{begins_at, not_yet, here_now}}}
 use Rattle.line_chunks.proofs.chunk.Chunk.number_at.Goals as goal
 
 pub loop-number-preserved : goal.loop-number-preserved

@@ -1,6 +1,4 @@
-use Rattle.line_chunks.proofs.Prelude.{◌∙◌, ◌++◌, [], ◌∷◌, ap, sym, map, length-map, bare, new_line}
-use Rattle.line_chunks.proofs.lemmas.SeenLaws.{line_added}
-use Rattle.line_chunks.proofs.lemmas.EndedLemmas.{bare_more}
+use Rattle.line_chunks.proofs.{Prelude.{◌∙◌, ◌++◌, [], ◌∷◌, ap, sym, map, length-map, bare, new_line}, lemmas.{SeenLaws.line_added, EndedLemmas.bare_more}}
 use Rattle.line_chunks.proofs.chunk.Chunk.push.Goals as goal
 
 pub returns-clause-ok : goal.returns-clause-ok

@@ -1,6 +1,4 @@
-use Rattle.line_chunks.proofs.Prelude.{arith, ◌∙◌, ◌++◌, ap, take, drop, map, length-map, bare}
-use Rattle.line_chunks.proofs.lemmas.SeenLaws.{as_many, lines_removed, size_removed}
-use Rattle.line_chunks.proofs.lemmas.EndedLemmas.{ended_without, bare_without}
+use Rattle.line_chunks.proofs.{Prelude.{arith, ◌∙◌, ◌++◌, ap, take, drop, map, length-map, bare}, lemmas.{SeenLaws.{as_many, lines_removed, size_removed}, EndedLemmas.{ended_without, bare_without}}}
 use Rattle.line_chunks.proofs.chunk.Chunk.remove.Goals as goal
 
 pub remove-requires-2-clause-within : goal.remove-requires-2-clause-within

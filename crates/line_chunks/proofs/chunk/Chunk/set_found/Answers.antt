@@ -1,5 +1,4 @@
-use Rattle.line_chunks.proofs.Prelude.{◌∙◌, ap, sym, seen}
-use Rattle.line_chunks.proofs.lemmas.SeenLaws.{as_many, texts_are}
+use Rattle.line_chunks.proofs.{Prelude.{◌∙◌, ap, sym, seen}, lemmas.SeenLaws.{as_many, texts_are}}
 use Rattle.line_chunks.proofs.chunk.Chunk.set_found.Goals as goal
 
 pub invariant_of-self : goal.invariant_of-self

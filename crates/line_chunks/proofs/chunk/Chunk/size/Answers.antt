@@ -1,5 +1,4 @@
-use Rattle.line_chunks.proofs.Prelude.{◌∙◌, ap, length}
-use Rattle.line_chunks.proofs.lemmas.EndedLemmas.{text_is}
+use Rattle.line_chunks.proofs.{Prelude.{◌∙◌, ap, length}, lemmas.EndedLemmas.text_is}
 use Rattle.line_chunks.proofs.chunk.Chunk.size.Goals as goal
 
 pub returns : goal.returns

@@ -1,5 +1,4 @@
-use Rattle.line_chunks.proofs.Prelude.{◌∙◌, ap, Finds}
-use Rattle.line_chunks.proofs.lemmas.SeenLaws.{found_at}
+use Rattle.line_chunks.proofs.{Prelude.{◌∙◌, ap, Finds}, lemmas.SeenLaws.found_at}
 use Rattle.line_chunks.proofs.chunk.Chunk.spans.Goals as goal
 
 pub returns : goal.returns

@@ -1,5 +1,4 @@
-use Rattle.line_chunks.proofs.Prelude.{arith, ◌∙◌, ap, length}
-use Rattle.line_chunks.proofs.lemmas.EndedLemmas.{text_is, begins_at}
+use Rattle.line_chunks.proofs.{Prelude.{arith, ◌∙◌, ap, length}, lemmas.EndedLemmas.{text_is, begins_at}}
 use Rattle.line_chunks.proofs.chunk.Chunk.start.Goals as goal
 
 pub returns-clause-start : goal.returns-clause-start

@@ -1,7 +1,4 @@
-use Rattle.line_chunks.proofs.Prelude.{arith, ◌∙◌, ap, length, drop, map, take_rest, All-drop, HasNoNewline, lines_of, line_text}
-use Rattle.re_trees.proofs.lemmas.LinesLaws.{lines_of-terminated}
-use Rattle.line_finds.proofs.lemmas.PieceLemmas.{begins_within}
-use Rattle.line_chunks.proofs.lemmas.EndedLemmas.{rest_is, free}
+use Rattle.{line_chunks.proofs.{Prelude.{arith, ◌∙◌, ap, length, drop, map, take_rest, All-drop, HasNoNewline, lines_of, line_text}, lemmas.EndedLemmas.{rest_is, free}}, re_trees.proofs.lemmas.LinesLaws.lines_of-terminated, line_finds.proofs.lemmas.PieceLemmas.begins_within}
 use Rattle.line_chunks.proofs.chunk.Chunk.text_from.Goals as goal
 
 pub slice_bounds-result-count : goal.slice_bounds-result-count

@@ -1,5 +1,4 @@
-use Rattle.line_chunks.proofs.Prelude.{arith, ap, length, all_of, line_without, chunks_of}
-use Rattle.line_chunks.proofs.lemmas.Columns.{lines_mapped, mapped_filled}
+use Rattle.line_chunks.proofs.{Prelude.{arith, ap, length, all_of, line_without, chunks_of}, lemmas.Columns.{lines_mapped, mapped_filled}}
 use Rattle.line_chunks.proofs.kept.KeptLines.drop_number.Goals as goal
 
 pub sum_from-requires-clause-few : goal.sum_from-requires-clause-few

@@ -1,5 +1,4 @@
-use Rattle.line_chunks.proofs.Prelude.{chunks_of, new_line}
-use Rattle.line_chunks.proofs.lemmas.Added.{filled_after, lines_ok}
+use Rattle.line_chunks.proofs.{Prelude.{chunks_of, new_line}, lemmas.Added.{filled_after, lines_ok}}
 use Rattle.line_chunks.proofs.kept.KeptLines.push.Goals as goal
 
 pub returns-clause-ok : goal.returns-clause-ok

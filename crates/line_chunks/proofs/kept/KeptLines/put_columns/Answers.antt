@@ -1,5 +1,4 @@
-use Rattle.line_chunks.proofs.Prelude.{arith, ap, length, into_iter_items, all_of, chunks_of}
-use Rattle.line_chunks.proofs.lemmas.Columns.{columns_filled, lines_with_columns}
+use Rattle.line_chunks.proofs.{Prelude.{arith, ap, length, into_iter_items, all_of, chunks_of}, lemmas.Columns.{columns_filled, lines_with_columns}}
 use Rattle.line_chunks.proofs.kept.KeptLines.put_columns.Goals as goal
 
 pub sum_from-requires-clause-few : goal.sum_from-requires-clause-few

@@ -1,5 +1,4 @@
-use Rattle.line_chunks.proofs.Prelude.{◌∙◌, ap, get_or, no_line, all_of}
-use Rattle.line_chunks.proofs.lemmas.Sums.{line_found}
+use Rattle.line_chunks.proofs.{Prelude.{◌∙◌, ap, get_or, no_line, all_of}, lemmas.Sums.line_found}
 use Rattle.line_chunks.proofs.kept.KeptLines.spans.Goals as goal
 
 pub returns : goal.returns

@@ -1,8 +1,5 @@
-use Rattle.re_match.proofs.Prelude.{◌≡◌, arith, Bool, refl, inl, Text, expression_of, Steps, Cache, IsReadied, Searches, mode_for, cache_in, cache_of, CachedMatcher, SameCached, Mode}
+use Rattle.{re_match.proofs.Prelude.{◌≡◌, arith, Bool, refl, inl, Text, expression_of, Steps, Cache, IsReadied, Searches, mode_for, cache_in, cache_of, CachedMatcher, SameCached, Mode}, std.proofs.Common.◌*◌, re_steps.{proofs.lemmas.StageLaws.{searches_readied, goes_nowhere}, specs.Working.{Stages.Stage, Rows.ComesTo}}}
 use Rattle.re_match.proofs.cached.Cached.searched.Goals as goal
-use Rattle.std.proofs.Common.{◌*◌}
-use Rattle.re_steps.proofs.lemmas.StageLaws.{searches_readied, goes_nowhere}
-use Rattle.re_steps.specs.Working.{Stages.Stage, Rows.ComesTo}
 
 -- the table was made ready, then its rows, and then the line was searched
 readied_for : {line : Text} {old now : CachedMatcher} {middle new : Cache} {mode : Mode} {before after : Steps} {answer : Bool} → SameCached old now → IsReadied old.cache now.cache → mode ≡ mode_for now.whole → IsReadied now.cache middle

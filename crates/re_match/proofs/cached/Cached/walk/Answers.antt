@@ -1,6 +1,4 @@
-use Rattle.re_match.proofs.Prelude.{refl}
-use Rattle.re_match.proofs.lemmas.WalkedLines.{right_of, within_line, walk_stops, walk_adds}
-use Rattle.re_runs.proofs.lemmas.CountedBlocks.{newline_follows}
+use Rattle.{re_match.proofs.{Prelude.refl, lemmas.WalkedLines.{right_of, within_line, walk_stops, walk_adds}}, re_runs.proofs.lemmas.CountedBlocks.newline_follows}
 use Rattle.re_match.proofs.cached.Cached.walk.Goals as goal
 
 pub walk_lines-lines-requires-clause-ready : goal.walk_lines-lines-requires-clause-ready

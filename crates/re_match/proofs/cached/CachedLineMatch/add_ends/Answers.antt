@@ -1,7 +1,5 @@
-use Rattle.re_match.proofs.Prelude.{◌+◌, expression_of}
+use Rattle.{re_match.proofs.{Prelude.{◌+◌, expression_of}, lemmas.{StepSums.walked_adds, WindowLaws.ends_of_window}}, re_ends.proofs.lemmas.FoundEnds.matched_found}
 use Rattle.re_match.proofs.cached.CachedLineMatch.add_ends.Goals as goal
-use Rattle.re_ends.proofs.lemmas.FoundEnds.{matched_found}
-use Rattle.re_match.proofs.lemmas.{StepSums.walked_adds, WindowLaws.ends_of_window}
 
 pub add_ends-requires-clause-border : goal.add_ends-requires-clause-border
 add_ends-requires-clause-border c = rw (← c.self.view_is) at c.requires.window.1

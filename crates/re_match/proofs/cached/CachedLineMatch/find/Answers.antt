@@ -1,6 +1,4 @@
-use Rattle.re_match.proofs.Prelude.{◌-◌, ◌∙◌, arith, expression_of, past}
-use Rattle.re_match.proofs.lemmas.StepSums.{adds_on}
-use Rattle.re_match.proofs.lemmas.WindowLaws.{border_within, first_part, from_place, later_on, part_later}
+use Rattle.re_match.proofs.{Prelude.{◌-◌, ◌∙◌, arith, expression_of, past}, lemmas.{StepSums.adds_on, WindowLaws.{border_within, first_part, from_place, later_on, part_later}}}
 use Rattle.re_match.proofs.cached.CachedLineMatch.find.Goals as goal
 
 pub windows-preserved : goal.windows-preserved

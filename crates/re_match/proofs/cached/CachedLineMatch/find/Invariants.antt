@@ -1,5 +1,4 @@
-use Rattle.re_match.proofs.Prelude.{◌≡◌, ◌-◌, ◌≤◌, length, expression_of, BeginsLater}
-use Rattle.re_auto.specs.Searches.{AddsAtMost}
+use Rattle.{re_match.proofs.Prelude.{◌≡◌, ◌-◌, ◌≤◌, length, expression_of, BeginsLater}, re_auto.specs.Searches.AddsAtMost}
 use Rattle.re_match.proofs.cached.CachedLineMatch.find.Given as goal
 
 abbrev pub invariant-windows : goal.invariant-windows

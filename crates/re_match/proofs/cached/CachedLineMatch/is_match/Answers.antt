@@ -1,7 +1,5 @@
-use Rattle.re_match.proofs.Prelude.{inl, refl}
+use Rattle.{re_match.proofs.{Prelude.{inl, refl}, lemmas.{NeededStrings.said_at_once, LookLaws.{looks_over, looks_and_steps}}}, re_steps.proofs.lemmas.StageLaws.{searches_say, searches_steps}}
 use Rattle.re_match.proofs.cached.CachedLineMatch.is_match.Goals as goal
-use Rattle.re_match.proofs.lemmas.{NeededStrings.said_at_once, LookLaws.looks_over, LookLaws.looks_and_steps}
-use Rattle.re_steps.proofs.lemmas.StageLaws.{searches_say, searches_steps}
 
 pub returns-in-Some-clause-reported : goal.returns-in-Some-clause-reported
 returns-in-Some-clause-reported c = said_at_once _ _ _ _ c.in-Some.ensures.settled

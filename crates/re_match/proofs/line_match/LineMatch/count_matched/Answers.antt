@@ -1,7 +1,5 @@
-use Rattle.re_match.proofs.Prelude.{◌+◌, ◌-◌, ◌≤◌, length, drop, arith, length-drop, take_rest, Text, Matches}
+use Rattle.{re_match.proofs.{Prelude.{◌+◌, ◌-◌, ◌≤◌, length, drop, arith, length-drop, take_rest, Text, Matches}, lemmas.{StepSums.adds_on, SameLaws.same_twice}}, re_runs.proofs.lemmas.NextLines.{counts_next, counts_all}}
 use Rattle.re_match.proofs.line_match.LineMatch.count_matched.Goals as goal
-use Rattle.re_runs.proofs.lemmas.NextLines.{counts_next, counts_all}
-use Rattle.re_match.proofs.lemmas.{StepSums.adds_on, SameLaws.same_twice}
 
 pub returns-in_default-clause-reported : goal.returns-in_default-clause-reported
 returns-in_default-clause-reported g c =

@@ -1,6 +1,4 @@
-use Rattle.re_match.proofs.Prelude.{◌-◌, length, Text, Matches, SameMatcher}
-use Rattle.re_auto.specs.Searches.{AddsAtMost}
-use Rattle.re_runs.proofs.lemmas.NextLines.{CountsTo}
+use Rattle.{re_match.proofs.Prelude.{◌-◌, length, Text, Matches, SameMatcher}, re_auto.specs.Searches.AddsAtMost, re_runs.proofs.lemmas.NextLines.CountsTo}
 use Rattle.re_match.proofs.line_match.LineMatch.count_matched.Given as goal
 
 -- the lines before the rest were counted

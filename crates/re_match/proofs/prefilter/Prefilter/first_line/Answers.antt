@@ -1,7 +1,4 @@
-use Rattle.re_match.proofs.Prelude.{inl, inr, get_or, runs_of}
-use Rattle.re_needle.proofs.lemmas.NeededLines.{passes_unmatched_run}
-use Rattle.re_match.proofs.lemmas.SweptLines.{stops_seen, stops_inside, stops_matched, stops_at_head}
-use Rattle.re_runs.proofs.lemmas.Looks.{look_within}
+use Rattle.{re_match.proofs.{Prelude.{inl, inr, get_or, runs_of}, lemmas.SweptLines.{stops_seen, stops_inside, stops_matched, stops_at_head}}, re_needle.proofs.lemmas.NeededLines.passes_unmatched_run, re_runs.proofs.lemmas.Looks.look_within}
 use Rattle.re_match.proofs.prefilter.Prefilter.first_line.Goals as goal
 
 pub returns-in-Some-clause-passes : goal.returns-in-Some-clause-passes

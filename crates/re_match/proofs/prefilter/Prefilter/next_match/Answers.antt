@@ -1,8 +1,4 @@
-use Rattle.re_match.proofs.Prelude.{false, ◌+◌, ◌-◌, ◌≡◌, drop, Some, arith, length-drop, take_rest, look_cost, runs_of}
-use Rattle.re_needle.proofs.lemmas.NeedleLaws.{lacks_part, all_is_part}
-use Rattle.re_meter.proofs.lemmas.Adding.{only_passed}
-use Rattle.re_runs.proofs.lemmas.RunLaws.{run_whole}
-use Rattle.re_match.proofs.lemmas.StepSums.{passes, passes_all, passes_rest}
+use Rattle.{re_match.proofs.{Prelude.{false, ◌+◌, ◌-◌, ◌≡◌, drop, Some, arith, length-drop, take_rest, look_cost, runs_of}, lemmas.StepSums.{passes, passes_all, passes_rest}}, re_needle.proofs.lemmas.NeedleLaws.{lacks_part, all_is_part}, re_meter.proofs.lemmas.Adding.only_passed, re_runs.proofs.lemmas.RunLaws.run_whole}
 use Rattle.re_match.proofs.prefilter.Prefilter.next_match.Goals as goal
 
 pub returns-in_default : goal.returns-in_default

@@ -1,5 +1,4 @@
-use Rattle.re_match.proofs.Prelude.{inl, inr, refl, false≢true, runs_of}
-use Rattle.re_needle.proofs.lemmas.NeedleLaws.{settled_lacks}
+use Rattle.{re_match.proofs.Prelude.{inl, inr, refl, false≢true, runs_of}, re_needle.proofs.lemmas.NeedleLaws.settled_lacks}
 use Rattle.re_match.proofs.prefilter.Prefilter.settled.Goals as goal
 
 pub returns-in-Some-clause-settled : goal.returns-in-Some-clause-settled

@@ -1,8 +1,5 @@
-use Rattle.re_match.proofs.Prelude.{None, Some, refl, inl, inr, sym, ◌∙◌, false≢true, keys}
+use Rattle.{re_match.proofs.{Prelude.{None, Some, refl, inl, inr, sym, ◌∙◌, false≢true, keys}, lemmas.{SetAround.set_around, SweptLines.stops_before, SetMatches.empty_matches, SetBlocks.{passes_set_block, passes_set_front}}}, re_trees.proofs.lemmas.LinesLaws.AreLines-lines_of, re_strings.proofs.lemmas.KeyLaws.lines_of-keys}
 use Rattle.re_match.proofs.string_set.StringSet.first_line.Goals as goal
-use Rattle.re_trees.proofs.lemmas.LinesLaws.{AreLines-lines_of}
-use Rattle.re_strings.proofs.lemmas.KeyLaws.{lines_of-keys}
-use Rattle.re_match.proofs.lemmas.{SetAround.set_around, SweptLines.stops_before, SetMatches.empty_matches, SetBlocks.passes_set_block, SetBlocks.passes_set_front}
 
 pub returns-then-self-clause-found : goal.returns-then-self-clause-found
 returns-then-self-clause-found c end cut = rw (← c.self.view_is) (empty_matches _ _ (c.self.invariant.2.0 c.if-self.true))

@@ -1,6 +1,4 @@
-use Rattle.re_match.proofs.Prelude.{rules, []}
-use Rattle.std.proofs.lemmas.List.{nil_from_length}
-use Rattle.re_match.proofs.lemmas.SetMatches.{line_decides}
+use Rattle.{re_match.proofs.{Prelude.{rules, []}, lemmas.SetMatches.line_decides}, std.proofs.lemmas.List.nil_from_length}
 use Rattle.re_match.proofs.string_set.StringSet.is_line.Goals as goal
 
 pub returns-then-is_empty : goal.returns-then-is_empty

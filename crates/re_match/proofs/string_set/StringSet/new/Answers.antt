@@ -1,5 +1,4 @@
-use Rattle.re_match.proofs.Prelude.{map, sym, ap, ◌∙◌, lines_of, keys}
-use Rattle.re_strings.proofs.lemmas.KeyLaws.{lines_lowered, lines_plain}
+use Rattle.{re_match.proofs.Prelude.{map, sym, ap, ◌∙◌, lines_of, keys}, re_strings.proofs.lemmas.KeyLaws.{lines_lowered, lines_plain}}
 use Rattle.re_match.proofs.string_set.StringSet.new.Goals as goal
 
 pub by_keys-requires : goal.by_keys-requires

@@ -1,5 +1,4 @@
-use Rattle.re_match.proofs.Prelude.{inl, inr}
-use Rattle.re_match.proofs.lemmas.SetMatches.{best_is_part}
+use Rattle.re_match.proofs.{Prelude.{inl, inr}, lemmas.SetMatches.best_is_part}
 use Rattle.re_match.proofs.string_set.StringSet.occurrence.Goals as goal
 
 pub returns-clause-reported : goal.returns-clause-reported

@@ -1,5 +1,4 @@
-use Rattle.re_ends.proofs.lemmas.FoundEnds.{adds_alike}
-use Rattle.re_match.proofs.lemmas.SetMatches.{strings_found}
+use Rattle.{re_ends.proofs.lemmas.FoundEnds.adds_alike, re_match.proofs.lemmas.SetMatches.strings_found}
 use Rattle.re_match.proofs.string_set.StringSet.put_ends.Goals as goal
 
 pub returns : goal.returns

@@ -1,5 +1,4 @@
-use Rattle.re_match.proofs.Prelude.{refl, inl, inr, sym, ◌∙◌, false≢true}
-use Rattle.re_match.proofs.lemmas.SetMatches.{empty_matches, ends_decide}
+use Rattle.re_match.proofs.{Prelude.{refl, inl, inr, sym, ◌∙◌, false≢true}, lemmas.SetMatches.{empty_matches, ends_decide}}
 use Rattle.re_match.proofs.string_set.StringSet.stands_in.Goals as goal
 
 pub returns-then-self-clause-reported : goal.returns-then-self-clause-reported

@@ -1,7 +1,5 @@
-use Rattle.re_match.proofs.Prelude.{map, byte, sequence, any_literal, look_expression}
+use Rattle.{re_match.proofs.{Prelude.{map, byte, sequence, any_literal, look_expression}, lemmas.SetBlocks.passes_whole_too}, re_needle.proofs.lemmas.{NeededLaws.sequence_needed, NeededLines.passes_unmatched}}
 use Rattle.re_match.proofs.strings.Look.first_line.Goals as goal
-use Rattle.re_needle.proofs.lemmas.{NeededLaws.sequence_needed, NeededLines.passes_unmatched}
-use Rattle.re_match.proofs.lemmas.SetBlocks.{passes_whole_too}
 
 pub returns-in-One-clause-passes : goal.returns-in-One-clause-passes
 returns-in-One-clause-passes c =

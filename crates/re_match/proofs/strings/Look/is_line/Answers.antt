@@ -1,5 +1,4 @@
-use Rattle.re_match.proofs.Prelude.{◌≡◌, bytes_eq}
-use Rattle.re_match.proofs.lemmas.OneText.{equals-decides}
+use Rattle.re_match.proofs.{Prelude.{◌≡◌, bytes_eq}, lemmas.OneText.equals-decides}
 use Rattle.re_match.proofs.strings.Look.is_line.Goals as goal
 
 pub returns-in-One : goal.returns-in-One

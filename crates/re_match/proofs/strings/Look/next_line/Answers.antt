@@ -1,7 +1,4 @@
-use Rattle.re_match.proofs.Prelude.{arith, ◌+◌, false, Text, Matches, any_literal, lines_of, IsLineFrom}
-use Rattle.re_needle.proofs.lemmas.NeededLines.{finds_literal}
-use Rattle.re_runs.proofs.lemmas.NextLines.{none_next, next_from}
-use Rattle.re_meter.proofs.lemmas.Adding.{adds_within}
+use Rattle.{re_match.proofs.Prelude.{arith, ◌+◌, false, Text, Matches, any_literal, lines_of, IsLineFrom}, re_needle.proofs.lemmas.NeededLines.finds_literal, re_runs.proofs.lemmas.NextLines.{none_next, next_from}, re_meter.proofs.lemmas.Adding.adds_within}
 use Rattle.re_match.proofs.strings.Look.next_line.Goals as goal
 
 pub returns-in-One-clause-reported : goal.returns-in-One-clause-reported

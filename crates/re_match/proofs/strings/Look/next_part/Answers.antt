@@ -1,7 +1,4 @@
-use Rattle.re_match.specs.Working.Aheads.{PassesAtLeast}
-use Rattle.re_match.proofs.Prelude.{subst, sym, ◌-◌, ◌≤◌, length, inl, refl, arith, past}
-use Rattle.re_match.proofs.lemmas.StepSums.{look_and_built, passes_all}
-use Rattle.re_meter.proofs.lemmas.Adding.{adds_passed, adds_within, only_passed}
+use Rattle.{re_match.{specs.Working.Aheads.PassesAtLeast, proofs.{Prelude.{subst, sym, ◌-◌, ◌≤◌, length, inl, refl, arith, past}, lemmas.StepSums.{look_and_built, passes_all}}}, re_meter.proofs.lemmas.Adding.{adds_passed, adds_within, only_passed}}
 use Rattle.re_match.proofs.strings.Look.next_part.Goals as goal
 
 pub returns-then-beyond-bytes-clause-reported : goal.returns-then-beyond-bytes-clause-reported

@@ -1,5 +1,4 @@
-use Rattle.re_match.proofs.Prelude.{inr, None, arith, take_rest}
-use Rattle.re_match.proofs.lemmas.OneText.{no_part, first_part}
+use Rattle.re_match.proofs.{Prelude.{inr, None, arith, take_rest}, lemmas.OneText.{no_part, first_part}}
 use Rattle.re_match.proofs.strings.Look.occurrence.Goals as goal
 
 pub returns-in-Many-clause-reported : goal.returns-in-Many-clause-reported

@@ -1,7 +1,5 @@
-use Rattle.re_match.proofs.Prelude.{◌<◌, length, sym, ap, ◌∙◌, arith, eqb-false}
+use Rattle.{re_match.proofs.{Prelude.{◌<◌, length, sym, ap, ◌∙◌, arith, eqb-false}, lemmas.OneText.past_found}, re_ends.proofs.lemmas.FoundEnds.adds_alike}
 use native.Mathlib.Omega.{by_contra}
-use Rattle.re_ends.proofs.lemmas.FoundEnds.{adds_alike}
-use Rattle.re_match.proofs.lemmas.OneText.{past_found}
 use Rattle.re_match.proofs.strings.Look.put_ends.Goals as goal
 
 pub returns-else-is_empty-clause-added : goal.returns-else-is_empty-clause-added

@@ -1,5 +1,4 @@
-use Rattle.re_match.proofs.Prelude.{lines_of}
-use Rattle.re_needle.proofs.lemmas.NeededLines.{counts_literal}
+use Rattle.{re_match.proofs.Prelude.lines_of, re_needle.proofs.lemmas.NeededLines.counts_literal}
 use Rattle.re_match.proofs.strings.Strings.count_lines.Goals as goal
 
 pub returns-then-not-is_empty-clause-reported : goal.returns-then-not-is_empty-clause-reported

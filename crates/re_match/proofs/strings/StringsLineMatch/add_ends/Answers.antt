@@ -1,6 +1,5 @@
-use Rattle.re_match.proofs.Prelude.{look_expression}
+use Rattle.re_match.proofs.{Prelude.look_expression, lemmas.{StretchLaws.look_shift, WindowLaws.{border_within, ends_of_window, found_within}}}
 use Rattle.re_match.proofs.strings.StringsLineMatch.add_ends.Goals as goal
-use Rattle.re_match.proofs.lemmas.{StretchLaws.look_shift, WindowLaws.border_within, WindowLaws.ends_of_window, WindowLaws.found_within}
 
 pub returns-clause-added : goal.returns-clause-added
 returns-clause-added c =

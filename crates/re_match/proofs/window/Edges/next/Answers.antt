@@ -1,7 +1,5 @@
-use Rattle.re_match.proofs.Prelude.{rules, ℕ, ◌+◌, ◌-◌, ◌<◌, slice_index, arith}
+use Rattle.{re_match.proofs.{Prelude.{rules, ℕ, ◌+◌, ◌-◌, ◌<◌, slice_index, arith}, lemmas.{StepSums.{adds_on, passes_all, passes_rest}, WindowLaws.later_by_run}}, re_meter.proofs.lemmas.Adding.only_passed}
 use Rattle.re_match.proofs.window.Edges.next.Goals as goal
-use Rattle.re_meter.proofs.lemmas.Adding.{only_passed}
-use Rattle.re_match.proofs.lemmas.{StepSums.adds_on, StepSums.passes_all, StepSums.passes_rest, WindowLaws.later_by_run}
 
 pub returns-then-start-line : goal.returns-then-start-line
 returns-then-start-line c = λ e right.

@@ -1,5 +1,4 @@
-use Rattle.re_match.proofs.Prelude.{◌+◌, ◌-◌, arith}
-use Rattle.re_meter.proofs.lemmas.Adding.{adds_within, built_adds}
+use Rattle.{re_match.proofs.Prelude.{◌+◌, ◌-◌, arith}, re_meter.proofs.lemmas.Adding.{adds_within, built_adds}}
 use Rattle.re_match.proofs.window.Edges.start.Goals as goal
 
 pub returns-clause-steps : goal.returns-clause-steps
