@@ -1,8 +1,8 @@
 //! Tests for sets of bytes by the bits that all their bytes share, as the two cases of a letter do.
-ghost use Rattle.std.specs.Prelude.{◌≡◌, ◌==◌, ◌↔◌, ◌+◌, ◌≤◌, ℕ, IfSome, IsTrue, length, slice_index};
-ghost use Rattle.re_trees.specs.Working.Trees.{members};
-ghost use Rattle.re_runs.specs.Working.Runs.{AreAlike, HasBits, mark_of};
-ghost use Rattle.memchr.specs.Lanes.{HasLanes};
+ghost use Rattle.std.specs.Prelude.{◌≡◌, ◌==◌, ◌↔◌, ◌+◌, ◌≤◌, ℕ, IfSome, IsTrue, length};
+ghost use Rattle.std.specs.Prelude.{slice_index};
+ghost use Rattle.{re_trees.specs.Working.Trees.members, re_runs.specs.Working.Runs.AreAlike};
+ghost use Rattle.{re_runs.specs.Working.Runs.{HasBits, mark_of}, memchr.specs.Lanes.HasLanes};
 
 use crate::lanes::{load, with_bits};
 use re_trees::ByteSet;

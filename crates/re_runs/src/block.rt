@@ -1,13 +1,12 @@
 //! Blocks of whole lines: finding one, passing over the first ones, and counting them, at once.
 ghost use Rattle.std.specs.Prelude.{◌≡◌, ◌+◌, ◌<◌, ◌≤◌, ◌↔◌, ◌++◌, ◌∷◌, IsTrue, IfSome};
 ghost use Rattle.std.specs.Prelude.{MatchOption, length, map, take, drop, ⊤, None};
-ghost use Rattle.re_trees.specs.Lines.{newline, lines_of, HasNoNewline};
-ghost use Rattle.re_runs.specs.Working.Blocks.{IsBlock, Lacks, PassesAll};
-ghost use Rattle.re_runs.specs.Working.Blocks.{StandsIn, HoldsOfMany, IsLineFrom, FindsNext};
-ghost use Rattle.re_runs.specs.Working.Blocks.{next_cost, StopsInLine, LooksOnce};
+ghost use Rattle.re_trees.specs.Lines.{lines_of, HasNoNewline, newline};
+ghost use Rattle.re_runs.specs.Working.Runs.{look_cost, FindsRun, LacksRun, Runs};
+ghost use Rattle.re_runs.specs.Working.Blocks.{FindsNext, next_cost, Lacks, IsBlock, HoldsOfMany};
+ghost use Rattle.re_runs.specs.Working.Blocks.{LooksOnce, PassesAll, StopsInLine, StandsIn};
+ghost use Rattle.re_runs.specs.Working.{Blocks.IsLineFrom, Finders.runs_of};
 ghost use Rattle.re_meter.specs.Meters.{many_passed, AddsUpTo};
-ghost use Rattle.re_runs.specs.Working.Finders.{runs_of};
-ghost use Rattle.re_runs.specs.Working.Runs.{Runs, LacksRun, FindsRun, look_cost};
 
 use crate::newline::first_newline;
 use crate::run_finder::RunFinder;

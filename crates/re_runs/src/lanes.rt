@@ -1,6 +1,6 @@
 //! Vectors of 32 bytes. What each lane holds is in the contracts.
-ghost use Rattle.std.specs.Prelude.{◌≡◌, ◌≢◌, ◌==◌, if◌then◌else◌, ◌↔◌, ◌+◌, ◌/◌, ◌%◌, ◌<◌, ◌≤◌, ℕ, length, slice_index, bit_and, min};
-ghost use Rattle.std.specs.Int.{bit_at};
+ghost use Rattle.std.specs.Prelude.{◌≡◌, ◌≢◌, ◌==◌, if◌then◌else◌, ◌↔◌, ◌+◌, ◌/◌, ◌%◌, ◌<◌, ◌≤◌, ℕ};
+ghost use Rattle.std.specs.{Prelude.{length, slice_index, bit_and, min}, Int.bit_at};
 ghost use Rattle.memchr.specs.Lanes.{HasLanes};
 
 use std::simd::prelude::*;

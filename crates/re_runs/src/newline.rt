@@ -1,7 +1,6 @@
 //! The first newline of some bytes.
 ghost use Rattle.std.specs.Prelude.{◌≡◌, ◌+◌, ◌<◌, ◌≤◌, ◌==◌, ◌∷◌, ◌++◌, not, IfSome, MatchOption};
-ghost use Rattle.std.specs.Prelude.{length, take, drop};
-ghost use Rattle.std.specs.List.{prefix_len};
+ghost use Rattle.std.specs.{Prelude.{length, take, drop}, List.prefix_len};
 ghost use Rattle.re_trees.specs.Lines.{newline, HasNoNewline};
 
 use memchr::memchr;

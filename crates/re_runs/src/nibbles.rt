@@ -1,8 +1,8 @@
 //! Tests for sets of bytes by look-ups of a byte's halves. They are the same for all sets, so that
 //! many bytes are tested at once.
 ghost use Rattle.std.specs.Prelude.{◌≡◌, ◌<◌, ◌+◌, ◌≤◌, IfSome, IsTrue, length, slice_index};
-ghost use Rattle.re_trees.specs.Working.Trees.{members};
-ghost use Rattle.re_runs.specs.Working.Runs.{Covers, HasBitFor, HasBitsOfEach, bits_of, sets_of_each};
+ghost use Rattle.{re_trees.specs.Working.Trees.members, re_runs.specs.Working.Runs.Covers};
+ghost use Rattle.re_runs.specs.Working.Runs.{HasBitFor, HasBitsOfEach, bits_of, sets_of_each};
 ghost use Rattle.memchr.specs.Lanes.{HasLanes};
 
 use crate::lanes::{both, by_high, by_low, load};

@@ -1,10 +1,9 @@
 //! Tests of the bytes after a place, for 32 places at once.
-ghost use Rattle.std.specs.Prelude.{◌≡◌, ◌+◌, ◌<◌, ◌≤◌, ℕ, IfSome, length, slice_index};
+ghost use Rattle.std.specs.Prelude.{IfSome, slice_index, ◌≤◌, ◌≡◌, length, ℕ, ◌+◌, ◌<◌};
 ghost use Rattle.std.specs.Int.{bit_at};
-ghost use Rattle.memchr.specs.Find.{Nowhere};
-ghost use Rattle.memchr.specs.Lanes.{HasLanes};
-ghost use Rattle.re_runs.specs.Working.Runs.{AllPass, AreProbesOf, HaveRoom, IsNoWider, IsProbeOf, PassesAt};
-ghost use Rattle.re_runs.specs.Working.Runs.{bits_of, mark_of, sets_of_each};
+ghost use Rattle.memchr.specs.{Find.Nowhere, Lanes.HasLanes};
+ghost use Rattle.re_runs.specs.Working.Runs.{IsProbeOf, AreProbesOf, AllPass, PassesAt, mark_of};
+ghost use Rattle.re_runs.specs.Working.Runs.{HaveRoom, IsNoWider, bits_of, sets_of_each};
 
 use crate::alike::Alike;
 use crate::lanes::{both, lesser, nonzero};

@@ -1,10 +1,10 @@
 //! Search for runs, one of which every match contains.
-ghost use Rattle.std.specs.Prelude.{◌≡◌, ◌↔◌, IsTrue, IfOk, IfSome, MatchOption, ◌≤◌, List, length, map, min};
-ghost use Rattle.re_meter.specs.Meters.{many_passed};
-ghost use Rattle.re_trees.specs.Bytes.{Bytes, only};
-ghost use Rattle.re_trees.specs.Working.Trees.{members};
-ghost use Rattle.re_runs.specs.Working.Finders.{runs_of};
-ghost use Rattle.re_runs.specs.Working.Runs.{FindsRun, IsLongestRun, RunStandsAt, front_of, longest_of, look_cost, one_run};
+ghost use Rattle.std.specs.Prelude.{◌≡◌, ◌↔◌, IsTrue, IfOk, IfSome, MatchOption, ◌≤◌, List, length};
+ghost use Rattle.std.specs.Prelude.{map, min};
+ghost use Rattle.{re_meter.specs.Meters.many_passed, re_trees.specs.Bytes.{Bytes, only}};
+ghost use Rattle.{re_trees.specs.Working.Trees.members, re_runs.specs.Working.Finders.runs_of};
+ghost use Rattle.re_runs.specs.Working.Runs.{FindsRun, IsLongestRun, RunStandsAt, front_of};
+ghost use Rattle.re_runs.specs.Working.Runs.{longest_of, look_cost, one_run};
 
 use crate::set_finder::SetFinder;
 use crate::text_finder::find_text;

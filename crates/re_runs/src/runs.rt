@@ -1,7 +1,9 @@
 //! Runs of sets of bytes, one of which is looked for.
-ghost use Rattle.std.specs.Prelude.{◌≡◌, ◌↔◌, ◌⊎◌, ◌+◌, ◌<◌, ◌≤◌, Some, IfSome, IsTrue, MatchOption, length, map};
-ghost use Rattle.re_trees.specs.Working.Trees.{members};
-ghost use Rattle.re_runs.specs.Working.Runs.{IsLongestRun, IsNoWider, RunIsAt, RunStandsAt, longest_of, sets_of_each, set_at};
+ghost use Rattle.std.specs.Prelude.{◌≡◌, ◌↔◌, ◌⊎◌, ◌+◌, ◌<◌, ◌≤◌, Some, IfSome, IsTrue};
+ghost use Rattle.std.specs.Prelude.{MatchOption, length, map};
+ghost use Rattle.{re_trees.specs.Working.Trees.members, re_runs.specs.Working.Runs.IsLongestRun};
+ghost use Rattle.re_runs.specs.Working.Runs.{IsNoWider, RunIsAt, RunStandsAt, longest_of};
+ghost use Rattle.re_runs.specs.Working.Runs.{sets_of_each, set_at};
 
 use re_trees::ByteSet;
 

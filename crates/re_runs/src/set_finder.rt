@@ -1,12 +1,11 @@
 //! Search for runs of small sets of bytes.
-ghost use Rattle.std.specs.Prelude.{◌≡◌, ℕ, ◌+◌, ◌<◌, ◌≤◌, ◌↔◌, ◌∷◌, [], List, IsTrue, IfOk, IfSome, MatchOption, length, map};
-ghost use Rattle.std.specs.Int.{bit_at};
-ghost use Rattle.memchr.specs.Find.{IsFirst};
-ghost use Rattle.memchr.specs.Lanes.{Marks};
-ghost use Rattle.re_trees.specs.Working.Trees.{members};
-ghost use Rattle.re_trees.specs.declared.bytes.ByteSet.{ByteSet};
-ghost use Rattle.re_runs.specs.Working.Runs.{AllPass, AreProbesOf, FindsRun, HaveRoom, IsLongestRun, IsNoWider, RunStandsAt};
-ghost use Rattle.re_runs.specs.Working.Runs.{longest_of, look_cost, members_of, sets_of_each};
+ghost use Rattle.std.specs.Prelude.{◌≡◌, ℕ, ◌+◌, ◌<◌, ◌≤◌, ◌↔◌, ◌∷◌, [], List, IsTrue, IfOk};
+ghost use Rattle.std.specs.{Prelude.{IfSome, MatchOption, length, map}, Int.bit_at};
+ghost use Rattle.memchr.specs.{Lanes.Marks, Find.IsFirst};
+ghost use Rattle.re_trees.specs.{declared.bytes.ByteSet.ByteSet, Working.Trees.members};
+ghost use Rattle.re_runs.specs.Working.Runs.{AllPass, AreProbesOf, FindsRun, HaveRoom};
+ghost use Rattle.re_runs.specs.Working.Runs.{IsLongestRun, IsNoWider, RunStandsAt, longest_of};
+ghost use Rattle.re_runs.specs.Working.Runs.{look_cost, members_of, sets_of_each};
 ghost use Rattle.re_meter.specs.Meters.{many_passed};
 
 use crate::lanes::{lowest, without};

@@ -1,7 +1,6 @@
 //! Search for a string, counted.
 ghost use Rattle.std.specs.Prelude.{◌≡◌, ◌≤◌, IfSome, length};
-ghost use Rattle.memchr.specs.Find.{FindsNeedle};
-ghost use Rattle.re_meter.specs.Meters.{many_passed};
+ghost use Rattle.{memchr.specs.Find.FindsNeedle, re_meter.specs.Meters.many_passed};
 ghost use Rattle.re_runs.specs.Working.Runs.{look_cost};
 
 use memchr::memmem::Finder;

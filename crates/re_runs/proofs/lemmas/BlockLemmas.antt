@@ -1,8 +1,5 @@
 -- Lines of a block in which something does not begin, as a run of sets or a text.
-use Rattle.re_runs.proofs.Prelude.{◌≡◌, ℕ, ◌+◌, ◌<◌, ◌≤◌, List, [], ◌∷◌, ◌++◌, All, Some, None, length, map, take, drop, get_or, refl, sym, ap, ◌∙◌, subst, arith, append_assoc, append-nil, length-append, length-take, take-append-drop, ⊤, Text, only, newline, terminated, HasNoNewline, ended_lines_of, FindsNeedle, IsBlock, Lacks, PassesAll, Runs, one_run, RunStandsAt, FindsRun, LacksRun, length_push, All-push, All-nil, All-cons}
-use Rattle.re_trees.proofs.lemmas.LinesLaws.{all_none, terminated-append}
-use Rattle.re_trees.proofs.lemmas.EndedLinesLaws.{AreEndedLines-ended_lines_of}
-use Rattle.re_runs.proofs.lemmas.RunLaws.{stands_within, run_before, run_after, text_run, finds_text}
+use Rattle.{re_runs.proofs.{Prelude.{◌≡◌, ℕ, ◌+◌, ◌<◌, ◌≤◌, List, [], ◌∷◌, ◌++◌, All, Some, None, length, map, take, drop, refl, sym, ap, ◌∙◌, arith, append_assoc, append-nil, length-append, length-take, take-append-drop, ⊤, Text, only, newline, terminated, HasNoNewline, ended_lines_of, FindsNeedle, IsBlock, Lacks, PassesAll, Runs, one_run, RunStandsAt, FindsRun, LacksRun, length_push, All-push, All-nil, All-cons}, lemmas.RunLaws.{stands_within, run_before, run_after, text_run, finds_text}}, re_trees.proofs.lemmas.{LinesLaws.{all_none, terminated-append}, EndedLinesLaws.AreEndedLines-ended_lines_of}}
 
 -- ---- where lines begin
 
@@ -37,35 +34,33 @@ module _ (Begins : Text → ℕ → Type 0) (within : (line : Text) (k : ℕ) �
 
       first : Free t
       first k o =
-          let inside : k ≤ length t = within t k o in
-          none k (omega (arith, long, inside))
-          (subst (λ l. Begins l k) (sym (append_assoc t (newline ∷ terminated ts) rest)) (before t (newline ∷ terminated ts ++ rest) k o))
+          let inside = within t k o in
+          none k (omega (arith, long))
+          (rw (append_assoc t (newline ∷ terminated ts) rest) (before t (newline ∷ terminated ts ++ rest) k o))
 
       cut : (t ++ newline ∷ []) ++ (terminated ts ++ rest) ≡ terminated (t ∷ ts) ++ rest
       cut = append_assoc t (newline ∷ []) (terminated ts ++ rest) ∙ sym (append_assoc t (newline ∷ terminated ts) rest)
 
       later : (k : ℕ) → k < length (terminated ts) → ¬ Begins (terminated ts ++ rest) k
-      later k below o =
-          let place : length (t ++ newline ∷ []) + k < length (terminated (t ∷ ts)) = omega (arith, long, below, length-append t (newline ∷ [])) in
-          none (length (t ++ newline ∷ []) + k) place (subst (λ l. Begins l (length (t ++ newline ∷ []) + k)) cut (beyond (t ++ newline ∷ []) (terminated ts ++ rest) k o))
+      later k below o = none (length (t ++ newline ∷ []) + k) (omega (arith, long, length-append t (newline ∷ []))) (rw cut at (beyond (t ++ newline ∷ []) (terminated ts ++ rest) k o))
 
   -- a block in which it begins nowhere is passed as a whole
   pub passes_free_block : (block : Text) → IsBlock block → ((k : ℕ) → k < length block → ¬ Begins block k) → PassesAll Free block (length block)
   passes_free_block block (lines, free, is) none =
-      let all : terminated lines ++ [] ≡ block = append-nil (terminated lines) ∙ sym is in
+      let all = append-nil (terminated lines) ∙ sym is in
       let nowhere : (k : ℕ) → k < length (terminated lines) → ¬ Begins (terminated lines ++ []) k =
-      λ k below o. none k (omega (arith, below, ap length is)) (subst (λ l. Begins l k) all o) in
-      (lines, [], free, lines_free lines [] nowhere, sym all, ap length is)
+      λ k below o. none k (omega (arith, ap length is)) (rw all at o) in
+      (lines, [], free, lines_free _ [] nowhere, sym all, ap length is)
 
   -- the lines before the one in which it begins first are passed
   pub passes_free_front : (block : Text) (at count : ℕ) → at ≤ length block → ((k : ℕ) → k < at → ¬ Begins block k) → PassesAll (λ _. ⊤) (take at block) count → PassesAll Free block count
   passes_free_front block at count inside none (lines, rest, free, any, is, counted) =
-      let low : length (terminated lines) ≤ at = omega (arith, ap length is, length-append (terminated lines) rest, length-take at block, inside) in
-      let all : terminated lines ++ (rest ++ drop at block) ≡ block =
+      let low : length (terminated lines) ≤ at = omega (arith, ap length is, length-append (terminated lines) rest, length-take at block) in
+      let all =
       sym (append_assoc (terminated lines) rest (drop at block)) ∙ ap (λ l. l ++ drop at block) (sym is) ∙ take-append-drop at block in
       let nowhere : (k : ℕ) → k < length (terminated lines) → ¬ Begins (terminated lines ++ (rest ++ drop at block)) k =
-      λ k below o. none k (omega (arith, below, low)) (subst (λ l. Begins l k) all o) in
-      (lines, rest ++ drop at block, free, lines_free lines (rest ++ drop at block) nowhere, sym all, counted)
+      λ k below o. none k (omega arith) (rw all at o) in
+      (lines, rest ++ drop at block, free, lines_free _ _ nowhere, sym all, counted)
 
 -- ---- lines that are passed
 
@@ -90,8 +85,7 @@ passes_after bytes at below cut =
 
 -- a block without the run is passed as a whole
 pub passes_whole_run : (run : Runs) (block : Text) → IsBlock block → FindsRun block run None → PassesAll (LacksRun run) block (length block)
-passes_whole_run run block whole none =
-    passes_free_block (λ l k. RunStandsAt l run k) (λ l k o. stands_within l run k o) (run_before run) (run_after run) block whole (λ k below o. none k (omega arith) (omega (arith, below)) o)
+passes_whole_run run block whole none = passes_free_block (λ l k. RunStandsAt l run k) (λ l k o. stands_within l run k o) (run_before run) (run_after run) block whole (λ k below o. none k (omega arith) (omega arith) o)
 
 -- the lines before the first one with the run are passed
 pub passes_front_run : (run : Runs) (block : Text) (at count : ℕ) → FindsRun block run (Some at) → PassesAll (λ _. ⊤) (take at block) count → PassesAll (LacksRun run) block count
@@ -101,16 +95,16 @@ passes_front_run run block at count (first, stands) front =
 
 -- a line that lacks the run of a text lacks the text
 passes_text : (text block : Text) (count : ℕ) → PassesAll (LacksRun (one_run (map only text))) block count → PassesAll (Lacks text) block count
-passes_text text block count (lines, rest, free, lack, is, counted) = (lines, rest, free, λ i d below k o. lack i d below k (text_run (get_or lines i d) text k o), is, counted)
+passes_text text block count (lines, rest, free, lack, is, counted) = (lines, rest, free, λ i d below k o. lack i d below k (text_run _ _ k o), is, counted)
 
 pub passes_whole : (text block : Text) → IsBlock block → FindsNeedle block text 0 None → PassesAll (Lacks text) block (length block)
-passes_whole text block is none = passes_text text block (length block) (passes_whole_run (one_run (map only text)) block is (finds_text block text None none))
+passes_whole text block is none = passes_text _ _ _ (passes_whole_run (one_run (map only text)) _ is (finds_text block text None none))
 
 pub passes_front : (text block : Text) (at count : ℕ) → FindsNeedle block text 0 (Some at) → PassesAll (λ _. ⊤) (take at block) count → PassesAll (Lacks text) block count
-passes_front text block at count finds front = passes_text text block count (passes_front_run (one_run (map only text)) block at count (finds_text block text (Some at) finds) front)
+passes_front text block at count finds front = passes_text _ _ _ (passes_front_run (one_run (map only text)) _ _ _ (finds_text block text (Some at) finds) front)
 
 -- ---- the first lines of a block
 
 -- lines that are passed end within the block
 pub passed_within : (Holds : Text → Type 0) (block : Text) (count : ℕ) → PassesAll Holds block count → count ≤ length block
-passed_within Holds block count (lines, rest, free, any, is, counted) = omega (arith, counted, ap length is, length-append (terminated lines) rest)
+passed_within Holds block count (lines, rest, free, any, is, counted) = omega (arith, ap length is, length-append (terminated lines) rest)

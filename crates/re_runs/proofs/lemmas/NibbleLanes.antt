@@ -1,7 +1,5 @@
 -- What operations on vectors of 32 bytes hold at each lane, beside those of memchr.
-use Rattle.re_runs.proofs.Prelude.{IsTrue, bits_of, AllPass, Probes, bit_at-zero, bit_at_and, ◌≡◌, ◌≢◌, ◌↔◌, ℕ, ◌+◌, ◌*◌, ◌/◌, ◌%◌, ◌^◌, ◌<◌, List, Bool, true, false, not, cond, eqb, ltb, min, bit_and, length, get_or, slice_index, map, replicate, refl, sym, ap, subst, ◌∙◌, eq-eqb, arith, w8, bit_at, zip2, sel_l, mask_l, top, HasLanes, Text, Alike, Probe, HasBits, mark_of, ltb-true, ltb-false, eqb-true, eqb-false, get_or-zip2, get_or-replicate, length-zip2, length-swz_l, get_or-swz_l_below, swz_l, SwzOk, SwzOk-from_below, Each1-from_get_or, length-sel_l, get_or-sel_l, tops_compared, bitmask_splat, bit_mask_l}
-use Rattle.std.proofs.Math.ListN.{get_or-map}
-use Rattle.memchr.proofs.lemmas.LaneLemmas.{HasLanes-zip2, HasLanes-select}
+use Rattle.{re_runs.proofs.Prelude.{IsTrue, bits_of, AllPass, Probes, bit_at-zero, bit_at_and, ◌≡◌, ◌≢◌, ◌↔◌, ℕ, ◌+◌, ◌*◌, ◌/◌, ◌%◌, ◌^◌, ◌<◌, List, Bool, true, false, not, cond, eqb, ltb, min, bit_and, length, get_or, slice_index, map, replicate, refl, sym, ap, ◌∙◌, eq-eqb, arith, w8, bit_at, zip2, sel_l, mask_l, top, HasLanes, Text, Alike, Probe, HasBits, mark_of, ltb-true, ltb-false, eqb-true, eqb-false, get_or-zip2, get_or-replicate, length-zip2, length-swz_l, get_or-swz_l_below, swz_l, SwzOk, SwzOk-from_below, Each1-from_get_or, length-sel_l, get_or-sel_l, tops_compared, bitmask_splat, bit_mask_l}, std.proofs.Math.ListN.get_or-map, memchr.proofs.lemmas.LaneLemmas.{HasLanes-zip2, HasLanes-select}}
 
 -- an operator on a vector and a splat
 pub with_splat : (f : ℕ → ℕ → ℕ) (a : List ℕ) (x : ℕ) → length a ≡ 32 → HasLanes (zip2 f a (replicate 32 x)) (λ k. f (get_or a k 0) x)
@@ -12,9 +10,7 @@ with_splat f a x p =
 module _ (js : List ℕ) (f : ℕ → ℕ) (h : HasLanes js f) (small : (k : ℕ) → k < 32 → f k < 16) where
   -- places below 16 may be looked up
   pub may_look_up : SwzOk w8 16 32 0 js
-  may_look_up =
-      let long = h.long in
-      SwzOk-from_below w8 16 2 32 0 js refl (omega arith) (Each1-from_get_or (λ j. j < 16) js 0 (λ i l. omega (arith, h.each i (omega arith), small i (omega arith))))
+  may_look_up = SwzOk-from_below w8 16 2 32 0 js refl (omega arith) (Each1-from_get_or (λ j. j < 16) js 0 (λ i l. omega (arith, h.each i (omega arith), small i (omega arith))))
 
   picked : (wide : List ℕ) → HasLanes (swz_l w8 16 wide 0 js) (λ k. get_or wide (16 * (k / 16) + f k) 0)
   picked wide =
@@ -45,8 +41,8 @@ the_lesser x y false is = omega (arith, ltb-false x y is)
 pub lesser_lanes : (a b : List ℕ) → length a ≡ 32 → length b ≡ 32
     → HasLanes (sel_l (map (top 7) (zip2 (λ x y. cond (ltb x y) 255 0) a b)) a b) (λ k. min (get_or a k 0) (get_or b k 0))
 lesser_lanes a b p q =
-    let long : length (zip2 ltb a b) ≡ 32 = length-zip2 ltb a b (p ∙ sym q) ∙ p in
-    subst (λ ms. HasLanes (sel_l ms a b) (λ k. min (get_or a k 0) (get_or b k 0))) (sym (tops_compared w8 ltb a b)) (record {
+    let long = length-zip2 ltb a b (p ∙ sym q) ∙ p in
+    rw (tops_compared w8 ltb a b) (record {
       long = length-sel_l _ a b (long ∙ sym p) (long ∙ sym q) ∙ long;
       each = λ k l.
           get_or-sel_l _ a b k 0 (omega arith) (omega arith) (omega arith)
@@ -76,14 +72,11 @@ pub equal_lanes : (v : List ℕ) (asked bits : ℕ) (chosen : List ℕ) → leng
     → HasLanes (sel_l (map (top 7) (zip2 (λ x y. cond (eqb x y) 255 0) chosen (replicate 32 bits))) (replicate 32 255) (replicate 32 0)) (λ k. cond (eqb (bit_and (get_or v k 0) asked) bits) 255 0)
 equal_lanes v asked bits chosen long h =
     let reported = HasLanes-select eqb chosen bits 255 0 h.long in
-    subst (λ ms. HasLanes (sel_l ms (replicate 32 255) (replicate 32 0)) (λ k. cond (eqb (bit_and (get_or v k 0) asked) bits) 255 0)) (sym (tops_compared w8 eqb chosen (replicate 32 bits)))
-    (record {
-      long = reported.long;
-      each = λ k l. reported.each k l ∙ ap (λ x. cond (eqb x bits) 255 0) (h.each k l ∙ ap (bit_and (get_or v k 0)) (get_or-replicate 32 k asked 0 l));
-    })
+    rw (tops_compared w8 eqb chosen (replicate 32 bits))
+    (record { long = reported.long; each = λ k l. cc (reported.each k l, h.each k l ∙ ap (bit_and (get_or v k 0)) (get_or-replicate 32 k asked 0 l)) })
 
 its_mark : (alike : Alike) (x : ℕ) → HasBits alike x → mark_of alike x ≡ 255
-its_mark alike x has = ap (λ (b : Bool). cond {A = ℕ} b 255 0) (eq-eqb (bit_and x alike.asked) alike.bits has)
+its_mark alike x has = rw (eq-eqb (bit_and x alike.asked) alike.bits has)
 
 -- ---- where probes are passed, by vectors of what their tests give
 
@@ -100,20 +93,20 @@ module _ (each : Bool) (probes : Probes) (line : Text) (place k : ℕ) (all : Al
   -- two marks have all bits in common
   pub both_marked : (v a b : List ℕ) → AreBoth v a b → AreMarks probes.first a → AreMarks probes.second b → get_or v k 0 ≢ 0
   both_marked v a b both first second zero =
-      let left : get_or a k 0 ≡ 255 = first.each k below ∙ its_mark probes.first.alike _ all.first.1 in
-      let right : get_or b k 0 ≡ 255 = second.each k below ∙ its_mark probes.second.alike _ all.second.1 in
-      let one : get_or v k 0 ≡ 255 = both.each k below ∙ ap (λ x. bit_and x (get_or b k 0)) left ∙ ap (bit_and 255) right in
-      absurd (omega (arith, zero, one))
+      let left = first.each k below ∙ its_mark probes.first.alike _ all.first.1 in
+      let right = second.each k below ∙ its_mark probes.second.alike _ all.second.1 in
+      let one : get_or v k 0 ≡ 255 = cc (both.each k below) in
+      absurd (omega arith)
 
   -- neither of two look-ups is 0
   pub two_met : (v a b : List ℕ) → HasLanes v (λ i. min (get_or a i 0) (get_or b i 0)) → AreBits probes.first a → AreBits probes.second b → get_or v k 0 ≢ 0
-  two_met v a b met first second none = omega (arith, met.each k below, first.each k below, second.each k below, all.first.0, all.second.0, none)
+  two_met v a b met first second none = omega (arith, met.each k below, first.each k below, second.each k below)
 
   -- three look-ups have a bit in common
   pub three_met : IsTrue each → (w v a b c : List ℕ) → AreBoth w v c → AreBoth v a b → AreBits probes.first a → AreBits probes.second b → AreBits probes.third c → get_or w k 0 ≢ 0
   three_met several w v a b c more both first second third none =
       let (bit, one, two, three) = all.common several in
-      let its : (x y : ℕ) → x ≡ y → bit_at x bit ≡ bit_at y bit = λ x y is. ap (λ n. bit_at n bit) is in
+      let its : (x y : ℕ) → x ≡ y → bit_at x bit ≡ bit_at y bit = λ x y is. rw is in
       omega (
         arith,
         its _ _ (first.each k below),

@@ -1,11 +1,10 @@
 -- Blocks of whole lines, and what a look at one says of its first lines.
 use Rattle.std.specs.Prelude.{◌≡◌, ℕ, ◌+◌, ◌<◌, ◌≤◌, ◌⊎◌, Bool, List, [], ◌∷◌, ◌++◌, All, length}
 use Rattle.std.specs.Prelude.{drop, slice_range, Option, Some, None, MatchOption}
-use Rattle.re_trees.specs.{Bytes.Text, Expression.Expression, Holds.Matches, Lines.newline}
-use Rattle.re_trees.specs.{Lines.terminated, Lines.HasNoNewline, declared.span.Span.Span}
-use Rattle.memchr.specs.Find.{OccursAt, FindsNeedle}
-use Rattle.re_meter.specs.Meters.{Steps, many_passed}
-use Rattle.re_runs.specs.{declared.block.Swept.Swept, Working.Runs.look_cost}
+use Rattle.re_trees.specs.{Bytes.Text, Lines.{newline, terminated, HasNoNewline}}
+use Rattle.re_trees.specs.{Expression.Expression, Holds.Matches, declared.span.Span.Span}
+use Rattle.{memchr.specs.Find.{OccursAt, FindsNeedle}, re_meter.specs.Meters.{many_passed, Steps}}
+use Rattle.re_runs.specs.{Working.Runs.look_cost, declared.block.Swept.Swept}
 
 -- a newline ends each line of the text
 abbrev pub IsBlock : Text → Type 0

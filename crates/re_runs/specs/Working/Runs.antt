@@ -1,13 +1,11 @@
 -- Choices of runs of sets of bytes: where one of the runs is in a line, and tests that its bytes pass.
 use Rattle.std.specs.Prelude.{◌≡◌, ◌≢◌, ◌==◌, if◌then◌else◌, ℕ, ◌+◌, ◌/◌, ◌%◌, ◌<◌, ◌≤◌, Bool}
 use Rattle.std.specs.Prelude.{IsTrue, List, [], ◌∷◌, All, Any, Option, Some, None, min, max, length}
-use Rattle.std.specs.Prelude.{map, take, bit_and, get_or, slice_index}
-use Rattle.std.specs.{Global.Vec, Int.bit_at}
-use Rattle.re_trees.specs.{Bytes.Bytes, Bytes.Text, Bytes.nothing, declared.bytes.ByteSet.ByteSet}
-use Rattle.re_trees.specs.Working.Trees.{members}
-use Rattle.memchr.specs.Find.{IsFirst}
-use Rattle.re_runs.specs.{declared.alike.Alike.Alike, declared.nibbles.Nibbles.Nibbles}
-use Rattle.re_runs.specs.{declared.probes.Probe.Probe, declared.probes.Probes.Probes}
+use Rattle.std.specs.{Prelude.{map, take, bit_and, get_or, slice_index}, Global.Vec, Int.bit_at}
+use Rattle.re_trees.specs.{Bytes.{Text, Bytes, nothing}, declared.bytes.ByteSet.ByteSet}
+use Rattle.{re_trees.specs.Working.Trees.members, memchr.specs.Find.IsFirst}
+use Rattle.re_runs.specs.declared.{probes.{Probe.Probe, Probes.Probes}, nibbles.Nibbles.Nibbles}
+use Rattle.re_runs.specs.declared.alike.Alike.{Alike}
 
 -- the set at a place of a run
 abbrev pub set_at : List Bytes → ℕ → Bytes

@@ -1,19 +1,17 @@
-use Rattle.re_runs.proofs.Prelude.{◌≤◌, length, take, arith, length-take, ⊤}
-use Rattle.re_runs.proofs.lemmas.BlockLemmas.{passes_front, passes_whole, passed_within}
-use Rattle.re_runs.proofs.lemmas.Looks.{look_in_line, none_after}
+use Rattle.re_runs.proofs.{Prelude.{◌≤◌, length, arith}, lemmas.{BlockLemmas.{passes_front, passes_whole}, Looks.{look_in_line, none_after}}}
 use Rattle.re_runs.proofs.block.first_line_with.Goals as goal
 
 pub returns-in_default-clause-passes : goal.returns-in_default-clause-passes
-returns-in_default-clause-passes c = rw c.nothing_in.ensures.start (passes_whole c.args.finder.now c.args.block.now c.requires c.in_default.ensures.found)
+returns-in_default-clause-passes c = rw c.nothing_in.ensures.start (passes_whole _ _ c.requires c.in_default.ensures.found)
 
 pub returns-in_default-clause-stops : goal.returns-in_default-clause-stops
-returns-in_default-clause-stops c = λ end. none_after c.args.block.now _ end _ c.nothing_in.ensures.start
+returns-in_default-clause-stops c = λ end. none_after c.args.block.now end _ c.nothing_in.ensures.start
 
 pub returns-in_default-clause-counted : goal.returns-in_default-clause-counted
 returns-in_default-clause-counted c = rw c.nothing_in.ensures.place c.in_default.ensures.counted
 
 pub returns-clause-passes : goal.returns-clause-passes
-returns-clause-passes c = passes_front c.args.finder.now c.args.block.now c.in-Some.at c.line_start.result c.in-Some.ensures.found c.line_start.ensures.lines
+returns-clause-passes c = passes_front _ _ _ _ c.in-Some.ensures.found c.line_start.ensures.lines
 
 pub returns-in_default-clause-within : goal.returns-in_default-clause-within
 returns-in_default-clause-within c = rw c.nothing_in.ensures.place tt
@@ -25,5 +23,4 @@ pub returns-clause-stops : goal.returns-clause-stops
 returns-clause-stops c = λ end.
     let block = c.args.block.now in
     let fits : c.in-Some.at ≤ length block = let high = c.in-Some.ensures.found.0.high in omega (arith, high) in
-    let low : c.line_start.result ≤ c.in-Some.at = omega (arith, passed_within (λ _. ⊤) (take c.in-Some.at block) c.line_start.result c.line_start.ensures.lines, length-take c.in-Some.at block) in
-    look_in_line block c.line_start.result c.in-Some.at end fits low c.line_start.ensures.last
+    look_in_line block c.line_start.result c.in-Some.at end fits c.line_start.ensures.lines c.line_start.ensures.last

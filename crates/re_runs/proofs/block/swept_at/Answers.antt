@@ -1,13 +1,11 @@
-use Rattle.re_runs.proofs.Prelude.{◌≤◌, length, take, arith, length-take, ⊤}
-use Rattle.re_runs.proofs.lemmas.BlockLemmas.{passes_front_run, passes_whole_run, passed_within}
-use Rattle.re_runs.proofs.lemmas.Looks.{look_in_line, none_after}
+use Rattle.re_runs.proofs.{Prelude.{take, arith, length-take, ⊤}, lemmas.{BlockLemmas.{passes_front_run, passes_whole_run, passed_within}, Looks.{look_in_line, none_after}}}
 use Rattle.re_runs.proofs.block.swept_at.Goals as goal
 
 pub returns-in_default-clause-passes : goal.returns-in_default-clause-passes
-returns-in_default-clause-passes c = λ run finds. rw c.nothing_in.ensures.start (passes_whole_run run c.args.block.now c.requires.block (rw c.in_default.is at finds))
+returns-in_default-clause-passes c = λ run finds. rw c.nothing_in.ensures.start (passes_whole_run _ _ c.requires.block (rw c.in_default.is at finds))
 
 pub returns-in_default-clause-stops : goal.returns-in_default-clause-stops
-returns-in_default-clause-stops c = λ end. none_after c.args.block.now _ end _ c.nothing_in.ensures.start
+returns-in_default-clause-stops c = λ end. none_after c.args.block.now end _ c.nothing_in.ensures.start
 
 pub returns-in_default-clause-low : goal.returns-in_default-clause-low
 returns-in_default-clause-low c = rw c.nothing_in.ensures.place tt
@@ -20,7 +18,5 @@ returns-clause-low c = omega (arith, passed_within (λ _. ⊤) (take c.in-Some.a
 
 pub returns-clause-stops : goal.returns-clause-stops
 returns-clause-stops c = λ end.
-    let block = c.args.block.now in
-    let fits : c.in-Some.at ≤ length block = rw c.in-Some.is at c.requires.within in
-    let low : c.line_start.result ≤ c.in-Some.at = omega (arith, passed_within (λ _. ⊤) (take c.in-Some.at block) c.line_start.result c.line_start.ensures.lines, length-take c.in-Some.at block) in
-    look_in_line block c.line_start.result c.in-Some.at end fits low c.line_start.ensures.last
+    let fits = rw c.in-Some.is at c.requires.within in
+    look_in_line c.args.block.now c.line_start.result c.in-Some.at end fits c.line_start.ensures.lines c.line_start.ensures.last

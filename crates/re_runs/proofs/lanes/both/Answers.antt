@@ -1,5 +1,4 @@
-use Rattle.re_runs.proofs.Prelude.{bit_and}
-use Rattle.memchr.proofs.lemmas.LaneLemmas.{HasLanes-zip2}
+use Rattle.{re_runs.proofs.Prelude.bit_and, memchr.proofs.lemmas.LaneLemmas.HasLanes-zip2}
 use Rattle.re_runs.proofs.lanes.both.Goals as goal
 
 pub returns : goal.returns

@@ -1,5 +1,4 @@
-use Rattle.re_runs.proofs.Prelude.{◌≡◌, ℕ, ◌%◌, List, length, get_or, replicate, ◌∙◌, arith, bit_and, HasLanes, zip2, and_mask}
-use Rattle.re_runs.proofs.lemmas.NibbleLanes.{with_splat, may_look_up, looked_up}
+use Rattle.re_runs.proofs.{Prelude.{◌≡◌, ℕ, ◌%◌, List, length, get_or, replicate, ◌∙◌, arith, bit_and, HasLanes, zip2, and_mask}, lemmas.NibbleLanes.{with_splat, may_look_up, looked_up}}
 use Rattle.re_runs.proofs.lanes.by_low.Goals as goal
 
 low : (v : List ℕ) → length v ≡ 32 → HasLanes (zip2 bit_and v (replicate 32 15)) (λ k. get_or v k 0 % 16)
@@ -8,7 +7,7 @@ low v long =
     record { long = h.long; each = λ k l. h.each k l ∙ and_mask (get_or v k 0) 4 }
 
 pub swizzle : goal.swizzle
-swizzle c = may_look_up _ _ (low c.args.v c.fits-v.0) (λ k l. omega arith)
+swizzle c = may_look_up _ _ (low _ c.fits-v.0) (λ k l. omega arith)
 
 pub returns : goal.returns
-returns c = looked_up _ _ (low c.args.v c.fits-v.0) (λ k l. omega arith) c.args.table.now c.twice.ensures
+returns c = looked_up _ _ (low _ c.fits-v.0) (λ k l. omega arith) _ c.twice.ensures

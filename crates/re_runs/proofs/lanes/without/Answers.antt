@@ -1,4 +1,4 @@
-use Rattle.re_runs.proofs.Prelude.{◌≡◌, suc, ◌-◌, ◌*◌, ◌%◌, ◌^◌, ◌<◌, sym, ap, subst, ◌∙◌, arith, w64, bit_and, bit_not, bit_at_clear_other, bit_at_and, and_pow, and-not, and_comm, pow_pos, pow_mono, two-pow-succ}
+use Rattle.re_runs.proofs.Prelude.{◌≡◌, suc, ◌-◌, ◌*◌, ◌%◌, ◌^◌, ◌<◌, ap, ◌∙◌, arith, w64, bit_not, bit_at_clear_other, bit_at_and, and_pow, and-not, and_comm, pow_pos, pow_mono, two-pow-succ}
 use Rattle.re_runs.proofs.lanes.without.Goals as goal
 
 pub returns-clause-kept : goal.returns-clause-kept
@@ -14,5 +14,5 @@ returns-clause-smaller c =
     let small : 2 ^ k < 2 ^ 64 = omega (arith, two-pow-succ k, pow_pos k, pow_mono {i = suc k} {j = 64} (omega arith)) in
     let one : 1 * 2 ^ k % 2 ^ 64 ≡ 2 ^ k = omega arith in
     let parts = and-not 64 (2 ^ k) m small c.ranges.marks.fits in
-    let there : bit_and (2 ^ k) m ≡ 1 * 2 ^ k = and_comm _ _ ∙ and_pow m k ∙ ap (λ x. x * 2 ^ k) c.requires.set in
-    subst (λ x. bit_and m (2 ^ 64 - 1 - x) < m) (sym one) (omega (arith, and_comm m (2 ^ 64 - 1 - 2 ^ k), pow_pos k))
+    let there = and_comm _ _ ∙ and_pow m k ∙ ap (λ x. x * 2 ^ k) c.requires.set in
+    rw one (omega (arith, and_comm m (2 ^ 64 - 1 - 2 ^ k), pow_pos k))

@@ -1,9 +1,7 @@
-use Rattle.re_runs.proofs.Prelude.{rules, ◌≡◌, map, take, ap, ◌∙◌, sym, take_min, members, most_sets}
-use Rattle.std.proofs.lemmas.List.{take-map}
+use Rattle.{re_runs.proofs.Prelude.{rules, ◌≡◌, map, take, ap, ◌∙◌, sym, take_min, members, most_sets}, std.proofs.lemmas.List.take-map}
 use Rattle.re_runs.proofs.run_finder.first_sets.Goals as goal
 
 pub returns : goal.returns
 returns c =
-    let sets = c.args.sets.now in
-    let items : c.extend_from_slice.new.self.items ≡ take c.min.result sets = search rules in
-    ap (map members) (items ∙ rw c.min.ensures (take_min most_sets sets)) ∙ sym (take-map members most_sets sets)
+    let items : c.extend_from_slice.new.self.items ≡ take c.min.result c.args.sets.now = search rules in
+    ap (map members) (items ∙ rw c.min.ensures (take_min most_sets c.args.sets.now)) ∙ sym (take-map members most_sets c.args.sets.now)

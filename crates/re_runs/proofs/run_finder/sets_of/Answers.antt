@@ -1,5 +1,4 @@
-use Rattle.re_runs.proofs.Prelude.{rules, ◌≡◌, map, take, length, min, ap, ◌∙◌, sym, take_min, only, most_sets}
-use Rattle.std.proofs.lemmas.List.{take-map}
+use Rattle.{re_runs.proofs.Prelude.{rules, ◌≡◌, map, take, length, min, ap, ◌∙◌, sym, take_min, only, most_sets}, std.proofs.lemmas.List.take-map}
 use Rattle.re_runs.proofs.run_finder.sets_of.Goals as goal
 
 pub returns : goal.returns

@@ -1,5 +1,4 @@
-use Rattle.re_runs.proofs.Prelude.{sets_of_each}
-use Rattle.re_runs.proofs.lemmas.RunLaws.{IsLongestOf}
+use Rattle.re_runs.proofs.{Prelude.sets_of_each, lemmas.RunLaws.IsLongestOf}
 use Rattle.re_runs.proofs.runs.longest_end.Given as goal
 
 abbrev pub invariant-runs : goal.invariant-runs

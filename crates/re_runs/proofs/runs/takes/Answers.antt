@@ -1,5 +1,4 @@
-use Rattle.re_runs.proofs.Prelude.{sym, ap, ◌∙◌, Bytes, nothing, members}
-use Rattle.std.proofs.lemmas.List.{get_or-map}
+use Rattle.{re_runs.proofs.Prelude.{sym, ap, ◌∙◌, Bytes, nothing, members}, std.proofs.lemmas.List.get_or-map}
 use Rattle.re_runs.proofs.runs.takes.Goals as goal
 
 pub returns : goal.returns
