@@ -1,14 +1,12 @@
 -- All patterns were read again.
-use Rattle.grep_session.proofs.Prelude.{◌≡◌, Bool, true, false, IsTrue, MatchBool, List, [], map, Option, None, Some, IfSome, Result, Ok, Err, All, inl, inr, refl, sym, ap, subst, ◌∙◌, AllZip, Text, AreParts, IsMeant, Matcher, KeptFile, KeptLine, Syntax, Expression, IsReadable, matched_expression, Flag, Count, Options, Inputs, EditFault, NoSuchFile, FileIsMissing, OutOfRange, LineHasNewline, NoSuchPattern, Pattern, TooManyPatterns, Memory, ReadsAgain, read_as, SetFlag, SetSyntax, Applies, EditGives, option_of, with_option, AreMatching, IsKept, IsFileKept, kept_lines, span_places, AreMatchers, RefusesFirst, false≢true, All-weaker}
-use Rattle.re_search.specs.Working.Matchers.{AreAlike}
+use Rattle.grep_session.proofs.Prelude.{get_or, ◌≡◌, Bool, true, false, IsTrue, MatchBool, List, [], map, Option, None, Some, IfSome, Result, Ok, Err, All, inl, inr, refl, sym, ap, Text, AreParts, Matcher, KeptFile, KeptLine, Syntax, Expression, IsReadable, Flag, Count, Options, Inputs, EditFault, NoSuchFile, FileIsMissing, OutOfRange, LineHasNewline, NoSuchPattern, Pattern, TooManyPatterns, Memory, ReadsAgain, read_as, SetFlag, SetSyntax, Applies, EditGives, option_of, with_option, IsKept, IsFileKept, kept_lines, span_places, AreMatchers, RefusesFirst, false≢true}
 use Rattle.std.specs.Bool.{⊤}
 
 -- some pattern was refused, or memory ran out
 pub refuses_again : (T : Type 0) (syntax : Syntax) (options : Options) (old : Inputs) (fault : EditFault) → RefusesFirst syntax options.ignore_case old.patterns fault → ReadsAgain {T = T} syntax options old old (Err fault)
-refuses_again T syntax options old fault (inl memory) = subst (λ f. ReadsAgain {T = T} syntax options old old (Err f)) (sym memory) refl
+refuses_again T syntax options old fault (inl memory) = rw memory refl
 refuses_again T syntax options old fault (inr reported) =
-    let first = reported.2 in
-    subst (λ f. ReadsAgain {T = T} syntax options old old (Err f)) (sym reported.3) (inr ((λ all. first.unreadable (all reported.0 [] first.in_texts)), (reported.0, reported.1, first, refl)), refl)
+    rw reported.3 (inr ((λ all. reported.2.unreadable (all reported.0 [] reported.2.in_texts)), (reported.0, reported.1, reported.2, refl)), refl)
 
 -- another syntax
 pub sets_syntax : {T : Type 0} (syntax : Syntax) (old new : Inputs) (result : Result T EditFault) → ReadsAgain syntax old.options old new result → EditGives (SetSyntax syntax) old new result
@@ -26,29 +24,29 @@ module _ (es : List Expression) (old new : Options) (same : new.line_regexp ≡ 
   -- under options that ask for no more parts, what is kept of a line stays right
   module _ (less : IsTrue new.only_matching → IsTrue old.only_matching) where
     kept_line : (line : KeptLine) → IsKept es old line → IsKept es new line
-    kept_line line k = record { matching = subst (λ w. AreMatching line.text w 0 es line.found.numbers) (sym same) k.matching; parts = by_flags new.only_matching old.only_matching less k.parts }
+    kept_line line k = record { matching = rw same k.matching; parts = by_flags _ _ less k.parts }
       where
         Kept : Bool → Bool → Type 0
         Kept asked whole = MatchBool asked (AreParts es line.text whole (map span_places line.found.spans)) ⊤
 
         by_flags : (n o : Bool) → (IsTrue n → IsTrue o) → Kept o old.line_regexp → Kept n new.line_regexp
-        by_flags true true f h = subst (Kept true) (sym same) h
+        by_flags true true f h = rw same h
         by_flags true false f h = absurd (false≢true (f refl))
         by_flags false o f h = tt
 
     pub kept_files : (files : List KeptFile) → All (IsFileKept es old) files → All (IsFileKept es new) files
-    kept_files files all = All-weaker (IsFileKept es old) (IsFileKept es new) (λ file. one (kept_lines file)) files all
+    kept_files files all i d lt = one (kept_lines (get_or files i d)) (all i d lt)
       where
         one : (lines : Option (List KeptLine)) → IfSome lines (All (IsKept es old)) → IfSome lines (All (IsKept es new))
         one None h = tt
-        one (Some lines) h = All-weaker (IsKept es old) (IsKept es new) kept_line lines h
+        one (Some lines) h = λ i d lt. kept_line _ (h i d lt)
 
 -- the matchers are those of the patterns under options with the same `-x` and `-i`, too
-pub AreMatchers-options : (syntax : Syntax) (old new : Options) (texts : List Text) (matchers : List Matcher) → new.line_regexp ≡ old.line_regexp → new.ignore_case ≡ old.ignore_case → AreMatchers syntax old texts matchers → AreMatchers syntax new texts matchers
-AreMatchers-options syntax old new texts matchers whole case s = record {
-  meant = subst (λ fold. AllZip (λ text e. IsMeant syntax fold text e) texts (map matched_expression matchers)) (sym case) s.meant;
-  wholes = subst (λ w. AreAlike w matchers) (sym whole) s.wholes;
-  readable = subst (λ fold. All (IsReadable syntax fold) texts) (sym case) s.readable;
+pub AreMatchers-options : (syntax : Syntax) (old new : Options) {texts : List Text} (matchers : List Matcher) → new.line_regexp ≡ old.line_regexp → new.ignore_case ≡ old.ignore_case → AreMatchers syntax old texts matchers → AreMatchers syntax new texts matchers
+AreMatchers-options syntax old new matchers whole case s = record {
+  meant = rw case s.meant;
+  wholes = rw whole s.wholes;
+  readable = rw case s.readable;
   counted = s.counted;
 }
 
@@ -74,10 +72,10 @@ with_same _ options = refl
 -- options that read the patterns as before
 pub applies_flag : (flag : Flag) (on : Bool) (old : Inputs) → (with_option flag on old.options).ignore_case ≡ old.options.ignore_case → All (IsReadable old.syntax old.options.ignore_case) old.patterns
     → Applies (SetFlag flag on) old (Ok (read_as old.syntax (with_option flag on old.options) old))
-applies_flag flag on old case readable = inl (subst (λ fold. All (IsReadable old.syntax fold) old.patterns) (sym case) readable, refl)
+applies_flag flag on old case readable = inl (rw case readable, refl)
 
 -- an option that is set to its present value
 pub applies_same : (flag : Flag) (on : Bool) (old : Inputs) → option_of flag old.options ≡ on → All (IsReadable old.syntax old.options.ignore_case) old.patterns → Applies (SetFlag flag on) old (Ok old)
 applies_same flag on old same readable =
-    let options : with_option flag on old.options ≡ old.options = ap (λ b. with_option flag b old.options) (sym same) ∙ with_same flag old.options in
-    inl (subst (λ (o : Options). All (IsReadable old.syntax o.ignore_case) old.patterns) (sym options) readable, ap (λ o. Ok (record old { options = o })) (sym options))
+    let options : with_option flag on old.options ≡ old.options = cc (with_same flag old.options) in
+    inl (rw options readable, ap (λ o. Ok (record old { options = o })) (sym options))

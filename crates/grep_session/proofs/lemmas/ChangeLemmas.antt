@@ -1,8 +1,7 @@
 -- What is found in a line after a change of the patterns.
-use Rattle.grep_session.proofs.Prelude.{◌≡◌, ℕ, ◌+◌, ◌-◌, ◌<◌, ◌≤◌, ◌⊎◌, Bool, true, false, not, ◌||◌, List, [], ◌∷◌, ◌++◌, inl, inr, length, map, All, All-weaker, append-nil, anew, Finds, IsNew, MatchBool, Any, Decides, get_or, refl, sym, ap, subst, ◌∙◌, arith, nat_eq, list_any, Text, Expression, Matches, AreParts, Options, Matched, KeptLine, Change, Span, ArePartsAgain, has_new_parts, has_number, has_own, left_numbers, HasChanged, HasNewParts, AreMatching, AddsMatching, ArePartsKept, IsKept, span_places, false≢true}
-use Rattle.std.specs.Bool.{⊤}
+use Rattle.grep_session.proofs.Prelude.{◌≡◌, ℕ, ◌+◌, ◌-◌, ◌<◌, ◌≤◌, ◌⊎◌, Bool, true, false, ◌||◌, List, [], ◌++◌, inl, inr, length, map, All, append-nil, anew, IsNew, MatchBool, Decides, refl, sym, ap, ◌∙◌, arith, nat_eq, Text, Expression, Matches, AreParts, Options, Matched, KeptLine, Change, Span, ArePartsAgain, has_new_parts, has_number, has_own, left_numbers, HasChanged, HasNewParts, AreMatching, AddsMatching, ArePartsKept, IsKept, span_places, false≢true, subst}
+use Rattle.std.{specs.Bool.⊤, proofs.lemmas.List.Folds.list_any-append}
 use Rattle.std.proofs.lemmas.Bool.Decides.{Decides-at, Decides-like, Decides-or}
-use Rattle.std.proofs.lemmas.List.Folds.{list_any-append}
 use Rattle.re_syntax.proofs.lemmas.SomeOfJoined.{Any-append-cases, Any-left, Any-right}
 use Rattle.grep_core.proofs.lemmas.Verdicts.{decided_no, decided_yes}
 use Rattle.grep_session.proofs.lemmas.NumberLemmas.{At, at_either, at_first, at_rest, left_number, none_match, own_decides}
@@ -27,15 +26,15 @@ module _ (es before : List Expression) (options : Options) (line : KeptLine) (nu
       by_marks : (m a : Bool) → (m ≡ false → numbers ≡ []) → (a ≡ false → (ps : List (ℕ × ℕ)) → AreParts before line.text options.line_regexp ps → AreParts es line.text options.line_regexp ps)
           → (a ≡ false → Kept true before line.found.spans) → options.only_matching ≡ true → ArePartsAgain m a es options line spans → Kept options.only_matching es spans
       by_marks false a none stay kept e are =
-          let nothing : AreParts es line.text options.line_regexp [] = no_parts line.text options.line_regexp es (subst (AreMatching line.text options.line_regexp 0 es) (none refl) matching) in
-          subst (λ ss. Kept options.only_matching es ss) (sym are) (subst (λ b. Kept b es []) (sym e) nothing)
+          let nothing = no_parts line.text options.line_regexp es (rw (none refl) at matching) in
+          rw are (rw e nothing)
       by_marks true true none stay kept e are = are
       by_marks true false none stay kept e are =
-          subst (λ ss. Kept options.only_matching es ss) (sym are) (subst (λ b. Kept b es line.found.spans) (sym e) (stay refl (map span_places line.found.spans) (kept refl)))
+          rw are (rw e (stay refl (map span_places line.found.spans) (kept refl)))
 
       by_flag : (asked : Bool) → options.only_matching ≡ asked → Kept options.only_matching es spans
-      by_flag true e = by_marks matched anew none stay (λ off. subst (λ b. Kept b before line.found.spans) e (kept off)) e (are e)
-      by_flag false e = subst (λ b. Kept b es spans) (sym e) tt
+      by_flag true e = by_marks _ _ none stay (λ off. rw e at (kept off)) e (are e)
+      by_flag false e = rw e tt
 
 -- ---- a line after a change
 
@@ -45,8 +44,8 @@ neither false b off = (refl, off)
 
 -- an expression that is as good under one flag as under the other, or is none
 turned : (line : Text) (u v : Bool) (es : List Expression) (first n : ℕ) (d : Expression) → (v ≡ u) ⊎ (es ≡ []) → At line u first es n d → At line v first es n d
-turned line u v es first n d (inl same) p = subst (λ w. At line w first es n d) (sym same) p
-turned line u v es first n d (inr none) p = absurd (let no : ⊥ = omega (arith, p.0, p.1, ap length none) in no)
+turned line u v es first n d (inl same) p = rw same p
+turned line u v es first n d (inr none) p = absurd (omega (arith, p.0, p.1, ap length none))
 
 back_again : {v u : Bool} {es : List Expression} → (v ≡ u) ⊎ (es ≡ []) → (u ≡ v) ⊎ (es ≡ [])
 back_again (inl same) = inl (sym same)
@@ -60,7 +59,7 @@ module _ {change : Change} {es : List Expression} {options : Options} (h : HasCh
   whole = options.line_regexp
 
   was : AreMatching text h.was.line_regexp 0 (h.front ++ (h.gone ++ h.back)) line.found.numbers
-  was = subst (λ l. AreMatching text h.was.line_regexp 0 l line.found.numbers) h.old k.matching
+  was = rw h.old at k.matching
 
   front_alike : (whole ≡ h.was.line_regexp) ⊎ (h.front ≡ [])
   front_alike = elim h.alike [ inl same ↦ inl same | inr none ↦ inr none.0 ]
@@ -83,18 +82,18 @@ module _ {change : Change} {es : List Expression} {options : Options} (h : HasCh
     moves : change.first + change.gone ≤ m → n ≡ m - (change.gone - change.come) → At text h.was.line_regexp (0 + length h.front + length h.gone) h.back m d → At text whole (0 + length h.front + length h.come) h.back n d
     moves low same p = turned text h.was.line_regexp whole h.back _ n d back_alike (elim h.fits [
       | inl fewer ↦ (
-          let place : m - (0 + length h.front + length h.gone) ≡ n - (0 + length h.front + length h.come) = omega (arith, low, same, fewer, h.at, h.went, h.came) in
-          (omega (arith, low, same, fewer, h.at, h.went, h.came), omega (arith, p.1, low, same, fewer, h.at, h.went, h.came), subst (λ i. Matches (get_or h.back i d) text h.was.line_regexp) place p.2))
-      | inr none ↦ absurd (let no : ⊥ = omega (arith, p.0, p.1, ap length none) in no)
+          let place : m - (0 + length h.front + length h.gone) ≡ n - (0 + length h.front + length h.come) = omega arith in
+          (omega arith, omega arith, rw place at p.2))
+      | inr none ↦ absurd (omega (arith, p.0, p.1, ap length none))
     ])
 
     moved : At text whole (0 + length h.front + length h.come) h.back n d → m ≡ n + (change.gone - change.come) → (change.first + change.gone ≤ m) × (n ≡ m - (change.gone - change.come)) × At text h.was.line_regexp (0 + length h.front + length h.gone) h.back m d
     moved q is = elim h.fits [
       | inl fewer ↦ (
           let p = turned text whole h.was.line_regexp h.back _ n d (back_again back_alike) q in
-          let place : n - (0 + length h.front + length h.come) ≡ m - (0 + length h.front + length h.gone) = omega (arith, is, q.0, fewer, h.went, h.came) in
-          (omega (arith, is, q.0, fewer, h.at, h.went, h.came), omega (arith, is), (omega (arith, is, q.0, fewer, h.went, h.came), omega (arith, is, q.0, q.1, fewer, h.went, h.came), subst (λ i. Matches (get_or h.back i d) text h.was.line_regexp) place p.2)))
-      | inr none ↦ absurd (let no : ⊥ = omega (arith, q.0, q.1, ap length none) in no)
+          let place : n - (0 + length h.front + length h.come) ≡ m - (0 + length h.front + length h.gone) = omega arith in
+          (omega arith, omega arith, (omega arith, omega arith, rw place at p.2)))
+      | inr none ↦ absurd (omega (arith, q.0, q.1, ap length none))
     ]
 
   left_decides : (n : ℕ) (d : Expression) → Decides (has_number n left) (Stays n d)
@@ -116,15 +115,15 @@ module _ {change : Change} {es : List Expression} {options : Options} (h : HasCh
       ]
 
       from : Stays n d → Left n
-      from (inl f) = (n, (was n d).1 (at_first text h.was.line_regexp 0 h.front (h.gone ++ h.back) n d (turned text whole h.was.line_regexp h.front 0 n d (back_again front_alike) f)), inl (omega (arith, f.1, h.at), refl))
+      from (inl f) = (n, (was n d).1 (at_first text h.was.line_regexp 0 _ _ n d (turned _ _ _ _ 0 n d (back_again front_alike) f)), inl (omega arith, refl))
       from (inr b) =
           let m = n + (change.gone - change.come) in
           let q = moved n m d b refl in
-          (m, (was m d).1 (at_rest text h.was.line_regexp 0 h.front (h.gone ++ h.back) m d (at_rest text h.was.line_regexp (0 + length h.front) h.gone h.back m d q.2)), inr (q.0, q.1))
+          (m, (was m d).1 (at_rest text h.was.line_regexp 0 _ _ m d (at_rest text h.was.line_regexp _ _ _ m d q.2)), inr (q.0, q.1))
 
   -- whether one that went matched it
   pub went_decides : options ≡ h.was → Decides (has_own change.first change.gone line.found.numbers) (Matched h.gone options text)
-  went_decides same = subst (λ (o : Options). Decides (has_own change.first change.gone line.found.numbers) (Matched h.gone o text)) (sym same) (own_decides text h.was.line_regexp change.first change.gone h.front h.gone h.back line.found.numbers h.at h.went was)
+  went_decides same = rw same (own_decides _ _ _ _ _ _ _ _ h.at h.went was)
 
   module _ (new : List ℕ) (a : AddsMatching text whole change.first h.come left new) where
     -- the numbers are right
@@ -135,21 +134,21 @@ module _ {change : Change} {es : List Expression} {options : Options} (h : HasCh
         found = subst (λ n. AreMatching text whole n h.come a.found) (omega (arith, h.at)) a.are_found
 
         to : (n : ℕ) (d : Expression) → Stays n d ⊎ At text whole (0 + length h.front) h.come n d → At text whole 0 (h.front ++ (h.come ++ h.back)) n d
-        to n d (inl (inl f)) = at_first text whole 0 h.front (h.come ++ h.back) n d f
-        to n d (inl (inr b)) = at_rest text whole 0 h.front (h.come ++ h.back) n d (at_rest text whole (0 + length h.front) h.come h.back n d b)
-        to n d (inr c) = at_rest text whole 0 h.front (h.come ++ h.back) n d (at_first text whole (0 + length h.front) h.come h.back n d c)
+        to n d (inl (inl f)) = at_first text whole 0 _ _ n d f
+        to n d (inl (inr b)) = at_rest text whole 0 _ _ n d (at_rest text whole _ _ _ n d b)
+        to n d (inr c) = at_rest text whole 0 _ _ n d (at_first text whole _ _ _ n d c)
 
         from : (n : ℕ) (d : Expression) → At text whole 0 (h.front ++ (h.come ++ h.back)) n d → Stays n d ⊎ At text whole (0 + length h.front) h.come n d
-        from n d p = elim (at_either text whole 0 h.front (h.come ++ h.back) n d p) [
+        from n d p = elim (at_either text whole 0 _ _ n d p) [
           | inl f ↦ inl (inl f)
-          | inr r ↦ elim (at_either text whole (0 + length h.front) h.come h.back n d r) [
+          | inr r ↦ elim (at_either text whole _ _ _ n d r) [
             | inl c ↦ inr c
             | inr b ↦ inl (inr b)
           ]
         ]
 
     came_decides : Decides (has_own change.first change.come new) (Matched h.come options text)
-    came_decides = own_decides text whole change.first change.come h.front h.come h.back new h.at h.came (subst (λ l. AreMatching text whole 0 l new) h.new numbers_right)
+    came_decides = own_decides _ _ _ _ _ _ _ _ h.at h.came (rw h.new at numbers_right)
 
     abbrev again : Bool
     again = has_own change.first change.gone line.found.numbers || has_own change.first change.come new
@@ -231,7 +230,7 @@ parts_anew es was options same = record {
 
 -- in new lines no expression has found anything
 pub new_kept : (options : Options) (lines : List KeptLine) → All IsNew lines → All (IsKept [] (record options { only_matching = false })) lines
-new_kept options = All-weaker IsNew (IsKept [] (record options { only_matching = false })) (λ line new. record {
-  matching = subst (λ (f : Finds). AreMatching line.text options.line_regexp 0 [] f.numbers) (sym new) (λ n d. decided_no (λ p. let no : ⊥ = omega (arith, p.1) in no));
+new_kept options lines new i d lt = record {
+  matching = rw (new i d lt) (λ n d. decided_no (λ p. omega arith));
   parts = tt;
-})
+}

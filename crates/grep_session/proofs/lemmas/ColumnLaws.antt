@@ -1,30 +1,24 @@
 -- What is found in the lines of a chunk after a change, from what is found in each line.
-use Rattle.grep_session.proofs.Prelude.{◌≡◌, ℕ, ◌+◌, ◌-◌, ◌*◌, ◌<◌, ◌≤◌, ◌==◌, Bool, true, false, not, ◌||◌, Any, MatchBool, Decides, take, drop, Matches, StaysSame, Chosen, IsSought, IsParted, is_parted, is_sought, had_gone, has_own, is_other, came, marked_cost, pairs_cost, parting, if◌then◌else◌, List, [], ◌∷◌, ◌++◌, All, inl, inr, length, map, get_or, refl, sym, ap, subst, ◌∙◌, arith, append_assoc, length-append, append-nil, false≢true, nat_eq, nat_tests, length-map, nil_from_length, get_or_default, take-append_seam, drop-append_seam, All-append, All-head, All-tail, Text, Expression, Span, AddsAtMost, Steps, Options, FoundIn, finds_at, is_paired, numbers_at, Matched, AreBelow, KeptLine, no_line, line_text, seen, Change, HasChanged, HasNewParts, SearchesEach, AreAllParts, AreMatches, has_new_parts, left_numbers, AddsMatching, IsKept}
-use Rattle.std.specs.Bool.{⊤}
-use Rattle.std.proofs.Math.ListN.{get_or-map}
-use Rattle.std.proofs.lemmas.Bool.{cases_Bool}
-use Rattle.std.proofs.lemmas.Bool.Decides.{Decides-and}
+use Rattle.grep_session.proofs.Prelude.{◌≡◌, ℕ, ◌+◌, ◌-◌, ◌*◌, ◌<◌, ◌≤◌, ◌==◌, Bool, true, false, not, ◌||◌, Any, MatchBool, Decides, take, drop, Matches, StaysSame, Chosen, IsSought, IsParted, is_parted, is_sought, had_gone, has_own, came, marked_cost, pairs_cost, parting, if◌then◌else◌, List, [], ◌∷◌, ◌++◌, All, inl, inr, length, map, get_or, refl, sym, ap, subst, ◌∙◌, arith, append_assoc, length-append, append-nil, false≢true, nat_eq, nat_tests, length-map, nil_from_length, get_or_default, take-append_seam, drop-append_seam, All-append, All-tail, Text, Expression, Span, AddsAtMost, Steps, Options, FoundIn, finds_at, is_paired, numbers_at, Matched, AreBelow, KeptLine, no_line, line_text, seen, Change, HasChanged, SearchesEach, AreAllParts, AreMatches, has_new_parts, left_numbers, AddsMatching, IsKept, HasNewParts}
+use Rattle.std.{specs.Bool.⊤, proofs.Math.ListN.get_or-map, proofs.lemmas.Bool.cases_Bool, proofs.lemmas.Bool.Decides.Decides-and}
 use Rattle.re_meter.proofs.lemmas.Adding.{adds_both, adds_within}
 use Rattle.grep_core.proofs.lemmas.Verdicts.{decided_yes}
-use Rattle.line_chunks.proofs.lemmas.PairLaws.{lt_yes}
-use Rattle.line_chunks.proofs.lemmas.SeenLaws.{length-seen, line_seen}
+use Rattle.line_chunks.proofs.lemmas.{PairLaws.lt_yes, SeenLaws.length-seen, SeenLaws.line_seen}
+use Rattle.grep_session.proofs.lemmas.{NumberLemmas.some_decides, MarkedLemmas.marked_lines, MarkedLemmas.pairs_times, StepLemmas.not_searched}
 use Rattle.grep_session.proofs.lemmas.ChangeLemmas.{line_right, numbers_right, parts_decides, went_decides}
-use Rattle.grep_session.proofs.lemmas.NumberLemmas.{some_decides}
-use Rattle.grep_session.proofs.lemmas.MarkedLemmas.{marked_lines, pairs_times}
-use Rattle.grep_session.proofs.lemmas.StepLemmas.{not_searched}
 
 -- what holds of each text with what was found in it holds of all lines
 all_seen : (P : KeptLine → Type 0) (texts : List Text) (found : FoundIn) → ((k : ℕ) → k < length texts → P (record { text = get_or texts k []; found = finds_at found k })) → All P (seen texts found)
 all_seen P texts found each = λ k d h.
-    let inside : k < length texts = omega (arith, h, length-seen 0 texts found) in
+    let inside : k < length texts = omega (arith, length-seen 0 texts found) in
     let place : 0 + k ≡ k = omega arith in
-    let line : get_or (seen texts found) k d ≡ record { text = get_or texts k []; found = finds_at found (0 + k) } = get_or_default (seen texts found) k d no_line h ∙ line_seen 0 texts found k inside in
-    subst P (sym line) (subst (λ n. P (record { text = get_or texts k []; found = finds_at found n })) (sym place) (each k inside))
+    let line = get_or_default (seen texts found) k d no_line h ∙ line_seen 0 texts found k inside in
+    rw line (rw place (each k inside))
 
 -- no number is left if none is counted
 no_numbers : (ns : List ℕ) → not (length ns == 0) ≡ false → ns ≡ []
 no_numbers [] h = refl
-no_numbers (n ∷ ns) h = absurd (let no : ⊥ = grind (arith, nat_tests, h) in no)
+no_numbers (n ∷ ns) h = absurd (grind (arith, nat_tests, h))
 
 -- a line has no number that no pair has
 none_own : (first count k : ℕ) (pairs : List (ℕ × ℕ)) → All (λ (pair : ℕ × ℕ). pair.1 < first) pairs → has_own first count (numbers_at k pairs) ≡ false
@@ -32,7 +26,7 @@ none_own first count k [] all = refl
 none_own first count k (pair ∷ pairs) all =
     let more = none_own first count k pairs (All-tail (λ (pair : ℕ × ℕ). pair.1 < first) pair pairs all) in
     elim (cases_Bool (nat_eq pair.0 k)) [
-      | inl here ↦ rw (here, lt_yes pair.1 first (All-head (λ (pair : ℕ × ℕ). pair.1 < first) pair pairs all)) more
+      | inl here ↦ rw (here, lt_yes pair.1 first (all 0 pair (omega arith))) more
       | inr other ↦ rw other more
     ]
 
@@ -40,8 +34,8 @@ module _ {change : Change} {es : List Expression} {options : Options} (h : HasCh
   -- the expressions that came are those with their numbers
   came_are : came change es ≡ h.come
   came_are =
-      let joined : es ≡ (h.front ++ h.come) ++ h.back = h.new ∙ sym (append_assoc h.front h.come h.back) in
-      let past : change.first + change.come ≡ length (h.front ++ h.come) = omega (arith, h.at, h.came, length-append h.front h.come) in
+      let joined = h.new ∙ sym (append_assoc h.front h.come h.back) in
+      let past : change.first + change.come ≡ length (h.front ++ h.come) = omega (arith, length-append h.front h.come) in
       (λ i. drop (h.at i) (take (past i) (joined i))) ∙ ap (drop (length h.front)) (take-append_seam (h.front ++ h.come) h.back) ∙ drop-append_seam h.front h.come
 
   module _ (lines : List KeptLine) (old : List (ℕ × ℕ)) (all : All (IsKept h.before h.was) lines) (own : (k : ℕ) → k < length lines → numbers_at k old ≡ (get_or lines k no_line).found.numbers) where
@@ -53,7 +47,7 @@ module _ {change : Change} {es : List Expression} {options : Options} (h : HasCh
       line = get_or lines k no_line
 
       inside : k < length lines
-      inside = omega (arith, high, length-map lines line_text)
+      inside = omega (arith, length-map lines line_text)
 
       is_text : line_text line ≡ get_or texts k []
       is_text = sym (get_or-map line_text lines k no_line)
@@ -86,10 +80,9 @@ module _ {change : Change} {es : List Expression} {options : Options} (h : HasCh
       adds_at : (k : ℕ) (high : k < length texts) → AddsMatching (line k high).text options.line_regexp change.first h.come (left_numbers change.first change.gone (change.gone - change.come) (line k high).found.numbers) (numbers_at k new)
       adds_at k high =
           let less = change.gone - change.come in
-          let Adds = λ (t : Text) (fs : List Expression) (ns : List ℕ). AddsMatching t options.line_regexp change.first fs ns (numbers_at k new) in
           let left = m.are_left.numbers k ∙ ap (left_numbers change.first change.gone less) (own k (inside k high)) in
-          subst (λ t. Adds t h.come (left_numbers change.first change.gone less (line k high).found.numbers)) (sym (is_text k high)) (subst (λ ns. Adds (get_or texts k []) h.come ns) left
-          (subst (λ fs. Adds (get_or texts k []) fs (numbers_at k m.left)) came_are (m.adds.numbers k high (λ off some. none_passed k high off (subst (Any (λ e. Matches e (get_or texts k []) options.line_regexp)) came_are some)))))
+          rw (is_text k high) (rw left at
+          (rw came_are at (m.adds.numbers k high (λ off some. none_passed k high off (rw came_are at some)))))
 
       -- whether their parts are searched anew is known
       column_decides : (k : ℕ) → k < length texts → Decides (is_parted change old new k) (IsParted change h.gone options h.come es (get_or texts k []))
@@ -101,11 +94,11 @@ module _ {change : Change} {es : List Expression} {options : Options} (h : HasCh
 
       -- what is found in each is right
       pub column_right : (parts : List (List Span)) → AreAllParts change es options lines old new parts → All (IsKept es options) (seen texts (record { size = length lines; pairs = new; parts = parts }))
-      column_right parts are = all_seen (IsKept es options) texts (record { size = length lines; pairs = new; parts = parts }) (λ k high.
+      column_right parts are = all_seen (IsKept es options) _ _ (λ k high.
           let one = line k high in
-          let same : has_new_parts change (numbers_at k old) (numbers_at k new) ≡ has_new_parts change one.found.numbers (numbers_at k new) = ap (λ ns. has_new_parts change ns (numbers_at k new)) (own k (inside k high)) in
-          subst (λ t. IsKept es options (record { text = t; found = record { numbers = numbers_at k new; spans = get_or parts k [] } })) (is_text k high)
-          (line_right h one (kept k high) (numbers_at k new) (adds_at k high) (is_paired k new) (has_new_parts change (numbers_at k old) (numbers_at k new)) (get_or parts k []) (no_numbers (numbers_at k new)) (λ off. sym same ∙ off) (are k (inside k high))))
+          let same : has_new_parts change (numbers_at k old) (numbers_at k new) ≡ has_new_parts change one.found.numbers (numbers_at k new) = rw (own k (inside k high)) in
+          rw (is_text k high) at
+          (line_right h _ (kept k high) _ (adds_at k high) _ _ _ (no_numbers (numbers_at k new)) (λ off. sym same ∙ off) (are k (inside k high))))
 
       -- what was found stays right where no pair went, moved or came
       pub column_same : StaysSame change old new → All (IsKept es options) lines
@@ -133,7 +126,7 @@ module _ {change : Change} {es : List Expression} {options : Options} (h : HasCh
       searched : (paired : List Text) × Chosen (IsSought change h.gone options) texts paired × AddsAtMost (pairs_cost change.come paired) begun mid
       searched =
           let s = marked_lines (is_sought change old) 1 texts (IsSought change h.gone options) sought_decides (length lines) (length-map lines line_text) in
-          (s.0, s.1, subst (λ n. AddsAtMost n begun mid) (ap (λ n. change.come * n) s.2 ∙ pairs_times change.come s.0) few)
+          (s.0, s.1, rw (ap (λ n. change.come * n) s.2 ∙ pairs_times change.come s.0) at few)
 
       -- before the search for parts
       pub chunk_begun : SearchesEach change h.gone h.come es options texts begun mid
@@ -150,4 +143,4 @@ module _ {change : Change} {es : List Expression} {options : Options} (h : HasCh
 
 -- the pairs of a chunk after a change are of its lines
 pub matches_below : (change : Change) (texts : List Text) (entire : Bool) (es : List Expression) (old new : List (ℕ × ℕ)) → AreMatches change texts entire es old new → AreBelow (length texts) new
-matches_below change texts entire es old new m = subst (AreBelow (length texts)) (sym m.adds.added) (All-append (λ (pair : ℕ × ℕ). pair.0 < length texts) m.left m.adds.more m.are_left.within m.adds.within)
+matches_below change texts entire es old new m = rw m.adds.added (All-append (λ (pair : ℕ × ℕ). pair.0 < length texts) m.left m.adds.more m.are_left.within m.adds.within)

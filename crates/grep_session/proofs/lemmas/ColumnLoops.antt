@@ -1,8 +1,7 @@
 -- The lines of a chunk that an expression matches, noted one after the other.
 use Rattle.grep_session.proofs.Prelude.{◌≡◌, ℕ, take, drop, length-take, length-drop, ◌+◌, ◌<◌, ◌≤◌, Any, Bool, false, List, [], ◌∷◌, ◌++◌, inl, inr, length, get_or, refl, sym, ap, subst, ◌∙◌, arith, append-nil, append_assoc, if◌then◌else◌, Some, ◌⊎◌, Text, Expression, Matches, numbers_at, AreBelow, AddsColumn, IsNextLine, AddsMatching, cases_lt, All-push, All-nil, All-append}
 use Rattle.std.proofs.Math.Seq.{drop-append-le}
-use Rattle.re_syntax.proofs.lemmas.Decisions.{Any-first}
-use Rattle.re_syntax.proofs.lemmas.SomeOfJoined.{Any-left, Any-right}
+use Rattle.re_syntax.proofs.lemmas.{Decisions.Any-first, SomeOfJoined.Any-left, SomeOfJoined.Any-right}
 use Rattle.line_chunks.proofs.lemmas.PairLaws.{eq_yes, eq_no, numbers_at-append}
 use Rattle.grep_session.proofs.lemmas.NumberLemmas.{adds_one_matching, passes_one_matching, adds_none_matching, adds_more_matching}
 
@@ -11,7 +10,7 @@ pub one_here : (k n : ℕ) (xs : List (ℕ × ℕ)) → numbers_at k (xs ++ (k, 
 one_here k n xs = numbers_at-append k xs ((k, n) ∷ []) ∙ ap (λ b. numbers_at k xs ++ (if b then n ∷ [] else [])) (eq_yes k k refl)
 
 pub one_elsewhere : (k other n : ℕ) (xs : List (ℕ × ℕ)) → (other ≡ k → ⊥) → numbers_at k (xs ++ (other, n) ∷ []) ≡ numbers_at k xs
-one_elsewhere k other n xs apart = numbers_at-append k xs ((other, n) ∷ []) ∙ ap (λ b. numbers_at k xs ++ (if b then n ∷ [] else [])) (eq_no other k apart) ∙ append-nil (numbers_at k xs)
+one_elsewhere k other n xs apart = cc (numbers_at-append k xs ((other, n) ∷ []), eq_no other k apart, append-nil (numbers_at k xs))
 
 module _ (sought : ℕ → Bool) (e : Expression) (entire : Bool) (number : ℕ) (texts : List Text) where
   -- the line is not matched if it is not searched
@@ -31,7 +30,7 @@ module _ (sought : ℕ → Bool) (e : Expression) (entire : Bool) (number : ℕ)
     more = [];
     added = sym (append-nil old);
     within = All-nil (λ (pair : ℕ × ℕ). pair.0 < length texts);
-    done = λ k low high passed. absurd (let no : ⊥ = omega (arith, low) in no);
+    done = λ k low high passed. absurd (omega arith);
     left = λ k low. refl;
   }
 
@@ -82,7 +81,7 @@ module _ (sought : ℕ → Bool) (e : Expression) (entire : Bool) (number : ℕ)
     where
       by_cases : (k : ℕ) → k < length texts → IsPassed k → (k < from) ⊎ (from ≤ k) → AddsMatching (get_or texts k []) entire number (e ∷ []) (numbers_at k old) (numbers_at k new)
       by_cases k high passed (inl early) = s.done k early high passed
-      by_cases k high passed (inr late) = subst (AddsMatching (get_or texts k []) entire number (e ∷ []) (numbers_at k old)) (sym (s.left k late)) (passes_one_matching (get_or texts k []) entire number e (numbers_at k old) (none k late high passed))
+      by_cases k high passed (inr late) = rw (s.left k late) (passes_one_matching _ _ _ e _ (none k late high passed))
 
 -- ---- several expressions
 
@@ -97,29 +96,29 @@ module _ (sought : ℕ → Bool) (texts : List Text) (entire : Bool) where
   }
 
   -- the next expression, whose number is its place
-  pub columns_next : (first number : ℕ) (es : List Expression) (e : Expression) (old mid new : List (ℕ × ℕ)) → first ≤ number → number < length es → take (number + 1) es ≡ take number es ++ e ∷ [] → AddsColumn sought texts entire first (drop first (take number es)) old mid → AddsColumn sought texts entire number (e ∷ []) mid new
+  pub columns_next : (first number : ℕ) (es : List Expression) (e : Expression) {mid new : List (ℕ × ℕ)} (old : List (ℕ × ℕ)) → first ≤ number → number < length es → take (number + 1) es ≡ take number es ++ e ∷ [] → AddsColumn sought texts entire first (drop first (take number es)) old mid → AddsColumn sought texts entire number (e ∷ []) mid new
       → AddsColumn sought texts entire first (drop first (take (number + 1) es)) old new
-  columns_next first number es e old mid new low high next a b = record {
+  columns_next first number es e old low high next a b = record {
     more = a.more ++ b.more;
-    added = b.added ∙ ap (λ l. l ++ b.more) a.added ∙ append_assoc old a.more b.more;
+    added = cc (b.added, a.added, append_assoc old a.more b.more);
     within = All-append (λ (pair : ℕ × ℕ). pair.0 < length texts) a.more b.more a.within b.within;
     numbers = λ k in_texts passed.
         let P : Expression → Type 0 = λ x. Matches x (get_or texts k []) entire in
-        let none : sought k ≡ false → ¬ Any P (before ++ e ∷ []) = λ off some. passed off (subst (Any P) (sym both) some) in
-        adds_more_matching (get_or texts k []) entire first number before (e ∷ []) (drop first (take (number + 1) es)) (numbers_at k old) (numbers_at k mid) (numbers_at k new) place both (a.numbers k in_texts (λ off some. none off (Any-left P before (e ∷ []) some))) (b.numbers k in_texts (λ off some. none off (Any-right P before (e ∷ []) some)));
+        let none : sought k ≡ false → ¬ Any P (before ++ e ∷ []) = λ off some. passed off (rw both some) in
+        adds_more_matching _ _ _ _ _ place both (a.numbers k in_texts (λ off some. none off (Any-left P before (e ∷ []) some))) (b.numbers k in_texts (λ off some. none off (Any-right P before (e ∷ []) some)));
   }
     where
       before : List Expression
       before = drop first (take number es)
 
       many : length (take number es) ≡ number
-      many = omega (arith, length-take number es, high)
+      many = omega (arith, length-take number es)
 
       place : number ≡ first + length before
-      place = omega (arith, length-drop first (take number es), many, low)
+      place = omega (arith, length-drop first (take number es), many)
 
       both : drop first (take (number + 1) es) ≡ before ++ e ∷ []
-      both = ap (drop first) next ∙ drop-append-le first (take number es) (e ∷ []) (omega (arith, low, many))
+      both = cc (drop-append-le first (take number es) (e ∷ []) (omega (arith, many)))
 
   -- none but these lines are searched, or all are
   pub column_of : (only : ℕ → Bool) (first : ℕ) (es : List Expression) (old new : List (ℕ × ℕ)) → ((k : ℕ) → only k ≡ false → sought k ≡ false) → AddsColumn only texts entire first es old new → AddsColumn sought texts entire first es old new

@@ -1,27 +1,24 @@
 -- A pattern is removed, and the numbers of those that match a line stay right.
-use Rattle.grep_session.proofs.Prelude.{inl, get_or, get_or_default, false≢true, Option, Some, IfSome, ◌≡◌, ℕ, zero, suc, ◌+◌, ◌-◌, ◌<◌, MatchBool, All, false, List, [], ◌∷◌, ◌++◌, length, map, take, drop, refl, sym, ap, subst, ◌∙◌, arith, set, option_map, AllWithin, AllZip, remove, whole, AreParts, Options, KeptLine, all_of, line_text, line_without, Text, Expression, without, IsKept, span_places, file_with, All-append, All-take, All-drop, All-map, All-weaker, get_or-set_other, map-append}
+use Rattle.grep_session.proofs.Prelude.{inl, get_or, get_or_default, false≢true, Option, Some, IfSome, ◌≡◌, ℕ, zero, suc, ◌<◌, All, false, List, [], ◌∷◌, length, map, take, drop, refl, sym, ap, ◌∙◌, arith, set, option_map, AllWithin, AllZip, remove, whole, Options, KeptLine, all_of, line_text, line_without, Text, Expression, IsKept, file_with, All-append, All-take, All-drop, All-map, All-weaker, get_or-set_other, map-append}
 use Rattle.re_syntax.specs.Expression.{empty}
-use Rattle.grep_session.proofs.lemmas.ChangeLemmas.{numbers_right}
-use Rattle.grep_session.proofs.lemmas.NumberLemmas.{adds_none_matching}
-use Rattle.grep_session.proofs.lemmas.SplicedLists.{list_changed, removed}
-use Rattle.std.specs.Bool.{⊤}
+use Rattle.grep_session.proofs.lemmas.{ChangeLemmas.numbers_right, NumberLemmas.adds_none_matching, SplicedLists.list_changed, SplicedLists.removed}
 
 -- ---- lines and files without an expression
 
 -- the lines of chunks, each of which is changed alone
 all_of-map : (f : KeptLine → KeptLine) (chunks : List (List KeptLine)) → all_of (map (map f) chunks) ≡ map f (all_of chunks)
 all_of-map f [] = refl
-all_of-map f (lines ∷ chunks) = ap (λ l. map f lines ++ l) (all_of-map f chunks) ∙ sym (map-append f lines (all_of chunks))
+all_of-map f (lines ∷ chunks) = cc (all_of-map f chunks, map-append f lines (all_of chunks))
 
 texts_stay : (p : ℕ) (lines : List KeptLine) → map line_text (map (line_without p) lines) ≡ map line_text lines
 texts_stay p [] = refl
-texts_stay p (line ∷ lines) = ap (λ l. line.text ∷ l) (texts_stay p lines)
+texts_stay p (line ∷ lines) = rw (texts_stay p lines)
 
 -- the file has the same lines
-pub file_dropped : (p : ℕ) (name : Text) (lines : Option (List (List KeptLine))) (old new : List (List KeptLine)) → lines ≡ Some old → new ≡ map (map (line_without p)) old → file_with name (Some (all_of new)) ≡ file_with name (option_map all_of lines)
-file_dropped p name lines old new is drops =
+pub file_dropped : (p : ℕ) (name : Text) (lines : Option (List (List KeptLine))) {new : List (List KeptLine)} (old : List (List KeptLine)) → lines ≡ Some old → new ≡ map (map (line_without p)) old → file_with name (Some (all_of new)) ≡ file_with name (option_map all_of lines)
+file_dropped p name lines old is drops =
     let same = ap all_of drops ∙ all_of-map (line_without p) old in
-    ap (λ texts. record { name = name; lines = texts; ending = whole }) (ap (map line_text) same ∙ texts_stay p (all_of old)) ∙ ap (λ l. file_with name (option_map all_of l)) (sym is)
+    ap (λ texts. record { name = name; lines = texts; ending = whole }) (cc (texts_stay p _)) ∙ ap (λ l. file_with name (option_map all_of l)) (sym is)
 
 module _ (es : List Expression) (options : Options) (p : ℕ) (h : p < length es) (no_parts : options.only_matching ≡ false) where
   abbrev one : Expression
@@ -31,20 +28,20 @@ module _ (es : List Expression) (options : Options) (p : ℕ) (h : p < length es
   dropped_line : (line : KeptLine) → IsKept es options line → IsKept (remove es p) options (line_without p line)
   dropped_line line k =
       record {
-        matching = numbers_right (list_changed (removed p es one h (get_or_default es p empty one h) (remove es p) refl) options false (inl (omega arith)) (λ on. absurd (false≢true on))) line k (without p line.found.numbers) (adds_none_matching line.text options.line_regexp p (without p line.found.numbers));
-        parts = subst (λ b. MatchBool b (AreParts (remove es p) line.text options.line_regexp (map span_places line.found.spans)) ⊤) (sym no_parts) tt;
+        matching = numbers_right (list_changed (removed p es one h (get_or_default es p empty one h) (remove es p) refl) options false (inl (omega arith)) (λ on. absurd (false≢true on))) line k _ (adds_none_matching _ _ p _);
+        parts = rw no_parts tt;
       }
 
   -- what is kept of the lines of chunks
   pub kept_dropped : (lines : Option (List (List KeptLine))) (old new : List (List KeptLine)) → lines ≡ Some old → new ≡ map (map (line_without p)) old → IfSome (option_map all_of lines) (All (IsKept es options)) → All (IsKept (remove es p) options) (all_of new)
   kept_dropped lines old new is drops kept =
-      let before : All (IsKept es options) (all_of old) = subst (λ l. IfSome (option_map all_of l) (All (IsKept es options))) is kept in
+      let before = rw is at kept in
       let each = All-weaker (IsKept es options) (λ line. IsKept (remove es p) options (line_without p line)) dropped_line (all_of old) before in
-      subst (All (IsKept (remove es p) options)) (sym (ap all_of drops ∙ all_of-map (line_without p) old)) (All-map (IsKept (remove es p) options) (line_without p) (all_of old) each)
+      rw (ap all_of drops ∙ all_of-map (line_without p) old) (All-map (IsKept (remove es p) options) (line_without p) (all_of old) each)
 
 -- one element was replaced by another: what holds of those after it still does
-pub after_set : {X : Type 0} (P : X → Type 0) (xs : List X) (i n : ℕ) (x : X) → AllWithin P xs i n → AllWithin P (set xs i x) (suc i) n
-after_set P xs i n x h = λ k d low high. subst P (sym (get_or-set_other xs i k x d (λ e. let apart : ⊥ = omega (arith, e, low) in apart))) (h k d (omega (arith, low)) high)
+pub after_set : {X : Type 0} (P : X → Type 0) (xs : List X) {n : ℕ} (i : ℕ) (x : X) → AllWithin P xs i n → AllWithin P (set xs i x) (suc i) n
+after_set P xs i x h = λ k d low high. rw (get_or-set_other xs i k x d (λ e. omega arith)) (h k d (omega arith) high)
 
 -- ---- patterns
 

@@ -1,10 +1,9 @@
 -- The law of the definitions: an edit has one outcome for its inputs, and one cost.
-use Rattle.grep_session.proofs.Prelude.{◌≡◌, ℕ, ◌+◌, ◌<◌, Bool, List, [], ◌∷◌, length, Result, Ok, Err, take, get_or, length-take, refl, sym, ap, subst, ◌∙◌, arith, PatternFault, Syntax, Text, Matches, list_of, IsReadable, Chosen, Inputs, Matched, EditFault, NoSuchFile, FileIsMissing, OutOfRange, LineHasNewline, NoSuchPattern, Pattern, TooManyPatterns, Memory, Edit, AddFile, AddMissing, DropFile, Splice, AddPatterns, ChangePattern, DropPattern, SetFlag, SetSyntax, SetContext, Applies, Reads, IsFirstRefused, AreAlike, EditsAreDetermined, Touched, Touches, Costs, CostsAs, CostsAccepted, pairs_cost, parting, parts_alone, all_lines, get_or-take}
-use Rattle.grep_core.proofs.lemmas.ChooseLaws.{same_value, IfHolds-both, Chosen-determined}
-use Rattle.grep_core.proofs.lemmas.LawsHold.{means_one, IsMeant-determined}
+use Rattle.grep_session.proofs.Prelude.{◌≡◌, ℕ, ◌+◌, ◌<◌, Bool, List, [], ◌∷◌, length, Result, Ok, Err, get_or, length-take, refl, sym, ap, ◌∙◌, arith, PatternFault, Syntax, Text, Matches, list_of, Inputs, Matched, EditFault, NoSuchFile, FileIsMissing, OutOfRange, LineHasNewline, NoSuchPattern, Pattern, TooManyPatterns, Memory, Edit, AddFile, AddMissing, DropFile, Splice, AddPatterns, ChangePattern, DropPattern, SetFlag, SetSyntax, SetContext, Applies, Reads, IsFirstRefused, AreAlike, EditsAreDetermined, Touched, Touches, Costs, CostsAs, CostsAccepted, pairs_cost, parting, parts_alone, all_lines, get_or-take}
+use Rattle.grep_core.proofs.lemmas.{ChooseLaws.same_value, ChooseLaws.IfHolds-both, ChooseLaws.Chosen-determined, LawsHold.means_one, LawsHold.IsMeant-determined}
 
-alike_same : (a b : Result Inputs EditFault) → a ≡ b → AreAlike a b
-alike_same a b e = subst (AreAlike a) e (alike_itself a)
+alike_same : {a b o : Result Inputs EditFault} → a ≡ o → b ≡ o → AreAlike a b
+alike_same {o = o} p q = rw (p, q) (alike_itself o)
   where
     alike_itself : (o : Result Inputs EditFault) → AreAlike o o
     alike_itself (Ok a) = refl
@@ -18,39 +17,37 @@ alike_same a b e = subst (AreAlike a) e (alike_itself a)
     alike_itself (Err Memory) = refl
 
 -- two refusals for the same pattern
-alike_patterns : (a b : Result Inputs EditFault) (i j : ℕ) (f g : PatternFault) → a ≡ Err (Pattern i f) → b ≡ Err (Pattern j g) → i ≡ j → AreAlike a b
-alike_patterns a b i j f g p q e = subst (λ x. AreAlike x b) (sym p) (subst (λ y. AreAlike (Err (Pattern i f)) y) (sym q) e)
+alike_patterns : (a b : Result Inputs EditFault) {i j : ℕ} {f g : PatternFault} → a ≡ Err (Pattern i f) → b ≡ Err (Pattern j g) → i ≡ j → AreAlike a b
+alike_patterns a b p q e = rw p (rw q e)
 
 -- a text before the first refused one is readable
 not_before : (syntax : Syntax) (fold : Bool) (texts : List Text) (i j : ℕ) (f g : PatternFault) → IsFirstRefused syntax fold texts i f → IsFirstRefused syntax fold texts j g → i < j → ⊥
 not_before syntax fold texts i j f g a b less =
-    let within : i < length (take j texts) = omega (arith, a.in_texts, less, length-take j texts) in
-    a.unreadable (subst (IsReadable syntax fold) (get_or-take j texts i [] less) (b.readable_before i [] within))
+    a.unreadable (rw (get_or-take j texts i [] less) at (b.readable_before i [] (omega (arith, length-take j texts))))
 
-Reads-once : (syntax : Syntax) (fold : Bool) (texts : List Text) (new : Inputs) (a b : Result Inputs EditFault) → Reads syntax fold texts new a → Reads syntax fold texts new b → AreAlike a b
-Reads-once syntax fold texts new a b p q =
-    IfHolds-both p q (λ e f. alike_same a b (same_value e f)) (λ x y.
-    let here : x.0 < y.0 → ⊥ = not_before syntax fold texts x.0 y.0 x.1 y.1 x.2 y.2 in
-    let there : y.0 < x.0 → ⊥ = not_before syntax fold texts y.0 x.0 y.1 x.1 y.2 x.2 in
-    let same : x.0 ≡ y.0 = omega (arith, here, there) in
-    alike_patterns a b x.0 y.0 x.1 y.1 x.3 y.3 same)
+Reads-once : {syntax : Syntax} {fold : Bool} {texts : List Text} {new : Inputs} (a b : Result Inputs EditFault) → Reads syntax fold texts new a → Reads syntax fold texts new b → AreAlike a b
+Reads-once {syntax} {fold} {texts} a b p q =
+    IfHolds-both p q alike_same (λ x y.
+    let here = not_before syntax fold texts x.0 y.0 x.1 y.1 x.2 y.2 in
+    let there = not_before syntax fold texts y.0 x.0 y.1 x.1 y.2 x.2 in
+    alike_patterns a b x.3 y.3 (omega arith))
 
 -- an edit has one outcome for its inputs
 pub Applies-once : (edit : Edit) (old : Inputs) (a b : Result Inputs EditFault) → Applies edit old a → Applies edit old b → AreAlike a b
-Applies-once (AddFile name lines) old a b p q = IfHolds-both p q (λ e f. alike_same a b (same_value e f)) (λ e f. alike_same a b (same_value e f))
-Applies-once (AddMissing name) old a b p q = alike_same a b (same_value p q)
-Applies-once (DropFile k) old a b p q = IfHolds-both p q (λ e f. alike_same a b (same_value e f)) (λ e f. alike_same a b (same_value e f))
+Applies-once (AddFile name lines) old a b p q = IfHolds-both p q alike_same alike_same
+Applies-once (AddMissing name) old a b p q = alike_same p q
+Applies-once (DropFile k) old a b p q = IfHolds-both p q alike_same alike_same
 Applies-once (Splice k start count lines) old a b p q =
-    IfHolds-both p q (λ e f. alike_same a b (same_value e f)) (λ p q.
-    IfHolds-both p q (λ e f. alike_same a b (same_value e f)) (λ p q.
-    IfHolds-both p q (λ e f. alike_same a b (same_value e f)) (λ p q.
-    IfHolds-both p q (λ e f. alike_same a b (same_value e f)) (λ e f. alike_same a b (same_value e f)))))
-Applies-once (AddPatterns list) old a b p q = IfHolds-both p q (λ e f. alike_same a b (same_value e f)) (λ p q. Reads-once _ _ _ _ a b p q)
-Applies-once (DropPattern n) old a b p q = IfHolds-both p q (λ e f. alike_same a b (same_value e f)) (λ e f. alike_same a b (same_value e f))
-Applies-once (ChangePattern n text) old a b p q = IfHolds-both p q (λ p q. Reads-once _ _ _ _ a b p q) (λ e f. alike_same a b (same_value e f))
-Applies-once (SetFlag flag on) old a b p q = Reads-once _ _ _ _ a b p q
-Applies-once (SetSyntax syntax) old a b p q = Reads-once _ _ _ _ a b p q
-Applies-once (SetContext context) old a b p q = alike_same a b (same_value p q)
+    IfHolds-both p q alike_same (λ p q.
+    IfHolds-both p q alike_same (λ p q.
+    IfHolds-both p q alike_same (λ p q.
+    IfHolds-both p q alike_same alike_same)))
+Applies-once (AddPatterns list) old a b p q = IfHolds-both p q alike_same (Reads-once a b)
+Applies-once (DropPattern n) old a b p q = IfHolds-both p q alike_same alike_same
+Applies-once (ChangePattern n text) old a b p q = IfHolds-both p q (Reads-once a b) alike_same
+Applies-once (SetFlag flag on) old a b p q = Reads-once a b p q
+Applies-once (SetSyntax syntax) old a b p q = Reads-once a b p q
+Applies-once (SetContext context) old a b p q = alike_same p q
 
 -- ---- one cost
 
@@ -58,19 +55,19 @@ Touches-once : (edit : Edit) (old : Inputs) (a b : Touched) → Touches edit old
 Touches-once (AddFile name lines) old a b p q = same_value p q
 Touches-once (Splice k start count lines) old a b p q = same_value p q
 Touches-once (AddPatterns list) old a b p q =
-    let added : p.0 ≡ q.0 = means_one old.syntax old.options (list_of list) p.0 q.0 p.1 q.1 in
-    let lines : p.2 ≡ q.2 = Chosen-determined (Matched q.0 old.options) _ p.2 q.2 (subst (λ es. Chosen (Matched es old.options) _ p.2) added p.3) q.3 in
+    let added = means_one old.syntax old.options (list_of list) p.0 q.0 p.1 q.1 in
+    let lines = Chosen-determined (Matched q.0 old.options) _ p.2 q.2 (rw added at p.3) q.3 in
     p.4 ∙ ap (λ l. record { patterns = length (list_of list); paired = all_lines old; lines = l }) lines ∙ sym q.4
 Touches-once (DropPattern n) old a b p q =
-    let same : p.0 ≡ q.0 = IsMeant-determined old.syntax old.options.ignore_case (get_or old.patterns n []) p.0 q.0 p.1 q.1 in
-    let lines : p.2 ≡ q.2 = Chosen-determined (λ line. Matches q.0 line old.options.line_regexp) _ p.2 q.2 (subst (λ e. Chosen (λ line. Matches e line old.options.line_regexp) _ p.2) same p.3) q.3 in
+    let same = IsMeant-determined old.syntax old.options.ignore_case (get_or old.patterns n []) p.0 q.0 p.1 q.1 in
+    let lines = Chosen-determined (λ line. Matches q.0 line old.options.line_regexp) _ p.2 q.2 (rw same at p.3) q.3 in
     p.4 ∙ ap parts_alone lines ∙ sym q.4
 Touches-once (ChangePattern n text) old a b p q = IfHolds-both p q same_value (λ p q.
-    let gone : p.0 ≡ q.0 = IsMeant-determined old.syntax old.options.ignore_case (get_or old.patterns n []) p.0 q.0 p.1 q.1 in
-    let come : p.2 ≡ q.2 = IsMeant-determined old.syntax old.options.ignore_case text p.2 q.2 p.3 q.3 in
+    let gone = IsMeant-determined old.syntax old.options.ignore_case (get_or old.patterns n []) p.0 q.0 p.1 q.1 in
+    let come = IsMeant-determined old.syntax old.options.ignore_case text p.2 q.2 p.3 q.3 in
     let both : p.0 ∷ p.2 ∷ [] ≡ q.0 ∷ q.2 ∷ [] = λ i. gone i ∷ come i ∷ [] in
-    let paired : p.4 ≡ q.4 = IfHolds-both p.5 q.5 (λ c d. Chosen-determined (λ line. Matches q.0 line old.options.line_regexp) (all_lines old) p.4 q.4 (subst (λ e. Chosen (λ line. Matches e line old.options.line_regexp) (all_lines old) p.4) gone c) d) same_value in
-    let lines : p.6 ≡ q.6 = Chosen-determined (Matched (q.0 ∷ q.2 ∷ []) old.options) (all_lines old) p.6 q.6 (subst (λ es. Chosen (Matched es old.options) (all_lines old) p.6) both p.7) q.7 in
+    let paired = IfHolds-both p.5 q.5 (λ c d. Chosen-determined (λ line. Matches q.0 line old.options.line_regexp) (all_lines old) p.4 q.4 (rw gone at c) d) same_value in
+    let lines = Chosen-determined (Matched (q.0 ∷ q.2 ∷ []) old.options) (all_lines old) p.6 q.6 (rw both at p.7) q.7 in
     p.8 ∙ (λ i. record { patterns = 1; paired = paired i; lines = lines i }) ∙ sym q.8)
 Touches-once (SetFlag flag on) old a b p q = IfHolds-both p q same_value same_value
 Touches-once (SetSyntax syntax) old a b p q = IfHolds-both p q same_value same_value
@@ -80,17 +77,17 @@ Touches-once (DropFile k) old a b p q = same_value p q
 
 accepted_once : (edit : Edit) (old new : Inputs) (a b : ℕ) → CostsAccepted edit old new a → CostsAccepted edit old new b → a ≡ b
 accepted_once edit old new a b p q =
-    let es : p.es ≡ q.es = means_one new.syntax new.options new.patterns p.es q.es p.are_meant q.are_meant in
-    let touched : p.touched ≡ q.touched = Touches-once edit old p.touched q.touched p.are_touched q.are_touched in
-    let mine = subst (λ t. Chosen (Matched q.es new.options) t.lines p.parted) touched (subst (λ es. Chosen (Matched es new.options) p.touched.lines p.parted) es p.are_parted) in
-    let parted : p.parted ≡ q.parted = Chosen-determined (Matched q.es new.options) q.touched.lines p.parted q.parted mine q.are_parted in
+    let es = means_one new.syntax new.options new.patterns p.es q.es p.are_meant q.are_meant in
+    let touched = Touches-once edit old p.touched q.touched p.are_touched q.are_touched in
+    let mine = rw touched at (rw es at p.are_parted) in
+    let parted = Chosen-determined (Matched q.es new.options) q.touched.lines p.parted q.parted mine q.are_parted in
     p.is_sum ∙ (λ i. pairs_cost (touched i).patterns (touched i).paired + pairs_cost (parting (es i) new.options) (parted i)) ∙ sym q.is_sum
 
 costs_once : (edit : Edit) (old : Inputs) (a b : ℕ) → Costs edit old a → Costs edit old b → a ≡ b
-costs_once edit old a b p q = by_outcome p.0 q.0 (Applies-once edit old p.0 q.0 p.1 q.1) p.2 q.2
+costs_once edit old a b p q = by_outcome p.0 q.0 (Applies-once _ _ _ _ p.1 q.1) p.2 q.2
   where
     by_outcome : (o r : Result Inputs EditFault) → AreAlike o r → CostsAs edit old o a → CostsAs edit old r b → a ≡ b
-    by_outcome (Ok m) (Ok n) same c d = accepted_once edit old n a b (subst (λ x. CostsAccepted edit old x a) same c) d
+    by_outcome (Ok m) (Ok n) same c d = accepted_once _ _ n a b (rw same at c) d
     by_outcome (Ok m) (Err g) none c d = absurd none
     by_outcome (Err f) (Ok n) none c d = absurd none
     by_outcome (Err f) (Err g) same c d = same_value c d

@@ -1,11 +1,8 @@
 -- How an edit changes a session's inputs, and what is kept.
-use Rattle.grep_session.proofs.Prelude.{◌≡◌, ◌≢◌, ℕ, ◌+◌, ◌<◌, ◌≤◌, List, [], ◌∷◌, ◌++◌, length, map, take, drop, Option, Some, None, Ok, IfSome, inl, inr, refl, sym, ap, subst, ◌∙◌, All, get_or, slice_set, arith, set, map-set_same, map-set, length-map, All-append, All-take, All-drop, All-set, splice, option_map, Syntax, Text, Expression, HasNoNewline, Matcher, matched_expression, wants_whole, Steps, Options, File, Inputs, AreMeant, whole, missing, file_at, most_patterns, KeptFile, Inside, AreSame, anew, SearchesEach, IsSession, inputs_of, AreFit, KeptLine, line_text, AddFile, Splice, Applies, spliced, whole_file, with_files, IsKept, IsFileKept, kept_file, kept_lines, file_with, AreMatchers, HasPlace, TakesSteps, NeedsNoMemory, KeepAtMost, lost}
+use Rattle.grep_session.proofs.Prelude.{◌≡◌, ◌≢◌, ℕ, ◌+◌, ◌<◌, ◌≤◌, List, [], ◌++◌, length, map, take, drop, Option, Some, None, Ok, IfSome, inl, inr, refl, sym, ap, subst, ◌∙◌, All, get_or, slice_set, arith, set, map-set_same, map-set, length-map, All-append, All-take, All-drop, All-set, splice, option_map, Syntax, Text, Expression, HasNoNewline, Matcher, matched_expression, wants_whole, Steps, Options, File, Inputs, whole, missing, file_at, most_patterns, KeptFile, Inside, AreSame, anew, SearchesEach, IsSession, inputs_of, AreFit, KeptLine, line_text, AddFile, Splice, Applies, spliced, with_files, IsKept, IsFileKept, kept_file, kept_lines, file_with, AreMatchers, HasPlace, TakesSteps, NeedsNoMemory, KeepAtMost, lost}
 use Rattle.std.proofs.lemmas.List.{get_or-map}
 use Rattle.grep_core.proofs.lemmas.CostLaws.{same_length}
-use Rattle.grep_session.proofs.lemmas.FitLemmas.{fit_as, fit_lose}
-use Rattle.grep_session.proofs.lemmas.RoomLemmas.{keep_same}
-use Rattle.grep_session.proofs.lemmas.StepLemmas.{takes_lines}
-use Rattle.grep_session.proofs.lemmas.SessionLemmas.{map-splice}
+use Rattle.grep_session.proofs.lemmas.{FitLemmas.fit_as, FitLemmas.fit_lose, RoomLemmas.keep_same, StepLemmas.takes_lines, SessionLemmas.map-splice}
 
 -- ---- matchers
 
@@ -13,8 +10,8 @@ use Rattle.grep_session.proofs.lemmas.SessionLemmas.{map-splice}
 pub AreMatchers-same : (syntax : Syntax) (options : Options) (texts : List Text) (old new : List Matcher) → AreMatchers syntax options texts old → map matched_expression new ≡ map matched_expression old → map wants_whole new ≡ map wants_whole old
     → AreMatchers syntax options texts new
 AreMatchers-same syntax options texts old new s e w = record {
-  meant = subst (AreMeant syntax options texts) (sym e) s.meant;
-  wholes = subst (All (λ w. w ≡ options.line_regexp)) (sym w) s.wholes;
+  meant = rw e s.meant;
+  wholes = rw w s.wholes;
   readable = s.readable;
   counted = same_length matched_expression new old e ∙ s.counted;
 }
@@ -22,11 +19,11 @@ AreMatchers-same syntax options texts old new s e w = record {
 -- a session whose matchers were asked, and whose files are as right as before, with marks that fit
 pub asked_session : (s t : Inside) → t ≡ record s { texts = t.texts; matchers = t.matchers; files = t.files; marks = t.marks } → t.texts.items ≡ s.texts.items → IsSession s → AreSame s.matchers.items t.matchers.items
     → All (IsFileKept (map matched_expression s.matchers.items) s.options) t.files.items → AreFit (map kept_file t.files.items) t.marks.items → IsSession t
-asked_session s t is texts old same kept fit = subst IsSession (sym is) (record {
-  matchers = subst (λ ts. AreMatchers s.syntax s.options (map (λ text. text.items) ts) t.matchers.items) (sym texts) (AreMatchers-same s.syntax s.options _ s.matchers.items t.matchers.items old.matchers same.same_expressions same.same_wholes);
-  few = subst (λ n. n ≤ most_patterns) (sym (same_length matched_expression _ _ same.same_expressions)) old.few;
-  kept = subst (λ es. All (IsFileKept es s.options) t.files.items) (sym same.same_expressions) kept;
-  rooms = keep_same s.states s.matchers.items t.matchers.items same.same_rooms old.rooms;
+asked_session s t is texts old same kept fit = rw is (record {
+  matchers = rw texts (AreMatchers-same _ _ _ _ _ old.matchers same.same_expressions same.same_wholes);
+  few = rw (same_length matched_expression _ _ same.same_expressions) old.few;
+  kept = rw same.same_expressions kept;
+  rooms = keep_same _ _ _ same.same_rooms old.rooms;
   some_states = old.some_states;
   few_states = old.few_states;
   fit = fit;
@@ -35,17 +32,17 @@ asked_session s t is texts old same kept fit = subst IsSession (sym is) (record 
 -- nothing of its files and marks changed
 pub left_session : (s t : Inside) → t ≡ record s { texts = t.texts; matchers = t.matchers; files = t.files; marks = t.marks } → t.texts.items ≡ s.texts.items → IsSession s → AreSame s.matchers.items t.matchers.items → t.files.items ≡ s.files.items → t.marks.items ≡ s.marks.items → IsSession t
 left_session s t is texts old same files marks =
-    asked_session s t is texts old same (subst (All (IsFileKept (map matched_expression s.matchers.items) s.options)) (sym files) old.kept) (fit_as (map kept_file s.files.items) _ s.marks.items _ (ap (map kept_file) files) marks old.fit)
+    asked_session s t is texts old same (rw files old.kept) (fit_as _ _ _ _ (rw files) marks old.fit)
 
 -- a session with other patterns, after all was searched that these ask for
 pub searched_session : (s t : Inside) (syntax : Syntax) (options : Options) (texts : List Text) (all : List Matcher) → t ≡ record s { syntax = syntax; options = options; texts = t.texts; matchers = t.matchers; files = t.files; marks = t.marks } → map (λ text. text.items) t.texts.items ≡ texts → IsSession s
     → AreMatchers syntax options texts all → length all ≤ most_patterns → KeepAtMost s.states all → AreSame all t.matchers.items → All (IsFileKept (map matched_expression t.matchers.items) options) t.files.items → map kept_file t.files.items ≡ map kept_file s.files.items
     → t.marks.items ≡ map lost s.marks.items → IsSession t
-searched_session s t syntax options texts all is read old made few rooms same kept files marks = subst IsSession (sym is) (record {
-  matchers = subst (λ ts. AreMatchers syntax options ts t.matchers.items) (sym read) (AreMatchers-same syntax options texts all t.matchers.items made same.same_expressions same.same_wholes);
-  few = subst (λ n. n ≤ most_patterns) (sym (same_length matched_expression _ _ same.same_expressions)) few;
+searched_session s t syntax options texts all is read old made few rooms same kept files marks = rw is (record {
+  matchers = rw read (AreMatchers-same _ options _ _ _ made same.same_expressions same.same_wholes);
+  few = rw (same_length matched_expression _ _ same.same_expressions) few;
   kept = kept;
-  rooms = keep_same s.states all t.matchers.items same.same_rooms rooms;
+  rooms = keep_same _ _ _ same.same_rooms rooms;
   some_states = old.some_states;
   few_states = old.few_states;
   fit = fit_lose (map kept_file s.files.items) _ s.marks.items _ files marks old.fit;
@@ -55,21 +52,21 @@ searched_session s t syntax options texts all is read old made few rooms same ke
 
 pub applies_splice : (old : Inputs) (k start count : ℕ) (lines : List Text) → HasPlace old.files k start count → All HasNoNewline lines → Applies (Splice k start count lines) old (Ok (with_files (spliced old.files k start count lines) old))
 applies_splice old k start count lines p none =
-    inr ((λ h. absurd (let false : ⊥ = omega (arith, h, p.in_files) in false)), inr (p.opens, inr ((λ h. absurd (let false : ⊥ = omega (arith, h, p.in_file) in false)), inl (none, refl))))
+    inr ((λ h. absurd (omega arith)), inr (p.opens, inr ((λ h. absurd (omega arith)), inl (none, refl))))
 
 -- the new lines of a splice, and those of a file that is added, were searched
 module _ (s : Inside) (old : IsSession s) (lines : List Text) (none : All HasNoNewline lines) (begun ended : Steps) (steps : SearchesEach (anew 0 (length (map matched_expression s.matchers.items))) [] (map matched_expression s.matchers.items) (map matched_expression s.matchers.items) s.options lines begun ended) where
   pub splice_steps : (k start count : ℕ) → HasPlace (inputs_of s).files k start count → TakesSteps (Splice k start count lines) (inputs_of s) begun ended
   splice_steps k start count place =
-      takes_lines (Splice k start count lines) (inputs_of s) (with_files (spliced (inputs_of s).files k start count lines) (inputs_of s)) 0 [] s.matchers.items lines begun ended (applies_splice (inputs_of s) k start count lines place none) refl old.matchers refl steps
+      takes_lines _ _ _ 0 [] _ _ _ _ (applies_splice _ k _ _ _ place none) refl old.matchers refl steps
 
   pub file_steps : (name : Text) → TakesSteps (AddFile name lines) (inputs_of s) begun ended
-  file_steps name = takes_lines (AddFile name lines) (inputs_of s) (with_files ((inputs_of s).files ++ whole_file name lines ∷ []) (inputs_of s)) 0 [] s.matchers.items lines begun ended (inl (none, refl)) refl old.matchers refl steps
+  file_steps name = takes_lines _ _ _ 0 [] _ _ _ _ (inl (none, refl)) refl old.matchers refl steps
 
 -- memory is needed
-pub needs_for_lines : (old : Inputs) (k start count : ℕ) (lines : List Text) → HasPlace old.files k start count → (lines ≡ [] → ⊥) → NeedsNoMemory (Splice k start count lines) old → ⊥
-needs_for_lines old k start count lines place some (inl empty) = some empty
-needs_for_lines old k start count lines place some (inr nowhere) = nowhere place
+pub needs_for_lines : (old : Inputs) {k start count : ℕ} {lines : List Text} → HasPlace old.files k start count → (lines ≡ [] → ⊥) → NeedsNoMemory (Splice k start count lines) old → ⊥
+needs_for_lines old place some (inl empty) = some empty
+needs_for_lines old place some (inr nowhere) = nowhere place
 
 module _ (start count : ℕ) (new : List KeptLine) where
   -- the lines of a file after the splice
@@ -86,7 +83,7 @@ module _ (start count : ℕ) (new : List KeptLine) where
       → map kept_file (set files k file) ≡ spliced (map kept_file files) k start count (map line_text new)
   files_put files k d file within name lines opens =
       let old = get_or files k d in
-      let at : file_at (map kept_file files) k ≡ kept_file old = get_or-map kept_file files k d (record { name = []; lines = []; ending = missing }) within in
+      let at = get_or-map kept_file files k d (record { name = []; lines = []; ending = missing }) within in
       let one : kept_file file ≡ record (kept_file old) { lines = splice (kept_file old).lines start (start + count) (map line_text new) } =
       (λ i. file_with (name i) (lines i)) ∙ file_put old.name.items (kept_lines old) (subst (λ (f : File). f.ending ≢ missing) at opens) in
       map-set kept_file files k file ∙ ap (λ f. slice_set (map kept_file files) k f) (one ∙ ap (λ (f : File). record f { lines = splice f.lines start (start + count) (map line_text new) }) (sym at))
@@ -101,7 +98,7 @@ module _ (start count : ℕ) (new : List KeptLine) where
 pub files_spliced : (start count : ℕ) (new : List KeptLine) (files : List KeptFile) (k : ℕ) (d file : KeptFile) → HasPlace (map kept_file files) k start count → d ≡ get_or files k d → file.name ≡ d.name → kept_lines file ≡ put start count new (kept_lines d)
     → map kept_file (set files k file) ≡ spliced (map kept_file files) k start count (map line_text new)
 files_spliced start count new files k d file place at name lines =
-    files_put start count new files k d file (omega (arith, place.in_files, length-map files kept_file)) (ap (λ n. n.items) name ∙ ap (λ (f : KeptFile). f.name.items) at)
+    files_put start count new files k d file (omega (arith, length-map files kept_file)) (ap (λ n. n.items) name ∙ ap (λ (f : KeptFile). f.name.items) at)
     (lines ∙ ap (λ (f : KeptFile). put start count new (kept_lines f)) at) place.opens
 
 -- putting a file with the same name and lines in its place changes nothing
@@ -110,8 +107,8 @@ files_same files k d file name lines = map-set_same kept_file files k file d (λ
 
 -- a place among the files that contracts see is one among those that are kept
 pub in_kept : (files : List KeptFile) (k : ℕ) → k < length (map kept_file files) → k < length files
-in_kept files k h = omega (arith, h, length-map files kept_file)
+in_kept files k h = omega (arith, length-map files kept_file)
 
 -- what is kept of the files stays right if it does so for the changed one
 pub files_kept : (es : List Expression) (options : Options) (files : List KeptFile) (k : ℕ) (file : KeptFile) (lines : Option (List KeptLine)) → All (IsFileKept es options) files → kept_lines file ≡ lines → IfSome lines (All (IsKept es options)) → All (IsFileKept es options) (set files k file)
-files_kept es options files k file lines all same kept = All-set (IsFileKept es options) files k file (subst (λ l. IfSome l (All (IsKept es options))) (sym same) kept) all
+files_kept es options files k file lines all same kept = All-set (IsFileKept es options) files k file (rw same kept) all

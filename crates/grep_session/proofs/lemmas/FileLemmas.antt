@@ -1,22 +1,16 @@
 -- What is written for a file after the rows of its lines, for files one after the other, and about
 -- them.
-use Rattle.grep_session.proofs.Prelude.{◌≡◌, ℕ, ◌+◌, ◌<◌, ◌≤◌, Bool, true, false, ◌&&◌, Decides, List, [], ◌∷◌, ◌++◌, length, map, drop, get_or, All, MatchBool, Option, None, Some, IfSome, Result, Ok, Err, IfOk, IsErr, inl, inr, refl, sym, ap, subst, ◌∙◌, arith, append-nil, append_assoc, if◌then◌else◌, enumerate_from, false≢true, drop_all, length-map, Text, Expression, Options, Chosen, EachGives, File, Selected, Status, StatusOf, Form, nothing, names, counts, parts, lines, around, form, Out, OutAs, shows_names, written, GroupedAs, rows_after, LineRowsOf, SelectedLines, file_so_far, FileEnd, Missing, Whole, ending_of, summary_as, reported_of, message, Stops, Reached, Message, Messages, GoesOut, StopsWithin, Writes, HoldsOfMany, KeptLine, line_text, KeptFile, file_with, kept_file, kept_lines, end_of, has_selected, IsKept, IsFileKept, selected_count, WritesGroups, Reports, ReportsMessages}
-use Rattle.grep_core.proofs.lemmas.Exist.{Messages-exist}
-use Rattle.grep_core.proofs.lemmas.FileOutput.{output_all, rows_none}
-use Rattle.grep_core.proofs.lemmas.GroupLaws.{after_nothing}
-use Rattle.grep_core.proofs.lemmas.RowLemmas.{goes_nowhere}
-use Rattle.grep_core.proofs.lemmas.MoreFiles.{GroupedAs-append, GroupedAs-exist, grouped_out}
-use Rattle.grep_session.proofs.lemmas.CountLemmas.{many_selected}
+use Rattle.grep_session.proofs.Prelude.{◌≡◌, ℕ, ◌+◌, ◌<◌, ◌≤◌, Bool, true, false, ◌&&◌, Decides, List, [], ◌∷◌, ◌++◌, length, map, drop, get_or, shows_names, All, MatchBool, Option, None, Some, IfSome, Result, Ok, Err, IfOk, IsErr, inl, inr, refl, sym, ap, subst, ◌∙◌, arith, append-nil, append_assoc, if◌then◌else◌, enumerate_from, false≢true, drop_all, length-map, Text, Chosen, EachGives, File, Selected, Status, StatusOf, Form, nothing, names, counts, parts, lines, around, form, Out, written, GroupedAs, rows_after, LineRowsOf, SelectedLines, file_so_far, FileEnd, Missing, Whole, ending_of, summary_as, reported_of, message, Stops, Reached, Message, Messages, GoesOut, StopsWithin, Writes, HoldsOfMany, KeptLine, line_text, KeptFile, file_with, kept_file, end_of, has_selected, IsKept, IsFileKept, selected_count, WritesGroups, Reports, ReportsMessages}
+use Rattle.grep_core.proofs.lemmas.{Exist.Messages-exist, FileOutput.output_all, FileOutput.rows_none, GroupLaws.after_nothing, RowLemmas.goes_nowhere, MoreFiles.GroupedAs-append, MoreFiles.GroupedAs-exist, MoreFiles.grouped_out}
+use Rattle.grep_session.proofs.lemmas.{CountLemmas.many_selected, KeptLaws.one_message, KeptLaws.stops_reported, Writing.drop-item, Writing.if_ok, Writing.writes_after, Writing.writes_err, Writing.stops_before}
 use Rattle.grep_session.proofs.lemmas.GroupsWritten.{Reporting, Leads, leads_on, leads_to, groups_none, groups_more, groups_front, groups_are}
-use Rattle.grep_session.proofs.lemmas.KeptLaws.{one_message, stops_reported, kept_status}
-use Rattle.grep_session.proofs.lemmas.Writing.{drop-item, if_ok, writes_after, writes_err, stops_before}
 
 -- the lines that have a property, by how many they are
 chosen_of : (P : Text → Type 0) (k : ℕ) (texts : List Text) (n : ℕ) → HoldsOfMany P texts n → (chosen : List (ℕ × Text)) × Chosen (λ line. P line.1) (enumerate_from k texts) chosen × (length chosen ≡ n)
 chosen_of P k [] n h = ([], refl, sym h)
 chosen_of P k (text ∷ texts) n (others, h, inl (holds, is)) =
     let rest = chosen_of P (k + 1) texts others h in
-    ((k, text) ∷ rest.0, ((k, text) ∷ [], rest.0, inl (holds, refl), rest.1, refl), omega (arith, is, rest.2))
+    ((k, text) ∷ rest.0, ((k, text) ∷ [], rest.0, inl (holds, refl), rest.1, refl), omega arith)
 chosen_of P k (text ∷ texts) n (others, h, inr (no_one, is)) =
     let rest = chosen_of P (k + 1) texts others h in
     (rest.0, ([], rest.0, inr (no_one, refl), rest.1, refl), rest.2 ∙ sym is)
@@ -53,20 +47,20 @@ module _ {W : Type 0} (p : Reporting W) where
   summary_written {E} name texts end {mid = mid} {selected = selected} {b = b} {c = c} r (chosen, are, counted) g is w =
       let after = summary_after (form options) mid many name end selected in
       let here : Gives (λ rows. rows ≡ summary_as (form options) many name end selected) mid b c r =
-      record { groups = summary_as (form options) many name end selected; are_due = refl; wrote = subst (λ rows. Writes contents failures b c (written margin rows) r) after.0 w; goes_on = onward r is } in
-      groups_more g here (λ us vs due same. subst (λ rows. FilesDue (record { name = name; lines = texts; ending = ending_of end } ∷ []) (us ++ rows)) (ap (summary_as (form options) many name end) counted ∙ sym same) (output_all es options many name texts end (form options) us chosen due are))
+      record { groups = summary_as (form options) many name end selected; are_due = refl; wrote = rw after.0 at w; goes_on = onward r is } in
+      groups_more g here (λ us vs due same. rw (ap (summary_as (form options) many name end) counted ∙ sym same) at (output_all es options many name texts end (form options) us chosen due are))
     where
       onward : (r : Result Bool E) → IfOk r (λ now. now ≡ mid) → IfOk r (λ now. (more : List Text) → let own = summary_as (form options) many name end selected in rows_after (form options) mid (own ++ more) ≡ rows_after (form options) mid own ++ rows_after (form options) now more)
-      onward (Ok now) is = λ more. (summary_after (form options) mid many name end selected).1 more ∙ ap (λ now. rows_after (form options) mid (summary_as (form options) many name end selected) ++ rows_after (form options) now more) (sym is)
+      onward (Ok now) is = λ more. cc ((summary_after _ _ _ _ _ _).1 more)
       onward (Err e) is = tt
 
   pub file_missing : {E : Type 0} (name : Text) {kept : Option (List KeptLine)} {some : Bool} {a b : W} (r : Result Bool E) → kept ≡ None → IfOk r (λ now. now ≡ some) → Writes contents failures a b (written margin (summary_as (form options) many name Missing 0)) r → Gives (FilesDue (file_with name kept ∷ [])) some a b r
   file_missing name {some = some} {a = a} {b = b} r is now w =
-      subst (λ k. Gives (FilesDue (file_with name k ∷ [])) some a b r) (sym is) (summary_written name [] Missing r ([], refl, refl) (groups_none {E = Unit {0}} (rows_none es options many name (form options))) now w)
+      rw is (summary_written _ [] _ r ([], refl, refl) (groups_none {E = Unit {0}} (rows_none es options many name (form options))) now w)
 
   module _ (name : Text) {kept : Option (List KeptLine)} {text : List KeptLine} (is : kept ≡ Some text) (right : IfSome kept (All (IsKept es options))) where
     all_kept : All (IsKept es options) text
-    all_kept = subst (λ k. IfSome k (All (IsKept es options))) is right
+    all_kept = rw is at right
 
     chosen_kept : (chosen : List (ℕ × Text)) × SelectedLines es options many (file_so_far name (map line_text text)) chosen × (length chosen ≡ selected_count options text)
     chosen_kept = chosen_of (Selected es options) 1 (map line_text text) (selected_count options text) (many_selected es options text all_kept)
@@ -110,13 +104,13 @@ module _ {W : Type 0} (p : Reporting W) where
 
     out_is : many ≡ shows_names (length files) → (rows : List Text) → AllFiles rows → Out es options (map kept_file files) (rows_after (form options) false rows)
     out_is many_is rows h =
-        subst (λ m. OutAs es options m (form options) (map kept_file files) (rows_after (form options) false rows)) (many_is ∙ ap shows_names (sym (length-map files kept_file))) (grouped_out es options many (form options) (map kept_file files) rows h)
+        rw (many_is ∙ ap shows_names (sym (length-map files kept_file))) at (grouped_out es options many (form options) (map kept_file files) rows h)
 
     module _ {i : ℕ} {a b : W} {mid : Bool} (s : FilesTo i a b mid) where
       further : {E : Type 0} {file : KeptFile} {c : W} {r : Result Bool E} → i < length files → file ≡ get_or files i file → Gives (FilesDue (kept_file file ∷ [])) mid b c r → Gives (Leads (FilesFrom (i + 1)) AllFiles) false a c r
       further {file = file} inside is g = groups_more s.wrote g (λ us vs l here. leads_on l (record {
         with_rest = λ rest h.
-            subst (λ fs. FilesDue (map kept_file fs) (vs ++ rest)) (sym (drop-item files i file inside is)) (GroupedAs-append es options many (form options) (kept_file file ∷ []) (map kept_file (drop (i + 1) files)) vs rest here h);
+            rw (drop-item _ i _ inside is) (GroupedAs-append es options many (form options) (kept_file file ∷ []) (map kept_file (drop (i + 1) files)) vs rest here h);
       }))
 
       pub files_on : {E : Type 0} {file : KeptFile} {c : W} {now : Bool} → i < length files → file ≡ get_or files i file → Gives {E = E} (FilesDue (kept_file file ∷ [])) mid b c (Ok now) → FilesTo (i + 1) a c now
@@ -125,7 +119,7 @@ module _ {W : Type 0} (p : Reporting W) where
       pub files_all : many ≡ shows_names (length files) → {E : Type 0} {status : Status} → length files ≤ i → StatusOf es options (map kept_file files) status → Reports contents failures es options (map kept_file files) margin a b {E = E} (Ok status)
       files_all many_is past is = record {
         out = rows_after (form options) false s.wrote.groups;
-        is_output = out_is many_is s.wrote.groups (leads_to s.wrote.are_due (subst (λ fs. FilesDue (map kept_file fs) []) (sym (drop_all i files past)) no_file));
+        is_output = out_is many_is _ (leads_to s.wrote.are_due (rw (drop_all i files past) no_file));
         wrote = s.wrote.wrote;
         is_status = is;
       }
@@ -156,8 +150,8 @@ module _ {W : Type 0} (p : Reporting W) where
           ((reached : List File) × Reached es options (kept_file file ∷ map kept_file files) reached × EachGives (Message es options) reached ((if silent then [] else message (ending_of (end_of file)) file.name.items) ++ rest))
       by_flag true true d h = h
       by_flag true false d h = h
-      by_flag false true d h = (kept_file file ∷ [], ([], refl, inl (d.0 refl, refl)), (_, rest, one_message es options file.name.items (kept_lines file), h, refl))
-      by_flag false false d h = (kept_file file ∷ h.0, (h.0, refl, inr ((λ s. false≢true (d.1 s)), h.1)), (_, rest, one_message es options file.name.items (kept_lines file), h.2, refl))
+      by_flag false true d h = (kept_file file ∷ [], ([], refl, inl (d.0 refl, refl)), (_, rest, one_message es options _ _, h, refl))
+      by_flag false false d h = (kept_file file ∷ h.0, (h.0, refl, inr ((λ s. false≢true (d.1 s)), h.1)), (_, rest, one_message es options _ _, h.2, refl))
 
   module _ (files : List KeptFile) where
     -- the messages about the first files were written
@@ -171,7 +165,7 @@ module _ {W : Type 0} (p : Reporting W) where
 
     module _ {i : ℕ} {a b : W} (s : MessagesTo i a b) where
       pub messages_all : {E : Type 0} → length files ≤ i → ReportsMessages contents failures es options (map kept_file files) margin a b {T = Unit {0}} {E = E} (Ok tt)
-      messages_all past = record { reported = s.reported; are_messages = leads_to s.leads (subst (λ fs. MessagesDue fs []) (sym (drop_all i files past)) no_message); wrote = s.wrote }
+      messages_all past = record { reported = s.reported; are_messages = leads_to s.leads (rw (drop_all i files past) no_message); wrote = s.wrote }
 
       module _ {file : KeptFile} (inside : i < length files) (is : file ≡ get_or files i file) (kept : IsFileKept es options file) where
         abbrev pub own : List Text

@@ -1,5 +1,5 @@
 -- Marks that fit their files, and the marks that edits leave.
-use Rattle.grep_session.proofs.Prelude.{◌≡◌, ℕ, zero, suc, ◌+◌, ◌-◌, ◌<◌, ◌≤◌, List, [], ◌∷◌, ◌++◌, length, map, take, drop, get_or, Bool, Result, Ok, Err, refl, sym, ap, subst, ◌∙◌, inr, arith, set, length-take-le, length-append, length-drop, length-map, map-append, AllZip, remove, splice, slice_set, Text, File, file_at, KeptFile, kept_file, spliced, Marked, Splices, whole_mark, new_mark, mark_at, lost, known_marks, IsFit, AreFit, SplicesMark, Watched, MarksAfter, MarksGiven, Splice, LosesMarks, changes_hits, true, EditFault, Syntax, Flag, SetSyntax, SetFlag, option_of}
+use Rattle.grep_session.proofs.Prelude.{◌≡◌, ℕ, zero, suc, ◌+◌, ◌-◌, ◌<◌, ◌≤◌, List, [], ◌∷◌, ◌++◌, length, map, take, drop, get_or, Bool, Result, Ok, Err, refl, sym, ap, ◌∙◌, inr, arith, set, length-take-le, length-append, length-drop, length-map, map-append, AllZip, remove, splice, slice_set, Text, File, file_at, KeptFile, kept_file, spliced, Marked, Splices, whole_mark, new_mark, mark_at, lost, known_marks, IsFit, AreFit, SplicesMark, Watched, MarksAfter, MarksGiven, Splice, LosesMarks, changes_hits, true, EditFault, Syntax, Flag, SetSyntax, SetFlag, option_of}
 use Rattle.std.proofs.lemmas.List.{get_or-map, get_or-set_same, length-set}
 use Rattle.grep_session.proofs.lemmas.DroppingLemmas.{AllZip-remove}
 
@@ -35,7 +35,7 @@ module _ {A B : Type 0} (R : A → B → Type 0) where
   zip-length [] [] h = refl
   zip-length [] (b ∷ ys) h = absurd h
   zip-length (a ∷ xs) [] h = absurd h
-  zip-length (a ∷ xs) (b ∷ ys) h = ap suc (zip-length xs ys h.1)
+  zip-length (a ∷ xs) (b ∷ ys) h = rw (zip-length xs ys h.1)
 
 -- ---- one mark
 
@@ -47,7 +47,7 @@ fits_lost : (file : File) (mark : Marked) → IsFit file mark → IsFit file (lo
 fits_lost file mark fits = (fits.0, (0, 0, omega arith, omega arith, refl))
 
 fits_new : (file : File) (mark : Marked) → mark ≡ new_mark (length file.lines) → IsFit file mark
-fits_new file mark is = subst (IsFit file) (sym is) (refl, (0, 0, refl, omega arith, refl))
+fits_new file mark is = rw is (refl, (0, 0, refl, omega arith, refl))
 
 -- ---- the marks of all files
 
@@ -63,7 +63,7 @@ module _ (files : List File) (marks : List Marked) (fit : AreFit files marks) wh
   fit_dropped k = AllZip-remove IsFit files marks k fit
 
   pub fit_lost : AreFit files (map lost marks)
-  fit_lost = zip-map IsFit lost fits_lost files marks fit
+  fit_lost = zip-map IsFit lost fits_lost _ _ fit
 
   -- the mark of one of them
   pub fit_at : (k : ℕ) → k < length files → IsFit (file_at files k) (mark_at marks k)
@@ -73,29 +73,28 @@ module _ (files : List File) (marks : List Marked) (fit : AreFit files marks) wh
   fit_spliced k start count come inside within mark s =
       let file = file_at files k in
       let many : mark.lines ≡ length (splice file.lines start (start + count) come) =
-      omega (arith, s.lines, (fit_at k inside).0, length-splice file.lines come start count within, within) in
-      zip-set IsFit files marks k (record file { lines = splice file.lines start (start + count) come }) mark fit (many, s.fits)
+      omega (arith, (fit_at k inside).0, length-splice file.lines come start count within) in
+      zip-set IsFit _ _ k _ _ fit (many, s.fits)
 
   -- the mark of a file in which lines were replaced, so that it has `lines` lines
   module _ (k start count : ℕ) (come : List Text) (inside : k < length files) (within : start + count ≤ length (file_at files k).lines) (lines : ℕ) (is : lines ≡ length (splice (file_at files k).lines start (start + count) come)) where
     pub mark_within : start + count ≤ (mark_at marks k).lines
-    mark_within = omega (arith, within, (fit_at k inside).0)
+    mark_within = omega (arith, (fit_at k inside).0)
 
     pub mark_rest : (mark_at marks k).lines - count ≤ lines
-    mark_rest = omega (arith, is, length-splice (file_at files k).lines come start count within, (fit_at k inside).0)
+    mark_rest = omega (arith, length-splice (file_at files k).lines come start count within, (fit_at k inside).0)
 
     pub mark_spliced : (more : List Marked) → SplicesMark k start count (lines - ((mark_at marks k).lines - count)) marks more → SplicesMark k start count (length come) marks more
     mark_spliced more s =
-        let same : lines - ((mark_at marks k).lines - count) ≡ length come = omega (arith, is, length-splice (file_at files k).lines come start count within, (fit_at k inside).0, within) in
-        subst (λ added. SplicesMark k start count added marks more) same s
+        let same : lines - ((mark_at marks k).lines - count) ≡ length come = omega (arith, length-splice (file_at files k).lines come start count within, (fit_at k inside).0) in
+        rw same at s
 
 -- how many lines a file has in which some were replaced
 pub lines_spliced : (files : List KeptFile) (old : List File) (k start count : ℕ) (come : List Text) (here : KeptFile) → k < length old → map kept_file files ≡ spliced old k start count come → here ≡ get_or files k here → length (kept_file here).lines ≡ length (splice (file_at old k).lines start (start + count) come)
 lines_spliced files old k start count come here inside all at =
     let file = record (file_at old k) { lines = splice (file_at old k).lines start (start + count) come } in
-    let many : k < length files = omega (arith, inside, length-map files kept_file, ap length all, length-set old k file) in
     let none = file_at [] k in
-    let one : kept_file here ≡ file = ap kept_file at ∙ sym (get_or-map kept_file files k here none many) ∙ ap (λ fs. get_or fs k none) all ∙ get_or-set_same old k file none inside in
+    let one = ap kept_file at ∙ sym (get_or-map kept_file files k here none (omega (arith, length-map files kept_file, ap length all, length-set old k file))) ∙ ap (λ fs. get_or fs k none) all ∙ get_or-set_same old k file none inside in
     ap (λ (f : File). length f.lines) one
 
 -- all changes are reported
@@ -111,11 +110,11 @@ known_fit (file ∷ files) = ((refl, refl), known_fit files)
 
 -- marks that fit, of lists that are the same
 pub fit_as : (files new : List File) (marks more : List Marked) → new ≡ files → more ≡ marks → AreFit files marks → AreFit new more
-fit_as files new marks more f m fit = subst (λ (fs : List File). AreFit fs more) (sym f) (subst (AreFit files) (sym m) fit)
+fit_as files new marks more f m fit = rw f (rw m fit)
 
 -- all were lost
 pub fit_lose : (files new : List File) (marks more : List Marked) → new ≡ files → more ≡ map lost marks → AreFit files marks → AreFit new more
-fit_lose files new marks more f m fit = fit_as files new (map lost marks) more f m (fit_lost files marks fit)
+fit_lose files new marks more f m fit = fit_as _ _ _ _ f m (fit_lost _ _ fit)
 
 -- a file was added
 pub fit_pushed : (files : List KeptFile) (marks : List Marked) (file : KeptFile) (new : List KeptFile) (more : List Marked) → new ≡ files ++ file ∷ [] → more ≡ marks ++ new_mark (length (kept_file file).lines) ∷ [] → AreFit (map kept_file files) marks → AreFit (map kept_file new) more
@@ -131,7 +130,7 @@ given_syntax syntax old new (Err fault) other loses = loses
 -- where lines were replaced
 pub given_splice : (k start count : ℕ) (lines come : List Text) (old : Watched) (new : List Marked) → come ≡ lines → SplicesMark k start count (length come) old.marks new → MarksAfter (Splice k start count lines) old new
 given_splice k start count lines come old new same s =
-    let all = subst (λ (ls : List Text). SplicesMark k start count (length ls) old.marks new) same s in
+    let all = rw same at s in
     all
 
 pub given_flag : {T : Type 0} (flag : Flag) (on : Bool) (old : Watched) (new : List Marked) (result : Result T EditFault) → (option_of flag old.inputs.options ≡ on → ⊥) → changes_hits flag ≡ true → LosesMarks old.marks new result → MarksGiven (SetFlag flag on) old new result

@@ -1,16 +1,15 @@
 -- What was found replaces what is kept, one chunk and one file at a time.
-use Rattle.grep_session.proofs.Prelude.{◌≡◌, ℕ, zero, suc, ◌<◌, List, [], ◌∷◌, ◌++◌, length, map, take, drop, get_or, ◌+◌, add-one, Option, None, Some, IfSome, All, drop-cons, refl, sym, ap, subst, ◌∙◌, arith, append_assoc, AllZip, option_map, unwrap_or, Text, Expression, Options, whole, KeptLine, all_of, line_text, FitColumns, FitsColumn, with_column, with_columns, FoundIn, Change, KeptFile, HasChanged, AddsColumns, IsColumn, chunks_of, chunks_of_files, IsKept, IsFileKept, kept_file, file_with, set, take-append_seam, drop-append_seam, take-suc, map-append, append-nil, get_or-drop, drop-set-lt, flat_map-append, All-nil, All-cons, All-append, All-take, All-drop, All-head, All-tail}
+use Rattle.grep_session.proofs.Prelude.{◌≡◌, ℕ, zero, suc, ◌<◌, List, [], ◌∷◌, ◌++◌, length, map, take, drop, get_or, ◌+◌, add-one, Option, None, Some, IfSome, All, drop-cons, refl, sym, ap, ◌∙◌, arith, append_assoc, AllZip, option_map, unwrap_or, Text, Expression, Options, KeptLine, all_of, line_text, FitColumns, FitsColumn, with_column, with_columns, FoundIn, Change, KeptFile, HasChanged, AddsColumns, IsColumn, chunks_of, chunks_of_files, IsKept, IsFileKept, kept_file, file_with, set, take-append_seam, drop-append_seam, take-suc, map-append, append-nil, get_or-drop, drop-set-lt, flat_map-append, All-nil, All-cons, All-append, All-take, All-drop, All-tail}
 use Rattle.grep_core.proofs.lemmas.MatcherLemmas.{AllZip-append}
-use Rattle.line_chunks.proofs.lemmas.Joins.{joined_parts, joined_push}
-use Rattle.line_chunks.proofs.lemmas.SeenLaws.{texts-seen}
+use Rattle.line_chunks.proofs.lemmas.{Joins.joined_parts, Joins.joined_push, SeenLaws.texts-seen}
 
 -- ---- what holds of all elements
 
 pub all_first : {X : Type 0} (P : X → Type 0) (xs ys : List X) → All P (xs ++ ys) → All P xs
-all_first P xs ys all = subst (All P) (take-append_seam xs ys) (All-take P (length xs) (xs ++ ys) all)
+all_first P xs ys all = rw (take-append_seam xs ys) at (All-take P (length xs) (xs ++ ys) all)
 
 pub all_rest : {X : Type 0} (P : X → Type 0) (xs ys : List X) → All P (xs ++ ys) → All P ys
-all_rest P xs ys all = subst (All P) (drop-append_seam xs ys) (All-drop P (length xs) (xs ++ ys) all)
+all_rest P xs ys all = rw (drop-append_seam xs ys) at (All-drop P (length xs) (xs ++ ys) all)
 
 -- what holds of all lines holds of those of each chunk
 pub all_by_chunk : (P : KeptLine → Type 0) (chunks : List (List KeptLine)) → All P (all_of chunks) → All (All P) chunks
@@ -21,13 +20,13 @@ all_by_chunk P (chunk ∷ chunks) all = All-cons (All P) chunk chunks (all_first
 
 module _ (chunks : List (List KeptLine)) (i : ℕ) (h : i < length chunks) where
   pub chunks_next : take (i + 1) chunks ≡ take i chunks ++ get_or chunks i [] ∷ []
-  chunks_next = ap (λ n. take n chunks) (add-one i) ∙ take-suc chunks i [] h
+  chunks_next = cc (add-one i, take-suc chunks i [] h)
 
   pub texts_next : map line_text (all_of (take (i + 1) chunks)) ≡ map line_text (all_of (take i chunks)) ++ map line_text (get_or chunks i [])
   texts_next = ap (λ cs. map line_text (all_of cs)) chunks_next ∙ ap (map line_text) (joined_push (take i chunks) (get_or chunks i [])) ∙ map-append line_text (all_of (take i chunks)) (get_or chunks i [])
 
   pub texts_rest : map line_text (all_of (take (i + 1) chunks)) ++ map line_text (all_of (drop (i + 1) chunks)) ≡ map line_text (all_of chunks)
-  texts_rest = sym (map-append line_text (all_of (take (i + 1) chunks)) (all_of (drop (i + 1) chunks))) ∙ ap (map line_text) (sym (joined_parts chunks (i + 1)))
+  texts_rest = cc (map-append line_text (all_of (take (i + 1) chunks)) (all_of (drop (i + 1) chunks)), joined_parts chunks (i + 1))
 
 -- ---- columns that are added
 
@@ -40,13 +39,13 @@ module _ (change : Change) (es : List Expression) (options : Options) where
   pub adds_columns : (chunks more all : List (List KeptLine)) (old mid new : List (Option FoundIn)) → all ≡ chunks ++ more → AddsColumns change es options chunks old mid → AddsColumns change es options more mid new → AddsColumns change es options all old new
   adds_columns chunks more all old mid new both a b = record {
     found = a.found ++ b.found;
-    added = b.added ∙ ap (λ l. l ++ b.found) a.added ∙ append_assoc old a.found b.found;
-    fit = subst (λ cs. AllZip FitsColumn cs (a.found ++ b.found)) (sym both) (AllZip-append FitsColumn chunks more a.found b.found a.fit b.fit);
+    added = cc (b.added, a.added, append_assoc old a.found b.found);
+    fit = rw both (AllZip-append FitsColumn chunks more a.found b.found a.fit b.fit);
     are_right = λ h k.
         let Kept = All (IsKept h.before h.was) in
-        let kept = subst (All Kept) both k in
-        subst (λ cs. AllZip (IsColumn es options) cs (a.found ++ b.found)) (sym both)
-        (AllZip-append (IsColumn es options) chunks more a.found b.found (a.are_right h (all_first Kept chunks more kept)) (b.are_right h (all_rest Kept chunks more kept)));
+        let kept = rw both at k in
+        rw both
+        (AllZip-append (IsColumn es options) chunks more a.found b.found (a.are_right h (all_first Kept _ _ kept)) (b.are_right h (all_rest Kept _ _ kept)));
   }
 
   -- what was found in one chunk
@@ -77,7 +76,7 @@ module _ (es : List Expression) (options : Options) where
 
   -- so have those of a file
   pub right_file : (old new : KeptFile) (more : List (List KeptLine)) (found : List (Option FoundIn)) → new.lines ≡ option_map (λ cs. with_columns cs found) old.lines → AllZip (IsColumn es options) (chunks_of old ++ more) found → IsFileKept es options new
-  right_file old new more found put h = subst (λ ls. IfSome (option_map all_of ls) (All (IsKept es options))) (sym put) (by_lines old.lines h)
+  right_file old new more found put h = rw put (by_lines old.lines h)
     where
       by_lines : (ls : Option (List (List KeptLine))) → AllZip (IsColumn es options) (unwrap_or ls [] ++ more) found → IfSome (option_map all_of (option_map (λ cs. with_columns cs found) ls)) (All (IsKept es options))
       by_lines None h = tt
@@ -99,7 +98,7 @@ texts_with_columns (chunk ∷ chunks) (one ∷ found) =
 
 file_with_columns : (name : Text) (ls : Option (List (List KeptLine))) (found : List (Option FoundIn)) → file_with name (option_map all_of (option_map (λ cs. with_columns cs found) ls)) ≡ file_with name (option_map all_of ls)
 file_with_columns name None found = refl
-file_with_columns name (Some chunks) found = ap (λ t. record { name = name; lines = t; ending = whole }) (texts_with_columns chunks found)
+file_with_columns name (Some chunks) found = rw (texts_with_columns _ _)
 
 -- the file that contracts see is as it was
 pub same_file : (old new : KeptFile) (found : List (Option FoundIn)) → new.name ≡ old.name → new.lines ≡ option_map (λ cs. with_columns cs found) old.lines → kept_file new ≡ kept_file old
@@ -107,7 +106,7 @@ same_file old new found name put = (λ i. file_with (name i).items (option_map a
 
 -- the chunks of the file at a place, and of those after it
 pub chunks_from : (files : List KeptFile) (i : ℕ) (d : KeptFile) → i < length files → chunks_of_files (drop i files) ≡ chunks_of (get_or files i d) ++ chunks_of_files (drop (suc i) files)
-chunks_from files i d h = ap chunks_of_files (drop-cons files i d h)
+chunks_from files i d h = rw (drop-cons files i d h)
 
 -- the chunks of the first files and of one more
 pub chunks_on : (files : List KeptFile) (i : ℕ) (file : KeptFile) → i < length files → file ≡ get_or files i file → chunks_of_files (take (i + 1) files) ≡ chunks_of_files (take i files) ++ chunks_of file
@@ -119,7 +118,7 @@ chunks_on files i file h is =
 pub files_by_chunk : (es : List Expression) (options : Options) (files : List KeptFile) → All (IsFileKept es options) files → All (All (IsKept es options)) (chunks_of_files files)
 files_by_chunk es options [] all = All-nil (All (IsKept es options))
 files_by_chunk es options (file ∷ files) all =
-    All-append (All (IsKept es options)) (chunks_of file) (chunks_of_files files) (by_lines file.lines (All-head (IsFileKept es options) file files all)) (files_by_chunk es options files (All-tail (IsFileKept es options) file files all))
+    All-append (All (IsKept es options)) (chunks_of file) (chunks_of_files files) (by_lines file.lines (all 0 file (omega arith))) (files_by_chunk es options files (All-tail (IsFileKept es options) file files all))
   where
     by_lines : (ls : Option (List (List KeptLine))) → IfSome (option_map all_of ls) (All (IsKept es options)) → All (All (IsKept es options)) (unwrap_or ls [])
     by_lines None h = All-nil (All (IsKept es options))
@@ -127,18 +126,18 @@ files_by_chunk es options (file ∷ files) all =
 
 -- a file that cannot be opened has no chunk
 pub no_chunks : (file : KeptFile) → file.lines ≡ None → chunks_of file ≡ []
-no_chunks file is = ap (λ (ls : Option (List (List KeptLine))). unwrap_or ls []) is
+no_chunks file is = rw is
 
 -- another has those that are kept of it
 module _ (file : KeptFile) (chunks : List (List KeptLine)) (is : file.lines ≡ Some chunks) where
   pub its_chunks : chunks_of file ≡ chunks
-  its_chunks = ap (λ (ls : Option (List (List KeptLine))). unwrap_or ls []) is
+  its_chunks = rw is
 
   pub its_lines : (kept_file file).lines ≡ map line_text (all_of chunks)
-  its_lines = ap (λ (ls : Option (List (List KeptLine))). (file_with file.name.items (option_map all_of ls)).lines) is
+  its_lines = rw is
 
-  pub was_kept : (es : List Expression) (options : Options) → IsFileKept es options file → All (IsKept es options) (all_of chunks)
-  was_kept es options kept = subst (λ (ls : Option (List (List KeptLine))). IfSome (option_map all_of ls) (All (IsKept es options))) is kept
+  pub was_kept : {es : List Expression} {options : Options} → IsFileKept es options file → All (IsKept es options) (all_of chunks)
+  was_kept kept = rw is at kept
 
 -- ---- files whose lines are put one after the other
 
@@ -164,8 +163,8 @@ there_still files now i d same =
 
 -- what was found fits them
 pub fit_all : (chunks : List (List KeptLine)) (found : List (Option FoundIn)) → AllZip FitsColumn chunks found → FitColumns chunks found
-fit_all chunks found fit = fit_first chunks [] found (subst (λ cs. AllZip FitsColumn cs found) (sym (append-nil chunks)) fit)
+fit_all chunks found fit = fit_first _ [] _ (rw (append-nil chunks) fit)
 
 -- and is right for their lines
 pub right_all : (es : List Expression) (options : Options) (chunks : List (List KeptLine)) (found : List (Option FoundIn)) → AllZip (IsColumn es options) chunks found → All (IsKept es options) (all_of (with_columns chunks found))
-right_all es options chunks found right = right_chunks es options chunks [] found (subst (λ cs. AllZip (IsColumn es options) cs found) (sym (append-nil chunks)) right)
+right_all es options chunks found right = right_chunks es options chunks [] found (rw (append-nil chunks) right)

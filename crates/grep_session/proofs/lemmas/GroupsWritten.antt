@@ -1,7 +1,6 @@
 -- Groups of lines that are written one after the other.
-use Rattle.grep_session.proofs.Prelude.{◌≡◌, ℕ, Bool, List, [], ◌++◌, Option, Result, Ok, Err, IfOk, IsErr, refl, sym, ap, subst, ◌∙◌, append_assoc, append-nil, false≢true, Text, Expression, Options, Form, rows_after, written, GoesOut, StopsWithin, Writes, WritesGroups}
-use Rattle.grep_core.proofs.lemmas.GroupLaws.{after_nothing, after_longer}
-use Rattle.grep_core.proofs.lemmas.RowLemmas.{goes_nowhere}
+use Rattle.grep_session.proofs.Prelude.{◌≡◌, ℕ, Bool, List, [], ◌++◌, Option, Result, Ok, Err, IfOk, IsErr, sym, ap, ◌∙◌, append_assoc, append-nil, false≢true, Text, Expression, Options, Form, rows_after, WritesGroups, subst, written, GoesOut}
+use Rattle.grep_core.proofs.lemmas.{GroupLaws.after_nothing, GroupLaws.after_longer, RowLemmas.goes_nowhere}
 use Rattle.grep_session.proofs.lemmas.Writing.{writes_after, stops_before}
 
 -- what a report is of, and where it is written
@@ -19,11 +18,11 @@ pub record Leads (Left All : List Text → Type 0) (rows : List Text) : Type 0 w
 
 -- and also with more rows
 pub leads_on : {Left Next All : List Text → Type 0} {us vs : List Text} → Leads Left All us → Leads Next Left vs → Leads Next All (us ++ vs)
-leads_on {All = All} {us = us} {vs = vs} f g = record { with_rest = λ rest h. subst All (sym (append_assoc us vs rest)) (f.with_rest (vs ++ rest) (g.with_rest rest h)) }
+leads_on {All = All} {us = us} {vs = vs} f g = record { with_rest = λ rest h. rw (append_assoc us vs rest) (f.with_rest (vs ++ rest) (g.with_rest rest h)) }
 
 -- with none
 pub leads_to : {Left All : List Text → Type 0} {us : List Text} → Leads Left All us → Left [] → All us
-leads_to {All = All} {us = us} f h = subst All (append-nil us) (f.with_rest [] h)
+leads_to {All = All} {us = us} f h = rw (append-nil us) at (f.with_rest [] h)
 
 module _ {W : Type 0} {contents : W → Option Text} {failures : W → ℕ} {shape : Form} {margin : Text} {some : Bool} where
   -- nothing was written
@@ -41,7 +40,7 @@ module _ {W : Type 0} {contents : W → Option Text} {failures : W → ℕ} {sha
   groups_more {E} {mid = mid} {a = a} {b = b} {c = c} {r = r} g h join = record {
     groups = g.groups ++ h.groups;
     are_due = join g.groups h.groups g.are_due h.are_due;
-    wrote = subst (λ rows. Writes contents failures a c (written margin rows) r) (sym (g.goes_on h.groups)) (writes_after contents failures margin a b c (rows_after shape some g.groups) (rows_after shape mid h.groups) r g.wrote h.wrote);
+    wrote = rw (g.goes_on h.groups) (writes_after contents failures margin a b c (rows_after shape some g.groups) (rows_after shape mid h.groups) r g.wrote h.wrote);
     goes_on = onward r h.goes_on;
   }
     where
@@ -55,15 +54,15 @@ module _ {W : Type 0} {contents : W → Option Text} {failures : W → ℕ} {sha
   -- what was written before a failure is a beginning of more
   pub groups_front : {E F : Type 0} {P R : List Text → Type 0} {a b : W} {r : Result Bool E} {s : Result Bool F} → IsErr r → IsErr s → WritesGroups contents failures P shape margin some a b r
       → ((us : List Text) → P us → (vs : List Text) × R (us ++ vs)) → WritesGroups contents failures R shape margin some a b s
-  groups_front {a = a} {b = b} {r = Ok v} is too g more = absurd (false≢true is)
-  groups_front {a = a} {b = b} {r = Err e} {s = Ok v} is too g more = absurd (false≢true too)
+  groups_front {r = Ok v} is too g more = absurd (false≢true is)
+  groups_front {r = Err e} {s = Ok v} is too g more = absurd (false≢true too)
   groups_front {a = a} {b = b} {r = Err e} {s = Err f} is too g more =
       let rest = more g.groups g.are_due in
       let longer = after_longer shape some g.groups rest.0 in
       record {
         groups = g.groups ++ rest.0;
         are_due = rest.1;
-        wrote = subst (λ rows. StopsWithin contents failures a b (written margin rows)) (sym longer.1) (stops_before contents failures margin a b (rows_after shape some g.groups) longer.0 g.wrote);
+        wrote = rw longer.1 (stops_before contents failures margin a b (rows_after shape some g.groups) longer.0 g.wrote);
         goes_on = tt;
       }
 

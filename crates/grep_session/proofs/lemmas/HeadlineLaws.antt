@@ -1,8 +1,6 @@
 -- A session's report, messages and status, from scratch; the accepted edits decide them.
-use Rattle.grep_session.proofs.Prelude.{◌≡◌, ℕ, Bool, List, [], ◌∷◌, ◌++◌, Option, Result, Ok, Err, refl, sym, subst, ◌∙◌, Decides, Text, Expression, Status, Inputs, AreMeant, AnySelected, Messages, StatusOf, Out, EditFault, NoSuchFile, FileIsMissing, OutOfRange, LineHasNewline, NoSuchPattern, Pattern, TooManyPatterns, Memory, Edit, EditGives, no_inputs, GrepGives, ReportsInputs, ReportsAllInputs, IsStatusOfInputs, Attempt, ComesTo, with_accepted, accepted, Makes, AcceptedEditsDecide, Reports, ReportsMessages}
-use Rattle.grep_core.proofs.lemmas.Determined.{Out-determined, Messages-determined, StatusOf-determined}
-use Rattle.grep_core.proofs.lemmas.Exist.{Out-exist, Messages-exist, StatusOf-exist}
-use Rattle.grep_core.proofs.lemmas.LawsHold.{means_one}
+use Rattle.grep_session.proofs.Prelude.{◌≡◌, ℕ, Bool, List, [], ◌∷◌, ◌++◌, Option, Result, Ok, Err, refl, sym, ◌∙◌, Decides, Text, Expression, Status, Inputs, AreMeant, AnySelected, Messages, StatusOf, Out, EditFault, NoSuchFile, FileIsMissing, OutOfRange, LineHasNewline, NoSuchPattern, Pattern, TooManyPatterns, Memory, Edit, EditGives, no_inputs, GrepGives, ReportsInputs, ReportsAllInputs, IsStatusOfInputs, Attempt, ComesTo, with_accepted, accepted, Makes, AcceptedEditsDecide, Reports, ReportsMessages}
+use Rattle.grep_core.proofs.lemmas.{Determined.Out-determined, Determined.Messages-determined, Determined.StatusOf-determined, Exist.Out-exist, Exist.Messages-exist, Exist.StatusOf-exist, LawsHold.means_one}
 use Rattle.grep_session.proofs.lemmas.EditLaws.{Applies-once}
 
 -- ---- the report, the messages and the status
@@ -17,25 +15,25 @@ module _ (inputs : Inputs) (es : List Expression) (are_meant : AreMeant inputs.s
     unfolding gives_with
     reports_inputs (Ok status) r =
         let reported = Messages-exist es inputs.options inputs.files in
-        record { grep = gives_with r.out reported.0 status r.is_output reported.1 r.is_status; wrote = r.wrote; answered = refl }
+        record { grep = gives_with _ _ _ r.is_output reported.1 r.is_status; wrote = r.wrote; answered = refl }
     reports_inputs (Err fault) r =
         let reported = Messages-exist es inputs.options inputs.files in
         let status = StatusOf-exist es inputs.options inputs.files in
-        record { grep = gives_with r.out reported.0 status.0 r.is_output reported.1 status.1; wrote = r.wrote; answered = tt }
+        record { grep = gives_with _ _ _ r.is_output reported.1 status.1; wrote = r.wrote; answered = tt }
 
     pub reports_all_inputs : {T E : Type 0} (result : Result T E) → ReportsMessages contents failures es inputs.options inputs.files margin old new result → ReportsAllInputs contents failures inputs margin old new result
     unfolding gives_with
     reports_all_inputs result t =
         let out = Out-exist es inputs.options inputs.files in
         let status = StatusOf-exist es inputs.options inputs.files in
-        record { grep = gives_with out.0 t.reported status.0 out.1 t.are_messages status.1; wrote = t.wrote }
+        record { grep = gives_with _ _ _ out.1 t.are_messages status.1; wrote = t.wrote }
 
   pub status_of_inputs : (status : Status) → StatusOf es inputs.options inputs.files status → IsStatusOfInputs inputs status
   unfolding gives_with
   status_of_inputs status is =
       let out = Out-exist es inputs.options inputs.files in
       let reported = Messages-exist es inputs.options inputs.files in
-      record { grep = gives_with out.0 reported.0 status out.1 reported.1 is; answered = refl }
+      record { grep = gives_with _ _ _ out.1 reported.1 is; answered = refl }
 
 -- ---- lists of edits
 
@@ -53,7 +51,7 @@ refused_same edit old new Memory g = g
 -- one attempt before the edits that were accepted
 attempt_first : (edit : Edit) (answer : Result (Unit {0}) EditFault) (edits : List Edit) (old between new : Inputs) → EditGives edit old between answer → Makes edits between new → Makes (with_accepted edit answer edits) old new
 attempt_first edit (Ok done) edits old between new g m = (between, g, m)
-attempt_first edit (Err fault) edits old between new g m = subst (λ i. Makes edits i new) (refused_same edit old between fault g) m
+attempt_first edit (Err fault) edits old between new g m = rw (refused_same _ _ _ _ g) at m
 
 leave_from : (tried : List Attempt) (old left : Inputs) → ComesTo tried old left → Makes (accepted tried) old left
 leave_from [] old left c = c
@@ -63,12 +61,12 @@ leave_from (attempt ∷ more) old left c = attempt_first attempt.edit attempt.an
 one_end_from : (edits : List Edit) (old a b : Inputs) → Makes edits old a → Makes edits old b → a ≡ b
 one_end_from [] old a b p q = p ∙ sym q
 one_end_from (edit ∷ more) old a b p q =
-    let same : p.0 ≡ q.0 = Applies-once edit old (Ok p.0) (Ok q.0) p.1 q.1 in
-    one_end_from more q.0 a b (subst (λ i. Makes more i a) same p.2) q.2
+    let same = Applies-once edit old (Ok p.0) (Ok q.0) p.1 q.1 in
+    one_end_from more q.0 a b (rw same at p.2) q.2
 
 -- the last attempt, after the others
 last_from : (tried : List Attempt) (last : Attempt) (old new : Inputs) → ComesTo (tried ++ last ∷ []) old new → (left : Inputs) × ComesTo tried old left × EditGives last.edit left new last.answer
-last_from [] last old new c = (old, refl, subst (λ i. EditGives last.edit old i last.answer) (sym c.2) c.1)
+last_from [] last old new c = (old, refl, rw c.2 c.1)
 last_from (attempt ∷ more) last old new c =
     let rest = last_from more last c.0 new c.2 in
     (rest.0, (c.0, c.1, rest.1), rest.2)
@@ -76,21 +74,21 @@ last_from (attempt ∷ more) last old new c =
 -- for given inputs grep's output, messages and status are unique
 pub one_report : (inputs : Inputs) (a b : GrepGives inputs) → (b.out ≡ a.out) × (b.reported ≡ a.reported) × (b.status ≡ a.status)
 one_report inputs a b =
-    let same : b.es ≡ a.es = means_one inputs.syntax inputs.options inputs.patterns b.es a.es b.are_meant a.are_meant in (
-      Out-determined a.es inputs.options inputs.files b.out a.out (subst (λ es. Out es inputs.options inputs.files b.out) same b.is_output) a.is_output,
-      Messages-determined a.es inputs.options inputs.files b.reported a.reported (subst (λ es. Messages es inputs.options inputs.files b.reported) same b.are_messages) a.are_messages,
-      StatusOf-determined a.es inputs.options inputs.files b.status a.status (subst (λ es. StatusOf es inputs.options inputs.files b.status) same b.is_status) a.is_status,
+    let same = means_one inputs.syntax inputs.options inputs.patterns b.es a.es b.are_meant a.are_meant in (
+      Out-determined a.es inputs.options inputs.files b.out a.out (rw same at b.is_output) a.is_output,
+      Messages-determined a.es inputs.options inputs.files b.reported a.reported (rw same at b.are_messages) a.are_messages,
+      StatusOf-determined a.es inputs.options inputs.files b.status a.status (rw same at b.is_status) a.is_status,
     )
 
 pub accepted_edits_decide : AcceptedEditsDecide
 accepted_edits_decide = record {
   leave = (λ tried left. leave_from tried no_inputs left);
   one_end = (λ edits a b. one_end_from edits no_inputs a b);
-  answers = (λ tried last new c. let found = last_from tried last no_inputs new c in (found.0, leave_from tried no_inputs found.0 found.1, found.2));
+  answers = (λ tried last new c. let found = last_from tried last no_inputs new c in (found.0, leave_from _ _ _ found.1, found.2));
   one_report = one_report;
 }
 
 -- what is known of all expressions that the patterns mean, of the same inputs
 pub known_of : (inputs shown : Inputs) (some : Bool) → inputs ≡ shown → ((es : List Expression) → AreMeant shown.syntax shown.options shown.patterns es → Decides some (AnySelected es shown.options shown.files)) →
     (es : List Expression) → AreMeant inputs.syntax inputs.options inputs.patterns es → Decides some (AnySelected es inputs.options inputs.files)
-known_of inputs shown some same known = subst (λ (i : Inputs). (es : List Expression) → AreMeant i.syntax i.options i.patterns es → Decides some (AnySelected es i.options i.files)) (sym same) known
+known_of inputs shown some same known = rw same known

@@ -1,11 +1,9 @@
 -- If what is kept is right, the verdicts from it, the messages and the status are those of grep.
-use Rattle.grep_session.proofs.Prelude.{◌≡◌, ℕ, ◌≤◌, Bool, true, false, ◌&&◌, not, IsTrue, ◌↔◌, Decides, List, [], ◌∷◌, ◌++◌, map, All, Any, Option, None, Some, MatchBool, IfSome, refl, sym, ap, ◌∙◌, inl, inr, arith, if◌then◌else◌, list_any, Text, Expression, ArePartsFrom, AreParts, Span, Options, Status, EachGives, File, Selected, HasSelected, message, FaultMet, Stops, Reached, Message, Messages, AnySelected, StatusOf, is_fault, ending_of, status_by, KeptLine, line_text, KeptFile, span_places, kept_lines, file_with, kept_file, IsKept, IsFileKept, matches_none, is_selected, has_selected_in, has_selected, end_with, end_of, OnLine, PartsFit, FileFits, is_faulty, any_selected, any_missing, status_by_files, status_given, false≢true, All-head, All-tail, All-nil, All-cons}
+use Rattle.grep_session.proofs.Prelude.{get_or, ◌≡◌, ℕ, Bool, true, false, ◌&&◌, not, IsTrue, ◌↔◌, Decides, List, [], ◌∷◌, map, All, Any, Option, None, Some, MatchBool, IfSome, refl, sym, ◌∙◌, inl, inr, arith, if◌then◌else◌, list_any, Text, Expression, ArePartsFrom, AreParts, Span, Options, Status, Selected, HasSelected, message, FaultMet, Stops, Message, AnySelected, StatusOf, is_fault, ending_of, status_by, KeptLine, line_text, KeptFile, span_places, kept_lines, file_with, kept_file, IsKept, IsFileKept, matches_none, is_selected, has_selected_in, has_selected, end_with, OnLine, PartsFit, FileFits, is_faulty, any_missing, status_by_files, status_given, false≢true, All-head, All-tail, All-nil, All-cons, ap}
 use Rattle.std.specs.Prelude.{⊤}
 use Rattle.re_syntax.proofs.lemmas.Decisions.{Any-none, Any-first, Any-later, Any-cases}
 use Rattle.grep_core.specs.declared.status.Status.TheVariants.{Selected as selected}
-use Rattle.grep_core.proofs.lemmas.PassLemmas.{or_decides}
-use Rattle.grep_core.proofs.lemmas.StatusLaws.{StatusOf-quiet, StatusOf-error, StatusOf-selected, StatusOf-none}
-use Rattle.grep_core.proofs.lemmas.Verdicts.{decided_yes, decided_no}
+use Rattle.grep_core.proofs.lemmas.{PassLemmas.or_decides, StatusLaws.StatusOf-quiet, StatusLaws.StatusOf-error, StatusLaws.StatusOf-selected, StatusLaws.StatusOf-none, Verdicts.decided_yes, Verdicts.decided_no}
 use Rattle.grep_session.proofs.lemmas.NumberLemmas.{some_decides}
 
 -- the status of a run that did not stop
@@ -58,13 +56,10 @@ module _ (es : List Expression) (options : Options) where
   parts_fit : (text : Text) (from : ℕ) (spans : List Span) → ArePartsFrom es text options.line_regexp from (map span_places spans) → All (OnLine text) spans
   parts_fit text from [] h = All-nil (OnLine text)
   parts_fit text from (span ∷ spans) h = let some = h.0.found.not_empty in
-      let in_order : span.start ≤ span.end = omega (arith, some) in
-      All-cons (OnLine text) span spans (in_order, h.0.found.on_line) (parts_fit text span.end spans h.1)
+      All-cons (OnLine text) span spans (omega arith, h.0.found.on_line) (parts_fit text span.end spans h.1)
 
   lines_fit : (text : List KeptLine) → All (IsKept es options) text → All (PartsFit options) text
-  lines_fit [] k = All-nil (PartsFit options)
-  lines_fit (line ∷ text) k =
-      All-cons (PartsFit options) line text (λ asked. parts_fit (line_text line) 0 line.found.spans (parts_asked line asked (All-head (IsKept es options) line text k))) (lines_fit text (All-tail (IsKept es options) line text k))
+  lines_fit text k i d lt asked = let line = get_or text i d in parts_fit (line_text line) 0 line.found.spans (parts_asked line asked (k i d lt))
 
   file_fits : (kept : Option (List KeptLine)) → IfSome kept (All (IsKept es options)) → IfSome kept (All (PartsFit options))
   file_fits None k = tt
@@ -72,8 +67,7 @@ module _ (es : List Expression) (options : Options) where
 
   -- if what is kept of files is right, its parts are on their lines
   pub files_fit : (files : List KeptFile) → All (IsFileKept es options) files → All (FileFits options) files
-  files_fit [] k = All-nil (FileFits options)
-  files_fit (file ∷ files) k = All-cons (FileFits options) file files (file_fits (kept_lines file) (All-head (IsFileKept es options) file files k)) (files_fit files (All-tail (IsFileKept es options) file files k))
+  files_fit files k i d lt = file_fits (kept_lines (get_or files i d)) (k i d lt)
 
   -- ---- a message, and the status for all files
 
@@ -85,7 +79,7 @@ module _ (es : List Expression) (options : Options) where
   pub given_status : (files : List KeptFile) → All (IsFileKept es options) files → (known : Bool) → Decides known (AnySelected es options (map kept_file files)) → StatusOf es options (map kept_file files) (status_given options files known)
   given_status files k known d =
       by_verdicts options.quiet known (any_missing files) refl d
-      (mapped_reported kept_file is_faulty (FaultMet es options) (IsFileKept es options) (λ file _. fault_reported file.name.items (kept_lines file)) files k)
+      (mapped_reported kept_file is_faulty (FaultMet es options) (IsFileKept es options) (λ file _. fault_reported file.name.items (kept_lines file)) _ k)
     where
       by_verdicts : (quiet some faulty : Bool) → quiet ≡ options.quiet → Decides some (AnySelected es options (map kept_file files)) → Decides faulty (Any (FaultMet es options) (map kept_file files))
           → StatusOf es options (map kept_file files) (if quiet && some then selected else status_by some faulty)
@@ -99,4 +93,4 @@ module _ (es : List Expression) (options : Options) where
   -- the status is that of the files
   pub kept_status : (files : List KeptFile) → All (IsFileKept es options) files → StatusOf es options (map kept_file files) (status_by_files options files)
   kept_status files k =
-      given_status files k (any_selected options files) (mapped_reported kept_file (has_selected options) (HasSelected es options) (IsFileKept es options) (λ file. has_reported file.name.items (kept_lines file)) files k)
+      given_status _ k _ (mapped_reported kept_file (has_selected options) (HasSelected es options) (IsFileKept es options) (λ file. has_reported file.name.items (kept_lines file)) _ k)

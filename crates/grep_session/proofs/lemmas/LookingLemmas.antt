@@ -1,7 +1,6 @@
 -- The hit of a line, where what is kept of it is right.
-use Rattle.grep_session.proofs.Prelude.{◌≡◌, ℕ, ◌<◌, Bool, true, false, List, [], length, map, get_or, Option, None, Some, MatchBool, All, IfSome, ◌≤◌, ◌⊎◌, inl, inr, refl, sym, ap, subst, ◌∙◌, arith, if◌then◌else◌, Text, Expression, AreParts, Span, Options, File, Selected, file_at, KeptLine, line_text, no_line, KeptFile, ListedParts, span_places, kept_lines, kept_file, file_with, IsKept, IsFileKept, listed_spans, is_selected, false≢true, cases_lt, get_or_past, length-map, All-get_or}
-use Rattle.std.specs.Prelude.{⊤}
-use Rattle.std.proofs.lemmas.List.{get_or-map}
+use Rattle.grep_session.proofs.Prelude.{◌≡◌, ℕ, ◌<◌, Bool, true, false, List, [], length, map, get_or, None, Some, MatchBool, ◌≤◌, ◌⊎◌, inl, inr, refl, sym, ap, ◌∙◌, arith, if◌then◌else◌, Text, Expression, AreParts, Span, Options, Selected, file_at, KeptLine, line_text, no_line, KeptFile, ListedParts, span_places, kept_lines, kept_file, file_with, IsKept, IsFileKept, listed_spans, is_selected, false≢true, cases_lt, get_or_past, length-map, All-get_or}
+use Rattle.std.{specs.Prelude.⊤, proofs.lemmas.List.get_or-map}
 use Rattle.grep_session.proofs.lemmas.KeptLaws.{selected_reported}
 
 module _ (es : List Expression) (options : Options) where
@@ -15,33 +14,33 @@ module _ (es : List Expression) (options : Options) where
       by_flag false h = refl
 
   -- the hit of a line
-  pub line_listed : (line : KeptLine) → IsKept es options line → is_selected options line ≡ true → (there text : Text) (spans : List Span) → there ≡ line_text line → text ≡ line_text line → spans ≡ listed_spans options line
+  pub line_listed : (line : KeptLine) → IsKept es options line → is_selected options line ≡ true → {there text : Text} {spans : List Span} → there ≡ line_text line → text ≡ line_text line → spans ≡ listed_spans options line
       → Selected es options there × (text ≡ there) × ListedParts es options there (map span_places spans)
-  line_listed line k found there text spans is same listed = (
-    subst (Selected es options) (sym is) ((selected_reported es options line k).0 found),
+  line_listed line k found is same listed = (
+    rw is ((selected_reported es options line k).0 found),
     same ∙ sym is,
-    subst (λ t. ListedParts es options t (map span_places spans)) (sym is) (subst (λ spans. ListedParts es options (line_text line) (map span_places spans)) (sym listed) (parts_listed line k)),
+    rw is (rw listed (parts_listed line k)),
   )
 
   -- a line that is not selected has none
-  pub line_unlisted : (line : KeptLine) → IsKept es options line → is_selected options line ≡ false → (there : Text) → there ≡ line_text line → Selected es options there → ⊥
-  line_unlisted line k none there is selected = false≢true (sym none ∙ (selected_reported es options line k).1 (subst (Selected es options) is selected))
+  pub line_unlisted : (line : KeptLine) → IsKept es options line → is_selected options line ≡ false → {there : Text} → there ≡ line_text line → Selected es options there → ⊥
+  line_unlisted line k none is selected = false≢true (sym none ∙ (selected_reported es options line k).1 (rw is at selected))
 
 -- ---- the lines of a file
 
 module _ (file : KeptFile) (place : ℕ) (here : place < length (kept_file file).lines) where
   -- a file without lines has no line
   pub has_no_line : kept_lines file ≡ None → ⊥
-  has_no_line is = let bad : place < 0 = subst (λ kept. place < length (file_with file.name.items kept).lines) is here in omega (arith, bad)
+  has_no_line is = let bad = rw is at here in omega arith
 
   -- a line of it is among those that are kept
   pub line_there : (lines : List KeptLine) → kept_lines file ≡ Some lines → (place < length lines) × (get_or (kept_file file).lines place [] ≡ line_text (get_or lines place no_line))
   line_there lines is =
-      let inside : place < length lines = omega (arith, subst (λ kept. place < length (file_with file.name.items kept).lines) is here, length-map lines line_text) in
+      let inside : place < length lines = omega (arith, rw is at here, length-map lines line_text) in
       (inside, ap (λ kept. get_or (file_with file.name.items kept).lines place []) is ∙ get_or-map line_text lines place no_line [] inside)
 
   pub line_kept : (es : List Expression) (options : Options) (lines : List KeptLine) → kept_lines file ≡ Some lines → IsFileKept es options file → IsKept es options (get_or lines place no_line)
-  line_kept es options lines is kept = All-get_or (IsKept es options) lines place no_line (line_there lines is).0 (subst (λ l. IfSome l (All (IsKept es options))) is kept)
+  line_kept es options lines is kept = All-get_or (IsKept es options) lines place no_line (line_there _ is).0 (rw is at kept)
 
 -- a file that has a line is there
 pub there : (files : List KeptFile) (k place : ℕ) → place < length (file_at (map kept_file files) k).lines → k < length files
@@ -50,9 +49,9 @@ there files k place h = by_place (cases_lt k (length files))
     by_place : (k < length files) ⊎ (length files ≤ k) → k < length files
     by_place (inl inside) = inside
     by_place (inr past) =
-        let none : file_at (map kept_file files) k ≡ file_at [] k = get_or_past (map kept_file files) k (file_at [] k) (omega (arith, length-map files kept_file)) in
-        let bad : place < 0 = subst (λ (f : File). place < length f.lines) none h in
-        absurd (omega (arith, bad))
+        let none = get_or_past (map kept_file files) k (file_at [] k) (omega (arith, length-map files kept_file)) in
+        let bad = rw none at h in
+        absurd (omega arith)
 
 -- file k of the inputs is that of the kept file
 pub file_is : (files : List KeptFile) (k place : ℕ) (file : KeptFile) → place < length (file_at (map kept_file files) k).lines → file ≡ get_or files k file → file_at (map kept_file files) k ≡ kept_file file

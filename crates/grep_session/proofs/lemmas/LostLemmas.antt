@@ -11,10 +11,10 @@ module _ {A : Type 0} (f : A → A) (xs : List A) where
       let front = map f (take i xs) in
       let next = get_or xs i d in
       let rest = drop (i + 1) xs in
-      let cut : mapped_to i ≡ front ++ next ∷ rest = ap (λ l. front ++ l) (drop_more xs i d h) in
+      let cut : mapped_to i ≡ front ++ next ∷ rest = rw (drop_more xs i d h) in
       let long : length front ≡ i = length-map (take i xs) f ∙ length-take-le i xs (omega arith) in
-      let there : get_or (mapped_to i) i d ≡ next = ap (λ l. get_or l i d) cut ∙ get_or_at front next rest d i long in
-      let more : map f (take (i + 1) xs) ≡ front ++ f next ∷ [] = ap (map f) (take_more xs i d h) ∙ map-append f (take i xs) (next ∷ []) in
+      let there : get_or (mapped_to i) i d ≡ next = cc (get_or_at front next rest d i long) in
+      let more : map f (take (i + 1) xs) ≡ front ++ f next ∷ [] = cc (take_more xs i d h, map-append f (take i xs) (next ∷ [])) in
       (λ j. set (cut j) i (f (there j))) ∙ set_at front next rest (f next) i long ∙ sym (append_assoc front (f next ∷ []) rest) ∙ ap (λ l. l ++ rest) (sym more)
 
   pub mapped_next : (marks : List A) (i : ℕ) (d new : A) → marks ≡ mapped_to i → i < length xs → new ≡ f (get_or marks i d) → set marks i new ≡ mapped_to (i + 1)

@@ -1,5 +1,5 @@
 -- The cost of the lines that are marked, one line after the other.
-use Rattle.grep_session.proofs.Prelude.{◌≡◌, cases_lt, inl, inr, ℕ, zero, suc, ◌+◌, ◌*◌, ◌<◌, ◌≤◌, Bool, true, false, if◌then◌else◌, Decides, List, [], ◌∷◌, ◌++◌, length, length-append, take, take_all, get_or, refl, sym, ap, subst, ◌∙◌, arith, add-one, take-suc, false≢true, Text, newline, terminated, Steps, AddsAtMost, Chosen, search_cost, pairs_cost, marked_cost}
+use Rattle.grep_session.proofs.Prelude.{◌≡◌, cases_lt, inl, inr, ℕ, zero, suc, ◌+◌, ◌*◌, ◌<◌, ◌≤◌, Bool, true, false, if◌then◌else◌, Decides, List, [], ◌∷◌, ◌++◌, length, length-append, take, take_all, get_or, refl, sym, ap, ◌∙◌, arith, add-one, take-suc, false≢true, Text, newline, terminated, Steps, AddsAtMost, Chosen, search_cost, pairs_cost, marked_cost, subst}
 use Rattle.std.specs.Bool.{⊤}
 use Rattle.re_meter.proofs.lemmas.Adding.{adds_both, adds_within}
 use Rattle.grep_core.proofs.lemmas.ChooseLaws.{Chosen-end, Chosen-passed}
@@ -8,10 +8,10 @@ use Rattle.grep_session.proofs.lemmas.StepLemmas.{chosen_all, pairs_cost-append}
 module _ (mark : ℕ → Bool) (many : ℕ) (texts : List Text) where
   -- more lines cost no less
   marked_more : (k n : ℕ) → k ≤ n → marked_cost mark many texts k ≤ marked_cost mark many texts n
-  marked_more k zero h = let none : k ≡ 0 = omega (arith, h) in omega (arith, ap (marked_cost mark many texts) none)
+  marked_more k zero h = let none : k ≡ 0 = omega arith in omega (arith, ap (marked_cost mark many texts) none)
   marked_more k (suc n) h = elim (cases_lt k (suc n)) [
-    | inl less ↦ (let rest = marked_more k n (omega (arith, less)) in omega (arith, rest))
-    | inr past ↦ (let same : k ≡ suc n = omega (arith, h, past) in omega (arith, ap (marked_cost mark many texts) same))
+    | inl less ↦ (let rest = marked_more k n (omega arith) in omega arith)
+    | inr past ↦ (let same : k ≡ suc n = omega arith in omega (arith, ap (marked_cost mark many texts) same))
   ]
 
   -- the steps for the first lines are within the cost of more
@@ -34,21 +34,21 @@ module _ (mark : ℕ → Bool) (many : ℕ) (texts : List Text) where
     one_more k h first true on =
         let line = get_or texts k [] in
         let all = first.0 ++ line ∷ [] in
-        let cost : marked_cost mark many texts k + search_cost many line ≡ pairs_cost many all = omega (arith, first.2, pairs_cost-append many first.0 (line ∷ [])) in
-        (all, subst (λ ls. Chosen P ls all) (sym (take-suc texts k [] h)) (Chosen-end P (take k texts) line first.0 first.1 ((decided k h).0 on)), ap (λ b. marked_cost mark many texts k + (if b then search_cost many line else 0)) on ∙ cost)
+        let cost : marked_cost mark many texts k + search_cost many line ≡ pairs_cost many all = omega (arith, pairs_cost-append many first.0 (line ∷ [])) in
+        (all, rw (take-suc texts k [] h) (Chosen-end P (take k texts) line first.0 first.1 ((decided k h).0 on)), ap (λ b. marked_cost mark many texts k + (if b then search_cost many line else 0)) on ∙ cost)
     one_more k h first false off =
         let line = get_or texts k [] in
-        let cost : marked_cost mark many texts k + 0 ≡ pairs_cost many first.0 = omega (arith, first.2) in
-        (first.0, subst (λ ls. Chosen P ls first.0) (sym (take-suc texts k [] h)) (Chosen-passed P (take k texts) line first.0 first.1 (λ p. false≢true (sym off ∙ (decided k h).1 p))), ap (λ b. marked_cost mark many texts k + (if b then search_cost many line else 0)) off ∙ cost)
+        let cost : marked_cost mark many texts k + 0 ≡ pairs_cost many first.0 = omega arith in
+        (first.0, rw (take-suc texts k [] h) (Chosen-passed P (take k texts) line first.0 first.1 (λ p. false≢true (sym off ∙ (decided k h).1 p))), ap (λ b. marked_cost mark many texts k + (if b then search_cost many line else 0)) off ∙ cost)
 
     first_lines : (k : ℕ) → k ≤ length texts → First k
     first_lines zero h = ([], refl, refl)
-    first_lines (suc k) h = let less : k < length texts = omega (arith, h) in one_more k less (first_lines k (omega (arith, h))) (mark k) refl
+    first_lines (suc k) h = let less : k < length texts = omega arith in one_more k less (first_lines k (omega arith)) _ refl
 
     pub marked_lines : (count : ℕ) → length texts ≡ count → (lines : List Text) × Chosen P texts lines × (marked_cost mark many texts count ≡ pairs_cost many lines)
     marked_lines count is =
-        let all = first_lines count (omega (arith, is)) in
-        (all.0, subst (λ ls. Chosen P ls all.0) (take_all count texts (omega (arith, is))) all.1, all.2)
+        let all = first_lines count (omega arith) in
+        (all.0, rw (take_all count texts (omega arith)) at all.1, all.2)
 
 -- the steps for one more line that is marked, by one pattern
 pub searched_next : (mark : ℕ → Bool) (texts : List Text) (k : ℕ) (line : Text) (begun mid ended : Steps) → mark k ≡ true → get_or texts k [] ≡ line → AddsAtMost (marked_cost mark 1 texts k) begun mid → AddsAtMost (length line + 1) mid ended → AddsAtMost (marked_cost mark 1 texts (k + 1)) begun ended
@@ -65,16 +65,16 @@ pairs_times many (line ∷ lines) = spread (search_cost 1 line) (pairs_cost 1 li
     spread a b = omega arith
 
     once : many * search_cost 1 line ≡ search_cost many line
-    once = ap (λ n. many * n) (let one : search_cost 1 line ≡ length line + 1 = omega arith in one)
+    once = rw (let one : search_cost 1 line ≡ length line + 1 = omega arith in one)
 
 -- all lines are searched
 all_lengths : (texts : List Text) → length (terminated texts) ≡ pairs_cost 1 texts
 all_lengths [] = refl
 all_lengths (text ∷ texts) =
     let rest = all_lengths texts in
-    omega (arith, rest, length-append text (newline ∷ terminated texts))
+    omega (arith, length-append text (newline ∷ terminated texts))
 
 pub all_marked : (texts : List Text) (count : ℕ) → length texts ≡ count → length (terminated texts) ≡ marked_cost (λ k. true) 1 texts count
 all_marked texts count is =
     let all = marked_lines (λ k. true) 1 texts (λ text. ⊤) (λ k high. ((λ on. tt), (λ t. refl))) count is in
-    all_lengths texts ∙ ap (pairs_cost 1) (sym (chosen_all (λ text. ⊤) texts all.0 (λ text. tt) all.1)) ∙ sym all.2
+    all_lengths _ ∙ ap (pairs_cost 1) (sym (chosen_all (λ text. ⊤) _ _ (λ text. tt) all.1)) ∙ sym all.2

@@ -1,10 +1,6 @@
 -- A pattern's text is in that of another: it matches each line that the other one matches.
-use Rattle.grep_session.proofs.Prelude.{take-append-drop, ◌≡◌, ℕ, ◌+◌, ◌≤◌, Bool, true, false, List, [], ◌∷◌, ◌++◌, length, map, take, drop, Option, None, Some, is_some, Decides, MatchBool, if◌then◌else◌, refl, sym, ap, subst, ◌∙◌, arith, length-append, map-append, drop-append_seam, false≢true, Text, Expression, byte, cat, sequence, Holds, Matches, folded, Syntax, Fixed, IsMeant, IsSpelled, Options, FindsNeedle, Narrows}
-use Rattle.re_syntax.proofs.lemmas.FixedTokens.{fixed_spelled}
-use Rattle.re_syntax.proofs.lemmas.FixedStrings.{sequence-cat, cat-sequence}
-use Rattle.re_syntax.proofs.lemmas.FoldedLaws.{folded-cat}
-use Rattle.re_syntax.proofs.lemmas.HoldsDecided.{Holds-le}
-use Rattle.re_syntax.proofs.lemmas.SpelledUnique.{spells_one}
+use Rattle.grep_session.proofs.Prelude.{take-append-drop, ◌≡◌, ℕ, ◌+◌, ◌≤◌, Bool, true, false, List, [], ◌∷◌, ◌++◌, length, map, take, drop, Option, None, Some, is_some, Decides, MatchBool, if◌then◌else◌, refl, sym, ap, ◌∙◌, arith, length-append, map-append, drop-append_seam, false≢true, Text, Expression, byte, cat, sequence, Holds, Matches, folded, Syntax, Fixed, IsMeant, Options, FindsNeedle, Narrows, subst}
+use Rattle.re_syntax.proofs.lemmas.{FixedTokens.fixed_spelled, FixedStrings.sequence-cat, FixedStrings.cat-sequence, FoldedLaws.folded-cat, HoldsDecided.Holds-le, SpelledUnique.spells_one}
 use Rattle.re_runs.proofs.lemmas.Occurrences.{occurs-stands, stands-occurs}
 
 -- ---- sequences
@@ -32,7 +28,7 @@ are_members true t = folded-sequence (map byte t)
 are_members false t = refl
 
 members-append : (fold : Bool) (t u : Text) → members fold (t ++ u) ≡ members fold t ++ members fold u
-members-append true t u = ap (map folded) (map-append byte t u) ∙ map-append folded (map byte t) (map byte u)
+members-append true t u = cc (map-append byte t u, map-append folded (map byte t) (map byte u))
 members-append false t u = map-append byte t u
 
 module _ (line : Text) (fold : Bool) where
@@ -48,7 +44,7 @@ module _ (line : Text) (fold : Bool) where
 -- the expression that a string means
 string_means : (syntax : Syntax) (fold : Bool) (t : Text) (e : Expression) → syntax ≡ Fixed → IsMeant syntax fold t e → e ≡ string_expression fold t
 string_means syntax fold t e fixed m =
-    let spelled = subst (λ s. IsSpelled s t m.0) fixed m.1 in
+    let spelled = rw fixed at m.1 in
     m.2 ∙ ap (λ s. if fold then folded s else s) (spells_one t Fixed m.0 (sequence (map byte t)) spelled (fixed_spelled t))
 
 -- a pattern whose text is in that of another matches its lines
@@ -75,10 +71,10 @@ finds_inside old new None none = (λ h. absurd (false≢true h), λ s. absurd (n
   where
     nowhere : (before : Text) × (after : Text) × (new ≡ before ++ (old ++ after)) → ⊥
     nowhere s =
-        let long : length new ≡ length s.0 + length (old ++ s.1) = ap length s.2 ∙ length-append s.0 (old ++ s.1) in
-        let there : drop (length s.0) new ≡ old ++ s.1 = ap (drop (length s.0)) s.2 ∙ drop-append_seam s.0 (old ++ s.1) in
-        let more : length (old ++ s.1) ≡ length old + length s.1 = length-append old s.1 in
-        none (length s.0) (omega arith) (omega (arith, long, more)) (stands-occurs new old s.1 (length s.0) (omega (arith, long)) there)
+        let long : length new ≡ length s.0 + length (old ++ s.1) = cc (s.2, length-append s.0 (old ++ s.1)) in
+        let there : drop (length s.0) new ≡ old ++ s.1 = cc (s.2, drop-append_seam s.0 (old ++ s.1)) in
+        let more = length-append old s.1 in
+        none (length s.0) (omega arith) (omega arith) (stands-occurs new old s.1 (length s.0) (omega arith) there)
 finds_inside old new (Some k) finds = (
   λ h. (take k new, drop (length old) (drop k new), sym (take-append-drop k new) ∙ ap (λ t. take k new ++ t) (occurs-stands new old k finds.1)),
   λ s. refl,

@@ -1,5 +1,5 @@
 -- The parts of the lines of a chunk, one line after the other.
-use Rattle.grep_session.proofs.Prelude.{◌≡◌, ℕ, ◌+◌, ◌<◌, Bool, true, false, ◌&&◌, List, [], inl, inr, length, get_or, refl, sym, ap, subst, ◌∙◌, arith, cases_lt, Expression, Span, Options, KeptLine, line_text, map, no_line, search_cost, if◌then◌else◌, Steps, AddsAtMost, ArePartsAgain}
+use Rattle.grep_session.proofs.Prelude.{◌≡◌, ℕ, ◌+◌, ◌<◌, Bool, true, ◌&&◌, List, [], inl, inr, get_or, sym, arith, cases_lt, Expression, Span, Options, KeptLine, line_text, map, no_line, search_cost, if◌then◌else◌, Steps, AddsAtMost, ArePartsAgain, subst}
 use Rattle.std.proofs.Math.ListN.{get_or-map}
 
 -- ---- one line
@@ -11,7 +11,7 @@ costs_search matched anew cost begun ended m a few = subst (λ n. AddsAtMost n b
 -- by what its marks stand for: its parts, and their cost
 module _ {matched paired anew fresh : Bool} (m : matched ≡ paired) (a : anew ≡ fresh) where
   pub parts_by : (es : List Expression) (options : Options) (line : KeptLine) (spans : List Span) → ArePartsAgain matched anew es options line spans → ArePartsAgain paired fresh es options line spans
-  parts_by es options line spans are = subst (λ b. ArePartsAgain paired b es options line spans) a (subst (λ b. ArePartsAgain b anew es options line spans) m are)
+  parts_by es options line spans are = rw a at (rw m at are)
 
   pub line_cost : (many : ℕ) (lines : List KeptLine) (k : ℕ) → (if matched && anew then search_cost many (line_text (get_or lines k no_line)) else 0) ≡ (if paired && fresh then search_cost many (get_or (map line_text lines) k []) else 0)
   line_cost many lines k = λ i. if m i && a i then search_cost many (sym (get_or-map line_text lines k no_line) i) else 0
@@ -19,6 +19,6 @@ module _ {matched paired anew fresh : Bool} (m : matched ≡ paired) (a : anew �
 -- what holds of the parts of the first lines and of one more
 pub parts_next : (P : ℕ → List Span → Type 0) (k : ℕ) (before after : List (List Span)) → ((i : ℕ) → i < k → P i (get_or before i [])) → ((i : ℕ) → i < k → get_or after i [] ≡ get_or before i []) → P k (get_or after k []) → (i : ℕ) → i < k + 1 → P i (get_or after i [])
 parts_next P k before after first others last i high = elim (cases_lt i k) [
-  | inl low ↦ subst (P i) (sym (others i low)) (first i low)
-  | inr late ↦ (let here : k ≡ i = omega (arith, late, high) in subst (λ n. P n (get_or after n [])) here last)
+  | inl low ↦ rw (others i low) (first i low)
+  | inr late ↦ (let here : k ≡ i = omega arith in rw here at last)
 ]

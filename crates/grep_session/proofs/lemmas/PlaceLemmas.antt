@@ -1,35 +1,30 @@
 -- The rows of the lines of a file that are shown, one shown line after the other.
-use Rattle.grep_session.proofs.Prelude.{◌≡◌, ℕ, zero, suc, ◌+◌, ◌-◌, nat_lt, ◌<◌, ◌≤◌, ◌⊎◌, Bool, true, false, ◌&&◌, IsTrue, Decides, List, [], ◌∷◌, ◌++◌, length, map, drop, get_or, slice_range, Option, None, Some, Result, Ok, Err, IfOk, IsErr, inl, inr, refl, sym, ap, subst, ◌∙◌, arith, append_assoc, append-nil, if◌then◌else◌, enumerate_from, lt-ltb, le-ltb, cases_lt, false≢true, get_or_at, drop_all, length_push, length-append, Text, Expression, Span, Context, Options, EachGives, IfHolds, Selected, group_separator, IsShown, BeginsGroup, IsRow, Form, nothing, names, counts, parts, lines, around, lines_with, form, shown_number, written, name_shown, row_by, rows_after, file_so_far, IsPlain, LineRowsOf, RowsOfSelected, GoesOut, StopsWithin, Writes, KeptLine, line_text, span_places, IsKept, is_selected, context_as, place_rows, part_rows, NextShown, WritesGroups}
+use Rattle.grep_session.proofs.Prelude.{◌≡◌, ℕ, zero, suc, ◌+◌, ◌-◌, nat_lt, ◌<◌, ◌≤◌, ◌⊎◌, Bool, true, false, ◌&&◌, IsTrue, Decides, List, [], ◌∷◌, ◌++◌, length, map, drop, get_or, slice_range, Option, None, Some, Result, Ok, Err, IfOk, IsErr, inl, inr, refl, sym, ap, ◌∙◌, arith, append_assoc, append-nil, if◌then◌else◌, enumerate_from, lt-ltb, le-ltb, cases_lt, false≢true, get_or_at, drop_all, length_push, length-append, Text, Expression, Span, Context, Options, EachGives, IfHolds, Selected, group_separator, IsShown, BeginsGroup, IsRow, Form, nothing, names, counts, parts, lines, around, lines_with, form, shown_number, written, name_shown, row_by, rows_after, file_so_far, IsPlain, LineRowsOf, RowsOfSelected, GoesOut, StopsWithin, Writes, KeptLine, line_text, span_places, IsKept, is_selected, context_as, place_rows, part_rows, NextShown, WritesGroups, subst}
 use Rattle.std.proofs.lemmas.Option.{same_Some}
-use Rattle.grep_core.proofs.lemmas.AroundLaws.{dec_shown, Shows-exist}
-use Rattle.grep_core.proofs.lemmas.ChooseLaws.{EachGives-exist}
-use Rattle.grep_core.proofs.lemmas.Exist.{PartsOfLine-exist}
-use Rattle.grep_core.proofs.lemmas.FileOutput.{rows_line, rows_none}
-use Rattle.grep_core.proofs.lemmas.ShownLemmas.{IfHolds-same, begins_from, begins_at}
+use Rattle.grep_core.proofs.lemmas.{AroundLaws.dec_shown, AroundLaws.Shows-exist, ChooseLaws.EachGives-exist, Exist.PartsOfLine-exist, FileOutput.rows_line, FileOutput.rows_none, ShownLemmas.IfHolds-same, ShownLemmas.begins_from, ShownLemmas.begins_at}
+use Rattle.grep_session.proofs.lemmas.{KeptLaws.parts_asked, KeptLaws.selected_reported, Writing.drop-next, Writing.if_ok, Writing.writes_err}
 use Rattle.grep_session.proofs.lemmas.GroupsWritten.{Reporting, Leads, leads_on, leads_to, groups_none, groups_more, groups_front, groups_are}
-use Rattle.grep_session.proofs.lemmas.KeptLaws.{parts_asked, selected_reported}
-use Rattle.grep_session.proofs.lemmas.Writing.{drop-next, if_ok, writes_err}
 
 -- under `-o` alone parts are asked for
 asks_parts : (options : Options) → form options ≡ parts → IsTrue options.only_matching
 asks_parts options e = by_flags options.quiet options.files_with_matches options.count options.only_matching options.invert_match options.context e
   where
     by_flags : (q l c o v : Bool) (context : Option Context) → (if q then nothing else if l then names else if c then counts else if o && v then nothing else if o then parts else lines_with context) ≡ parts → IsTrue o
-    by_flags true l c o v context is = absurd (let no : ⊥ = cc in no)
-    by_flags false true c o v context is = absurd (let no : ⊥ = cc in no)
-    by_flags false false true o v context is = absurd (let no : ⊥ = cc in no)
+    by_flags true l c o v context is = absurd cc
+    by_flags false true c o v context is = absurd cc
+    by_flags false false true o v context is = absurd cc
     by_flags false false false true v context is = refl
-    by_flags false false false false v None is = absurd (let no : ⊥ = cc in no)
-    by_flags false false false false v (Some context) is = absurd (let no : ⊥ = cc in no)
+    by_flags false false false false v None is = absurd cc
+    by_flags false false false false v (Some context) is = absurd cc
 
 -- forms without rows of lines
 pub none_due : (es : List Expression) (options : Options) (many : Bool) (name : Text) (texts : List Text) (shape : Form) → context_as shape ≡ None → LineRowsOf es options many shape (file_so_far name texts) []
 none_due es options many name texts nothing is = refl
 none_due es options many name texts names is = refl
 none_due es options many name texts counts is = refl
-none_due es options many name texts lines is = absurd (let no : ⊥ = cc is in no)
-none_due es options many name texts parts is = absurd (let no : ⊥ = cc is in no)
-none_due es options many name texts (around c) is = absurd (let no : ⊥ = cc is in no)
+none_due es options many name texts lines is = absurd (cc is)
+none_due es options many name texts parts is = absurd (cc is)
+none_due es options many name texts (around c) is = absurd (cc is)
 
 module _ {W : Type 0} (p : Reporting W) (name : Text) (context : Context) (texts : List Text) where
   open p use {contents, failures, margin, es, options, many}
@@ -62,27 +57,27 @@ module _ {W : Type 0} (p : Reporting W) (name : Text) (context : Context) (texts
   AllDue rows = AllAs (form options) texts rows
 
   due_first : (k : ℕ) → k < length texts → (here rest : List Text) → DueAt (k, get_or texts k []) here → DueFrom (k + 1) rest → DueFrom k (here ++ rest)
-  due_first k inside here rest d h = subst (λ ls. EachGives DueAt (enumerate_from k ls) (here ++ rest)) (sym (drop-next texts k [] inside)) (here, rest, d, h, refl)
+  due_first k inside here rest d h = rw (drop-next texts k [] inside) (here, rest, d, h, refl)
 
   -- lines that are not shown have no rows
   due_passed : (k more : ℕ) → k + more ≤ length texts → ((i : ℕ) → k ≤ i → i < k + more → ¬ Shown i) → (rest : List Text) → DueFrom (k + more) rest → DueFrom k rest
-  due_passed k zero within none rest h = let same : k + 0 ≡ k = omega arith in subst (λ n. DueFrom n rest) same h
+  due_passed k zero within none rest h = let same : k + 0 ≡ k = omega arith in rw same at h
   due_passed k (suc more) within none rest h =
       let same : k + suc more ≡ (k + 1) + more = omega arith in
-      due_first k (omega (arith, within)) [] rest (inr (none k (omega arith) (omega arith), refl))
-      (due_passed (k + 1) more (omega (arith, within)) (λ i low high. none i (omega (arith, low)) (omega (arith, high))) rest (subst (λ n. DueFrom n rest) same h))
+      due_first k (omega arith) [] rest (inr (none k (omega arith) (omega arith), refl))
+      (due_passed (k + 1) more (omega arith) (λ i low high. none i (omega arith) (omega arith)) rest (rw same at h))
 
   due_next : (k next : ℕ) → NextShown es options context texts k next → (rest : List Text) → DueFrom next rest → DueFrom k rest
   due_next k next n rest h =
-      let same : next ≡ k + (next - k) = omega (arith, n.after) in
-      due_passed k (next - k) (omega (arith, n.after, n.within)) (λ i low high. n.passed i low (omega (arith, high, n.after))) rest (subst (λ n. DueFrom n rest) same h)
+      let same : next ≡ k + (next - k) = omega arith in
+      due_passed k (next - k) (omega arith) (λ i low high. n.passed i low (omega arith)) rest (rw same at h)
 
   due_end : (k : ℕ) → length texts ≤ k → DueFrom k []
-  due_end k past = subst (λ ls. EachGives DueAt (enumerate_from k ls) []) (sym (drop_all k texts past)) refl
+  due_end k past = rw (drop_all k texts past) refl
 
   -- any line has its rows
   at_exist : (line : ℕ × Text) → (rows : List Text) × DueAt line rows
-  at_exist line = by_shape (form options)
+  at_exist line = by_shape _
     where
       by_place : (shape : Form) → Dec (Shown line.0) → (rows : List Text) → DueRows shape line rows → (rows : List Text) × DueAs shape line rows
       by_place shape (yes s) rows due = (rows, inl (s, due))
@@ -145,15 +140,15 @@ module _ {W : Type 0} (p : Reporting W) (name : Text) (context : Context) (texts
       where
         places_rows : (spans : List Span) → part_rows options many name (k + 1) (line_text line) spans ≡ map (λ p. row_by options many name true (k + 1) (slice_range (line_text line) p.0 p.1)) (map span_places spans)
         places_rows [] = refl
-        places_rows (span ∷ spans) = ap (λ rows. row_by options many name true (k + 1) (slice_range (line_text line) span.start span.end) ∷ rows) (places_rows spans)
+        places_rows (span ∷ spans) = rw (places_rows spans)
     place_given (around c) is asked = group_given c _ (is_row (is_selected options line) (selected_reported es options line kept)) begins some reported first
       where
         is_row : (found : Bool) → Decides found (Selected es options (line_text line)) → IsRow es options context (name_shown many name) (shown_number options (k + 1)) (line_text line) (row_by options many name found (k + 1) (line_text line))
         is_row true d = inl (d.0 refl, refl)
         is_row false d = inr ((λ s. false≢true (d.1 s)), refl)
-    place_given nothing is asked = absurd (let no : ⊥ = cc is in no)
-    place_given names is asked = absurd (let no : ⊥ = cc is in no)
-    place_given counts is asked = absurd (let no : ⊥ = cc is in no)
+    place_given nothing is asked = absurd (cc is)
+    place_given names is asked = absurd (cc is)
+    place_given counts is asked = absurd (cc is)
 
   -- ---- one shown line after the other
 
@@ -207,8 +202,8 @@ module _ {W : Type 0} (p : Reporting W) (name : Text) (context : Context) (texts
       }
         where
           by_place : (k + 1 < next) ⊎ (next ≤ k + 1) → Decides (nat_lt (k + 1) next) (Begins next)
-          by_place (inl far) = ((λ _. begins_from es options context texts next (λ j e. n.passed j (omega (arith, far, e)) (omega (arith, e)))), (λ _. lt-ltb (k + 1) next far))
-          by_place (inr near) = ((λ e. absurd (false≢true (sym (le-ltb (k + 1) next near) ∙ e))), (λ g. absurd (begins_at es options context texts next k g (omega (arith, near, n.after)) (s.here inside))))
+          by_place (inl far) = ((λ _. begins_from es options context texts next (λ j e. n.passed j (omega arith) (omega arith))), (λ _. lt-ltb (k + 1) next far))
+          by_place (inr near) = ((λ e. absurd (false≢true (sym (le-ltb (k + 1) next near) ∙ e))), (λ g. absurd (begins_at es options context texts next k g (omega arith) (s.here inside))))
 
       pub shown_stops : {E : Type 0} {c : W} (r : Result Bool E) → IsErr r → StopsWithin contents failures b c (written margin own) → WritesGroups contents failures AllDue (form options) margin before a c r
       shown_stops {c = c} r is w =

@@ -1,5 +1,5 @@
 -- Lists of which some elements went, and others came in their place.
-use Rattle.grep_session.proofs.Prelude.{◌≡◌, ℕ, suc, ◌+◌, ◌<◌, ◌≤◌, ◌⊎◌, Bool, false, true, List, [], ◌∷◌, ◌++◌, inl, inr, length, map, take, drop, get_or, refl, sym, ap, subst, ◌∙◌, arith, append-nil, map-append, length-append, length-map, length-drop, length-take-le, take-append_seam, drop-append_seam, take-append-drop, drop-cons, set_at, remove, set, insert, Text, Expression, Options, Matched, HasChanged, exchanged}
+use Rattle.grep_session.proofs.Prelude.{◌≡◌, ℕ, suc, ◌+◌, ◌<◌, ◌≤◌, ◌⊎◌, Bool, true, List, [], ◌∷◌, ◌++◌, inl, inr, length, map, take, drop, get_or, refl, sym, ap, ◌∙◌, arith, append-nil, map-append, length-map, length-drop, length-take-le, take-append_seam, drop-append_seam, take-append-drop, drop-cons, set_at, remove, set, insert, Text, Expression, Options, Matched, HasChanged, exchanged}
 
 -- some elements of a list went, and others came in their place
 pub record IsSpliced {X : Type 0} (first many count : ℕ) (old new : List X) : Type 0 where
@@ -16,7 +16,7 @@ pub record IsSpliced {X : Type 0} (first many count : ℕ) (old new : List X) : 
 module _ {X : Type 0} where
   -- elements were added
   abbrev pub added : (first count : ℕ) (xs ys all : List X) → first ≡ length xs → count ≡ length ys → all ≡ xs ++ ys → IsSpliced first 0 count xs all
-  added first count xs ys all at many is = record { front = xs; gone = []; come = ys; back = []; old_is = sym (append-nil xs); new_is = is ∙ ap (λ l. xs ++ l) (sym (append-nil ys)); at = at; went = refl; came = many }
+  added first count xs ys all at many is = record { front = xs; gone = []; come = ys; back = []; old_is = sym (append-nil xs); new_is = cc (append-nil ys); at = at; went = refl; came = many }
 
   -- or cut off
   abbrev pub cut_off : (first count : ℕ) (xs ys : List X) → first + count ≡ length xs → ys ≡ take first xs → IsSpliced first count 0 xs ys
@@ -25,19 +25,19 @@ module _ {X : Type 0} where
     gone = drop first xs;
     come = [];
     back = [];
-    old_is = sym (take-append-drop first xs) ∙ ap (λ l. take first xs ++ l) (sym (append-nil (drop first xs)));
+    old_is = cc (take-append-drop first xs, append-nil (drop first xs));
     new_is = is ∙ sym (append-nil (take first xs));
-    at = sym (length-take-le first xs (omega (arith, many)));
-    went = omega (arith, many, length-drop first xs);
+    at = sym (length-take-le first xs (omega arith));
+    went = omega (arith, length-drop first xs);
     came = refl;
   }
 
   module _ (p : ℕ) (xs : List X) (one : X) (h : p < length xs) (is : one ≡ get_or xs p one) where
     pub parts : xs ≡ take p xs ++ (one ∷ drop (suc p) xs)
-    parts = sym (take-append-drop p xs) ∙ ap (λ l. take p xs ++ l) (drop-cons xs p one h ∙ ap (λ y. y ∷ drop (suc p) xs) (sym is))
+    parts = cc (take-append-drop p xs, drop-cons xs p one h ∙ ap (λ y. y ∷ drop (suc p) xs) (sym is))
 
     pub place : length (take p xs) ≡ p
-    place = length-take-le p xs (omega (arith, h))
+    place = length-take-le p xs (omega arith)
 
     -- or removed
     abbrev pub removed : (ys : List X) → ys ≡ remove xs p → IsSpliced p 1 0 xs ys
@@ -70,7 +70,7 @@ module _ {X : Type 0} where
 
 -- f of a list in parts
 pub map_parts : {X Y : Type 0} (f : X → Y) (xs front mid back : List X) → xs ≡ front ++ (mid ++ back) → map f xs ≡ map f front ++ (map f mid ++ map f back)
-map_parts f xs front mid back is = ap (map f) is ∙ map-append f front (mid ++ back) ∙ ap (λ l. map f front ++ l) (map-append f mid back)
+map_parts f xs front mid back is = cc (map-append f front (mid ++ back), map-append f mid back)
 
 -- f of both lists
 abbrev pub mapped : {X Y : Type 0} (f : X → Y) {first many count : ℕ} {xs ys : List X} → IsSpliced first many count xs ys → IsSpliced first many count (map f xs) (map f ys)
@@ -101,7 +101,7 @@ list_changed {before = before} m options narrower fits narrows = record {
   at = m.at;
   went = m.went;
   came = m.came;
-  fits = elim fits [ inl fewer ↦ inl (omega (arith, fewer, m.went, m.came)) | inr none ↦ inr none ];
+  fits = elim fits [ inl fewer ↦ inl (omega arith) | inr none ↦ inr none ];
   alike = inl refl;
   same = λ some. refl;
   narrows = λ on. (refl, narrows on);

@@ -1,11 +1,9 @@
 -- The cost of lines, and the steps that a search of them takes.
-use Rattle.grep_session.proofs.Prelude.{◌≡◌, ℕ, ◌+◌, Bool, true, false, MatchBool, List, [], ◌∷◌, ◌++◌, inl, inr, length, map, Ok, refl, sym, ap, subst, ◌∙◌, arith, length-map, Text, Expression, Matcher, matched_expression, Steps, AddsAtMost, Options, Chosen, IfHolds, Matches, Inputs, AreMeant, AreMatchers, Change, anew, Edit, Applies, Matched, TakesSteps, Touched, Touches, pairs_cost, parting, parts_alone, searched_by, IsSought, IsParted, HasNewParts, SearchesEach}
+use Rattle.grep_session.proofs.Prelude.{◌≡◌, ℕ, ◌+◌, Bool, true, false, MatchBool, List, [], ◌∷◌, ◌++◌, inl, inr, length, map, Ok, refl, sym, ap, ◌∙◌, arith, length-map, Text, Expression, Matcher, matched_expression, Steps, Options, Chosen, IfHolds, Matches, Inputs, AreMeant, AreMatchers, Change, anew, Edit, Applies, Matched, TakesSteps, Touched, Touches, pairs_cost, parting, parts_alone, searched_by, IsSought, IsParted, HasNewParts, SearchesEach}
 use Rattle.std.specs.Bool.{⊤}
-use Rattle.re_syntax.proofs.lemmas.Decisions.{Any-first, dec_both}
-use Rattle.re_syntax.proofs.lemmas.SomeOfJoined.{Any-single}
+use Rattle.re_syntax.proofs.lemmas.{Decisions.Any-first, Decisions.dec_both, SomeOfJoined.Any-single}
 use Rattle.re_meter.proofs.lemmas.Adding.{adds_none, adds_both}
-use Rattle.grep_core.proofs.lemmas.ChooseLaws.{Chosen-exist, EachGives-append}
-use Rattle.grep_core.proofs.lemmas.Decided.{dec_matched}
+use Rattle.grep_core.proofs.lemmas.{ChooseLaws.Chosen-exist, ChooseLaws.EachGives-append, Decided.dec_matched}
 
 -- ---- lines
 
@@ -28,7 +26,7 @@ dec_sought change gone options line = by_flag change.narrower
 -- the cost of pairs with lines and more lines
 pub pairs_cost-append : (many : ℕ) (lines more : List Text) → pairs_cost many (lines ++ more) ≡ pairs_cost many lines + pairs_cost many more
 pairs_cost-append many [] more = omega arith
-pairs_cost-append many (line ∷ lines) more = let rest = pairs_cost-append many lines more in omega (arith, rest)
+pairs_cost-append many (line ∷ lines) more = let rest = pairs_cost-append many lines more in omega arith
 
 module _ (change : Change) (gone come es : List Expression) (options : Options) where
   -- no line was searched
@@ -46,12 +44,12 @@ module _ (change : Change) (gone come es : List Expression) (options : Options) 
       let p = pairs_cost n a.paired + pairs_cost m a.parted in
       let q = pairs_cost n b.paired + pairs_cost m b.parted in
       let sum : p + q ≡ pairs_cost n (a.paired ++ b.paired) + pairs_cost m (a.parted ++ b.parted) = omega (arith, pairs_cost-append n a.paired b.paired, pairs_cost-append m a.parted b.parted) in
-      subst (λ l. SearchesEach change gone come es options l begun ended) (sym both) (record {
+      rw both (record {
         paired = a.paired ++ b.paired;
         are_paired = EachGives-append _ lines more a.paired b.paired a.are_paired b.are_paired;
         parted = a.parted ++ b.parted;
         are_parted = EachGives-append _ lines more a.parted b.parted a.are_parted b.are_parted;
-        few = subst (λ k. AddsAtMost k begun ended) sum (adds_both p q p q begun mid ended a.few b.few);
+        few = rw sum at (adds_both p q p q begun mid ended a.few b.few);
       })
 
   -- the steps for the first lines are within the cost of all
@@ -80,7 +78,7 @@ chosen_both {A} Q P d (x ∷ xs) zs c = by_verdict (d x) (chosen_both Q P d xs c
     by_verdict (yes p) rest = (x ∷ rest.0, (x ∷ [], rest.0, inl (p, refl), rest.1, refl), (c.0, c.1, elim c.2 [ inl h ↦ inl (h.0.0, h.1) | inr h ↦ inr ((λ q. h.0 (q, p)), h.1) ], rest.2, c.4))
     by_verdict (no n) rest = elim c.2 [
       | inl h ↦ absurd (n h.0.1)
-      | inr h ↦ (rest.0, ([], rest.0, inr (n, refl), rest.1, refl), subst (Chosen Q rest.0) (sym (c.4 ∙ ap (λ l. l ++ c.1) h.1)) rest.2)
+      | inr h ↦ (rest.0, ([], rest.0, inr (n, refl), rest.1, refl), rw (c.4 ∙ ap (λ l. l ++ c.1) h.1) rest.2)
     ]
 
 -- ---- an edit
@@ -99,7 +97,7 @@ takes_touched edit old new change gone come es lines begun ended applies meant s
     let parts = pairs_cost (parting es new.options) s.parted in
     record {
       most = pairs_cost change.come s.paired + parts;
-      is_most = inr (Ok new, applies, record { es = es; are_meant = meant; touched = t.0; are_touched = t.1; parted = s.parted; are_parted = subst (λ ls. Chosen (Matched es new.options) ls s.parted) (sym t.2) both.2; is_sum = ap (λ n. n + parts) (sym t.3) });
+      is_most = inr (Ok new, applies, record { es = es; are_meant = meant; touched = t.0; are_touched = t.1; parted = s.parted; are_parted = rw t.2 both.2; is_sum = ap (λ n. n + parts) (sym t.3) });
       few = s.few;
     }
 
@@ -108,16 +106,16 @@ pub takes_lines : (edit : Edit) (old new : Inputs) (was : ℕ) (gone : List Expr
     → SearchesEach (anew was (length (map matched_expression matchers))) gone (map matched_expression matchers) (map matched_expression matchers) new.options lines begun ended → TakesSteps edit old begun ended
 takes_lines edit old new was gone matchers lines begun ended applies touches made same s =
     let es = map matched_expression matchers in
-    let many : length es ≡ length old.patterns = length-map matchers matched_expression ∙ made.counted ∙ ap length same in
-    takes_touched edit old new _ gone es es lines begun ended applies made.meant s (λ paired parted p q.
-    (searched_by (length old.patterns) lines, touches, sym (chosen_all (λ line. ⊤) lines parted (λ line. tt) q), (λ i. pairs_cost (sym many i) (sym (chosen_all (λ line. ⊤) lines paired (λ line. tt) p) i))))
+    let many : length es ≡ length old.patterns = cc (length-map matchers matched_expression, made.counted) in
+    takes_touched _ _ _ _ _ es es _ _ _ applies made.meant s (λ paired parted p q.
+    (searched_by (length old.patterns) lines, touches, sym (chosen_all (λ line. ⊤) _ _ (λ line. tt) q), (λ i. pairs_cost (sym many i) (sym (chosen_all (λ line. ⊤) _ _ (λ line. tt) p) i))))
 
 -- no pattern, no pair
 pub pairs_cost-none : (lines : List Text) → pairs_cost 0 lines ≡ 0
 pairs_cost-none [] = refl
-pairs_cost-none (line ∷ lines) = let rest : pairs_cost 0 lines ≡ 0 = pairs_cost-none lines in omega (arith, rest)
+pairs_cost-none (line ∷ lines) = let rest = pairs_cost-none lines in omega arith
 
 -- the parts of lines were searched
 pub takes_parts : (edit : Edit) (old new : Inputs) (gone come es : List Expression) (lines : List Text) (begun ended : Steps) → Applies edit old (Ok new) → Touches edit old (parts_alone lines) → AreMeant new.syntax new.options new.patterns es → SearchesEach (anew 0 0) gone come es new.options lines begun ended → TakesSteps edit old begun ended
 takes_parts edit old new gone come es lines begun ended applies touches meant s =
-    takes_touched edit old new _ gone come es lines begun ended applies meant s (λ paired parted p q. (parts_alone lines, touches, sym (chosen_all (λ line. ⊤) lines parted (λ line. tt) q), sym (pairs_cost-none paired)))
+    takes_touched _ _ _ _ _ _ es _ _ _ applies meant s (λ paired parted p q. (parts_alone lines, touches, sym (chosen_all (λ line. ⊤) _ _ (λ line. tt) q), sym (pairs_cost-none _)))

@@ -1,7 +1,6 @@
 -- The parts of a line stay the same when patterns that do not match it go, and others come.
-use Rattle.grep_session.proofs.Prelude.{◌≡◌, ℕ, ◌+◌, ◌-◌, ◌<◌, ◌≤◌, ◌⊎◌, Bool, true, false, List, [], ◌∷◌, ◌++◌, inl, inr, length, Any, get_or, cases_lt, sym, ap, subst, ◌∙◌, arith, length-append, OnTrue, Text, Expression, Holds, Matches, IsFound, ArePartsFrom}
-use Rattle.std.proofs.Math.ListN.{get_or-append}
-use Rattle.std.proofs.Math.Seq.{get_or-append_right}
+use Rattle.grep_session.proofs.Prelude.{◌≡◌, ℕ, ◌+◌, ◌-◌, ◌<◌, ◌≤◌, ◌⊎◌, Bool, true, false, List, [], ◌∷◌, ◌++◌, inl, inr, length, Any, get_or, cases_lt, sym, ap, ◌∙◌, arith, length-append, OnTrue, Text, Expression, Holds, Matches, IsFound, ArePartsFrom}
+use Rattle.std.proofs.Math.{ListN.get_or-append, Seq.get_or-append_right}
 
 -- the expression is one of these
 abbrev pub In : Expression → List Expression → Type 0
@@ -9,17 +8,17 @@ In e es = (k : ℕ) × (k < length es) × (get_or es k e ≡ e)
 
 module _ (e : Expression) (xs ys : List Expression) where
   in_first : In e xs → In e (xs ++ ys)
-  in_first at = (at.0, omega (arith, at.1, length-append xs ys), get_or-append xs ys e at.0 at.1 ∙ at.2)
+  in_first at = (at.0, omega (arith, length-append xs ys), get_or-append xs ys e at.0 at.1 ∙ at.2)
 
   in_rest : In e ys → In e (xs ++ ys)
   in_rest at =
       let place : length xs + at.0 - length xs ≡ at.0 = omega arith in
-      (length xs + at.0, omega (arith, at.1, length-append xs ys), get_or-append_right xs ys (length xs + at.0) e (omega arith) ∙ ap (λ k. get_or ys k e) place ∙ at.2)
+      (length xs + at.0, omega (arith, length-append xs ys), get_or-append_right xs ys (length xs + at.0) e (omega arith) ∙ ap (λ k. get_or ys k e) place ∙ at.2)
 
   in_either : In e (xs ++ ys) → In e xs ⊎ In e ys
   in_either at = elim (cases_lt at.0 (length xs)) [
     | inl low ↦ inl (at.0, low, sym (get_or-append xs ys e at.0 low) ∙ at.2)
-    | inr high ↦ inr (at.0 - length xs, omega (arith, at.1, high, length-append xs ys), sym (get_or-append_right xs ys at.0 e high) ∙ at.2)
+    | inr high ↦ inr (at.0 - length xs, omega (arith, length-append xs ys), sym (get_or-append_right xs ys at.0 e high) ∙ at.2)
   ]
 
 module _ (line : Text) (entire : Bool) where
@@ -31,7 +30,7 @@ module _ (line : Text) (entire : Bool) where
   found_matches e i j apart on_line is_whole h = by_whole entire is_whole
     where
       by_whole : (w : Bool) → OnTrue w ((i ≡ 0) × (j ≡ length line)) → Matches e line w
-      by_whole true both = subst (λ a. Holds line e a (length line)) both.0 (subst (Holds line e i) both.1 h)
+      by_whole true both = rw both.0 at (rw both.1 at h)
       by_whole false both = (i, j, on_line, h)
 
   -- those of the first list that match are in the second

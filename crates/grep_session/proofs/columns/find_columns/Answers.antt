@@ -1,4 +1,4 @@
-use Rattle.grep_session.proofs.Prelude.{◌≡◌, ◌+◌, ◌<◌, ◌≤◌, ◌∙◌, All, length, map, take, get_or, take_all, sym, refl, ap, subst, arith, [], AllZip, HasChanged, SearchesEach, FitsColumn, IsColumn, IsFileKept, chunks_of, chunks_of_files, lines_of_files, AddsColumns, kept_file, matched_expression}
+use Rattle.grep_session.proofs.Prelude.{◌≡◌, ◌<◌, ◌∙◌, length, map, take, get_or, take_all, refl, ap, arith, [], HasChanged, SearchesEach, IsFileKept, chunks_of, chunks_of_files, kept_file, matched_expression, All, sym, subst, AllZip, FitsColumn, IsColumn, lines_of_files, AddsColumns}
 use Rattle.re_search.proofs.lemmas.KeptMatchers.{none_asked, same_over, still_alike}
 use Rattle.grep_core.proofs.lemmas.CostLaws.{same_length}
 use Rattle.grep_session.proofs.lemmas.FoundLemmas.{adds_columns, adds_no_column, chunks_on, files_by_chunk, no_chunks, its_chunks, its_lines, was_kept}
@@ -10,21 +10,19 @@ use Rattle.grep_session.proofs.columns.find_columns.Goals.{After-file-item, Afte
 -- the next file is one of them
 there : (c : After-file-item) → let files = c.args.files.now.items in (c.loop-file.file-index < length files) × (c.file-item.result ≡ get_or files c.loop-file.file-index c.file-item.result)
 there c =
-    let less : c.loop-file.file-index < length c.args.files.now.items = omega (arith, c.loop-file-test.true, ap length c.deref-file-items.ensures.value) in
-    (less, rw c.deref-file-items.ensures.value at c.file-item.is)
+    (omega (arith, ap length c.deref-file-items.ensures.value), rw c.deref-file-items.ensures.value at c.file-item.is)
 
 -- its lines were searched
 spent : (c : After-find_in_lines) → let es = map matched_expression c.args.matchers.now.items in let options = c.args.options.now in let x = c.file-item.result in (h : HasChanged c.args.change es options)
     → IsFileKept h.before h.was x → SearchesEach c.args.change h.gone h.come es options (kept_file x).lines c.loop-file.meter c.find_in_lines.new.meter
 spent c = λ h k.
-    let s = c.loop-file.invariant in
     let x = c.file-item.result in
-    let one = rw s.same_matchers.same_expressions at c.find_in_lines.ensures.steps in
-    subst (λ ls. SearchesEach c.args.change h.gone h.come (map matched_expression c.args.matchers.now.items) c.args.options.now ls c.loop-file.meter c.find_in_lines.new.meter) (sym (its_lines x c.in-Some.lines c.in-Some.is)) (one h (was_kept x c.in-Some.lines c.in-Some.is h.before h.was k))
+    let one = rw c.loop-file.invariant.same_matchers.same_expressions at c.find_in_lines.ensures.steps in
+    rw (its_lines x _ c.in-Some.is) (one h (was_kept x _ c.in-Some.is k))
 
 pub loop-file-init : goal.loop-file-init
 loop-file-init c = record {
-  found = subst (AddsColumns c.args.change (map matched_expression c.args.matchers.now.items) c.args.options.now [] []) (sym c.new-found.ensures.items) (adds_no_column _ _ _ []);
+  found = rw c.new-found.ensures.items (adds_no_column _ _ _ []);
   same_matchers = none_asked;
   room = refl;
   steps = λ h k. not_searched _ _ _ _ _ _ _;
@@ -34,7 +32,7 @@ pub find_in_lines-requires-clause-whole : goal.find_in_lines-requires-clause-who
 find_in_lines-requires-clause-whole c = still_alike c.loop-file.invariant.same_matchers c.requires.whole
 
 pub find_in_lines-requires-clause-within : goal.find_in_lines-requires-clause-within
-find_in_lines-requires-clause-within c = subst (λ n. c.args.change.first + c.args.change.come ≤ n) (sym (same_length matched_expression _ _ c.loop-file.invariant.same_matchers.same_expressions)) c.requires.within
+find_in_lines-requires-clause-within c = rw (same_length matched_expression _ _ c.loop-file.invariant.same_matchers.same_expressions) c.requires.within
 
 pub returns-in_err-find_in_lines-clause-same_matchers : goal.returns-in_err-find_in_lines-clause-same_matchers
 returns-in_err-find_in_lines-clause-same_matchers c = same_over c.find_in_lines.ensures.same_matchers c.loop-file.invariant.same_matchers

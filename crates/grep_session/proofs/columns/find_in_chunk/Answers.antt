@@ -1,4 +1,4 @@
-use Rattle.grep_session.proofs.Prelude.{◌≡◌, All, HasChanged, SearchesEach, length, map, sym, ap, subst, ◌∙◌, length-map, AreBelow, FoundIn, line_text, seen, IsKept, matched_expression}
+use Rattle.grep_session.proofs.Prelude.{◌≡◌, All, HasChanged, SearchesEach, length, map, ap, length-map, AreBelow, FoundIn, line_text, IsKept, matched_expression, sym, subst}
 use Rattle.grep_session.proofs.lemmas.ColumnLaws.{column_right, column_same, chunk_steps, chunk_begun, matches_below}
 use Rattle.grep_session.proofs.columns.find_in_chunk.Goals as goal
 use Rattle.grep_session.proofs.columns.find_in_chunk.Goals.{After-find_parts, In_ok-new}
@@ -12,8 +12,8 @@ spent c = λ h k.
 -- the pairs are of the chunk's lines
 below : (c : In_ok-new) → AreBelow (length c.args.chunk.now) c.in_ok-new.new
 below c =
-    subst (λ n. AreBelow n c.in_ok-new.new) (length-map c.args.chunk.now line_text)
-    (matches_below c.args.change (map line_text c.args.chunk.now) c.args.search.now.options.line_regexp (map matched_expression c.args.matchers.now) c.matches-old.result.now c.in_ok-new.new c.in_ok-new.ensures.ok)
+    rw (length-map c.args.chunk.now line_text) at
+    (matches_below _ _ _ _ _ _ c.in_ok-new.ensures.ok)
 
 pub returns-in_err-new-clause-steps : goal.returns-in_err-new-clause-steps
 returns-in_err-new-clause-steps c = λ h k. chunk_begun h c.args.chunk.now c.matches-old.result.now k c.matches-old.ensures.at _ _ c.find_matches.ensures.steps
@@ -23,7 +23,7 @@ returns-then-is_same-clause-steps c = λ h k. chunk_begun h c.args.chunk.now c.m
 
 pub returns-then-is_same-clause-ok : goal.returns-then-is_same-clause-ok
 returns-then-is_same-clause-ok c = λ h k.
-    (tt, column_same h c.args.chunk.now c.matches-old.result.now k c.matches-old.ensures.at c.in_ok-new.new c.in_ok-new.ensures.ok (c.is_same.ensures c.if-is_same.true))
+    (tt, column_same h _ _ k c.matches-old.ensures.at _ c.in_ok-new.ensures.ok (c.is_same.ensures c.if-is_same.true))
 
 pub find_parts-requires-clause-new : goal.find_parts-requires-clause-new
 find_parts-requires-clause-new c = below (goal.at.find_parts-requires-clause-new c).In_ok-new
@@ -45,5 +45,5 @@ returns-clause-ok c = λ h k.
     let es = map matched_expression c.args.matchers.now in
     let parts = rw c.find_matches.ensures.same_matchers.same_expressions at c.in_ok-parts.ensures.ok in
     let right = column_right h c.args.chunk.now c.matches-old.result.now k c.matches-old.ensures.at c.in_ok-new.new c.in_ok-new.ensures.ok c.in_ok-parts.parts parts in
-    let same : c.in_ok-found.found ≡ record { size = length c.args.chunk.now; pairs = c.in_ok-new.new; parts = c.in_ok-parts.parts } = c.in_ok-found.ensures ∙ ap (λ n. record { size = n; pairs = c.in_ok-new.new; parts = c.in_ok-parts.parts }) c.len.ensures in
-    (ap (λ (f : FoundIn). f.size) same, subst (λ f. All (IsKept es c.args.search.now.options) (seen (map line_text c.args.chunk.now) f)) (sym same) right)
+    let same : c.in_ok-found.found ≡ record { size = length c.args.chunk.now; pairs = c.in_ok-new.new; parts = c.in_ok-parts.parts } = cc (c.in_ok-found.ensures, c.len.ensures) in
+    (ap (λ (f : FoundIn). f.size) same, rw same right)

@@ -1,11 +1,10 @@
-use Rattle.grep_session.proofs.Prelude.{◌≡◌, ◌+◌, ◌<◌, ◌≤◌, [], ◌∷◌, ◌++◌, All, length, map, take, get_or, sym, ap, subst, ◌∙◌, arith, take_all, all_of, line_text, IsKept, SearchesEach, AddsColumns, HasChanged, AreSame, drop, refl, matched_expression}
+use Rattle.grep_session.proofs.Prelude.{◌≡◌, ◌+◌, ◌<◌, [], ◌∷◌, ◌++◌, All, length, map, take, get_or, arith, take_all, all_of, line_text, IsKept, SearchesEach, HasChanged, AreSame, drop, refl, matched_expression, sym, ap, subst, ◌∙◌, AddsColumns}
+use Rattle.grep_session.proofs.columns.find_in_lines.Goals as goal
 use Rattle.grep_core.proofs.lemmas.CostLaws.{same_length}
-use Rattle.grep_session.proofs.lemmas.AddingLemmas.{all_back}
+use Rattle.grep_session.proofs.{lemmas.AddingLemmas.all_back, columns.find_in_lines.Goals.After-find_in_chunk}
 use Rattle.grep_session.proofs.lemmas.FoundLemmas.{adds_no_column, adds_columns, adds_column, all_by_chunk, chunks_next, texts_next, texts_rest}
 use Rattle.re_search.proofs.lemmas.KeptMatchers.{none_asked, same_over, still_alike}
 use Rattle.grep_session.proofs.lemmas.StepLemmas.{not_searched, each_both, each_front}
-use Rattle.grep_session.proofs.columns.find_in_lines.Goals as goal
-use Rattle.grep_session.proofs.columns.find_in_lines.Goals.{After-find_in_chunk}
 
 pub loop-i-init : goal.loop-i-init
 loop-i-init c = record {
@@ -19,13 +18,13 @@ pub find_in_chunk-requires-clause-whole : goal.find_in_chunk-requires-clause-who
 find_in_chunk-requires-clause-whole c = rw c.deref_mut.ensures.value (still_alike c.loop-i.invariant.same_matchers c.requires.whole)
 
 pub find_in_chunk-requires-clause-within : goal.find_in_chunk-requires-clause-within
-find_in_chunk-requires-clause-within c = rw c.deref_mut.ensures.value (subst (λ n. c.args.change.first + c.args.change.come ≤ n) (sym (same_length matched_expression _ _ c.loop-i.invariant.same_matchers.same_expressions)) c.requires.within)
+find_in_chunk-requires-clause-within c = rw c.deref_mut.ensures.value (rw (same_length matched_expression _ _ c.loop-i.invariant.same_matchers.same_expressions) c.requires.within)
 
 -- the matchers are the same as before
 same : (c : After-find_in_chunk) → let now = c.find_in_chunk.new.matchers in AreSame c.args.matchers.now.items (take c.loop-i.matchers.len (now ++ drop (length now) c.loop-i.matchers.items))
 same c =
     let one = rw c.deref_mut.ensures.value at c.find_in_chunk.ensures.same_matchers in
-    subst (AreSame c.args.matchers.now.items) (sym (all_back c.loop-i.matchers.len c.loop-i.matchers.items c.find_in_chunk.new.matchers c.loop-i.matchers.ok.0 (same_length matched_expression _ _ one.same_expressions))) (same_over one c.loop-i.invariant.same_matchers)
+    rw (all_back _ _ _ c.loop-i.matchers.ok.0 (same_length matched_expression _ _ one.same_expressions)) (same_over one c.loop-i.invariant.same_matchers)
 
 -- the steps up to here
 spent : (c : After-find_in_chunk) → let es = map matched_expression c.args.matchers.now.items in let chunks = c.args.lines.now in let options = c.args.search.now.options in (h : HasChanged c.args.change es options)
@@ -33,12 +32,11 @@ spent : (c : After-find_in_chunk) → let es = map matched_expression c.args.mat
 spent c = λ h k.
     let s = c.loop-i.invariant in
     let i = c.loop-i.i in
-    let chunks = c.args.lines.now in
-    let inside : i < length chunks = omega (arith, c.loop-i-test.true, c.chunk_count-i-end.ensures) in
-    let chunk : c.chunk.result.now ≡ get_or chunks i [] = c.chunk.ensures in
+    let inside : i < length c.args.lines.now = omega arith in
+    let chunk : c.chunk.result.now ≡ get_or c.args.lines.now i [] = c.chunk.ensures in
     let one = rw (c.deref_mut.ensures.value, s.same_matchers.same_expressions) at c.find_in_chunk.ensures.steps in
-    let kept : All (IsKept h.before h.was) c.chunk.result.now = subst (All (IsKept h.before h.was)) (sym chunk) (all_by_chunk (IsKept h.before h.was) chunks k i [] inside) in
-    each_both _ _ _ _ _ _ _ _ _ _ _ (texts_next chunks i inside ∙ ap (λ ls. map line_text (all_of (take i chunks)) ++ map line_text ls) (sym chunk)) (s.steps h k) (one h kept)
+    let kept : All (IsKept h.before h.was) c.chunk.result.now = rw chunk (all_by_chunk (IsKept h.before h.was) _ k i [] inside) in
+    each_both _ _ _ _ _ _ _ _ _ _ _ (cc (texts_next _ i inside)) (s.steps h k) (one h kept)
 
 pub returns-in_err-one-clause-steps : goal.returns-in_err-one-clause-steps
 returns-in_err-one-clause-steps c = λ h k.

@@ -1,27 +1,25 @@
-use Rattle.grep_session.proofs.Prelude.{Change, Steps, List, KeptLine, false, false≢true, if◌then◌else◌, had_gone, is_sought, marked_cost, ℕ, true, [], get_or, ◌≡◌, ◌+◌, ◌<◌, ◌≤◌, length, map, Some, sym, ap, subst, ◌∙◌, arith, refl, length-map, Matches, Text, terminated, AddsAtMost, line_text, IsNextLine, next_line_cost, matched_expression, wants_whole}
+use Rattle.grep_session.proofs.Prelude.{Change, Steps, List, KeptLine, false, false≢true, had_gone, is_sought, marked_cost, ℕ, true, [], get_or, ◌≡◌, ◌+◌, ◌<◌, ◌≤◌, length, map, Some, sym, ap, ◌∙◌, arith, refl, length-map, Matches, Text, terminated, AddsAtMost, line_text, IsNextLine, next_line_cost, matched_expression, wants_whole, subst}
+use Rattle.grep_session.proofs.line_matches.add_column.Goals as goal
 use Rattle.re_search.proofs.lemmas.SameLaws.{same_twice}
 use Rattle.re_runs.proofs.lemmas.NextLines.{block_lines}
 use Rattle.re_meter.proofs.lemmas.Adding.{adds_both, adds_within, adds_none}
-use Rattle.grep_session.proofs.lemmas.ColumnLoops.{column_none, column_next, column_done, column_of}
-use Rattle.grep_session.proofs.lemmas.MarkedLemmas.{all_marked}
+use Rattle.grep_session.proofs.lemmas.{ColumnLoops.column_none, ColumnLoops.column_next, ColumnLoops.column_done, ColumnLoops.column_of, MarkedLemmas.all_marked}
 use Rattle.grep_session.proofs.lemmas.NextLineLemmas.{none_from, next_there, place_fits, bytes_up_to, bytes_within, bytes_rest}
-use Rattle.grep_session.proofs.line_matches.add_column.Goals as goal
 use Rattle.grep_session.proofs.line_matches.add_column.Goals.{After-narrow_column, After-number_at-k}
 
 -- the next line that is matched, and its bytes
 found : (c : After-number_at-k) → let texts = map line_text c.args.chunk.now in IsNextLine (matched_expression c.loop-from.matcher) (wants_whole c.loop-from.matcher) texts c.loop-from.from (Some c.number_at-k.result) × (c.in-Some.at.end + 1 ≡ next_line_cost texts c.loop-from.from (Some c.number_at-k.result))
 found c =
     let texts = map line_text c.args.chunk.now in
-    let within : c.loop-from.from ≤ length texts = omega (arith, c.loop-from.invariant.within, length-map c.args.chunk.now line_text) in
-    next_there (matched_expression c.loop-from.matcher) (wants_whole c.loop-from.matcher) texts _ c.loop-from.from c.start.result (length c.args.chunk.now) c.number_at-k.result c.in-Some.at c.text_from.ensures.lines c.in-Some.ensures.reported within c.start.ensures.start (sym (length-map c.args.chunk.now line_text)) c.number_at-k.ensures.at
+    next_there _ _ _ _ _ _ _ _ _ c.text_from.ensures.lines c.in-Some.ensures.reported (omega (arith, length-map c.args.chunk.now line_text)) c.start.ensures.start (sym (length-map c.args.chunk.now line_text)) c.number_at-k.ensures.at
 
 narrowed : (c : After-narrow_column) → AddsAtMost (marked_cost (is_sought c.args.change c.args.old.now) 1 (map line_text c.args.chunk.now) (length c.args.chunk.now)) c.args.meter.now c.narrow_column.new.meter
 narrowed c =
-    subst (λ b. AddsAtMost (marked_cost (λ k. if b then had_gone c.args.change c.args.old.now k else true) 1 (map line_text c.args.chunk.now) (length c.args.chunk.now)) c.args.meter.now c.narrow_column.new.meter) (sym c.if-change.true) c.narrow_column.ensures.steps
+    rw c.if-change.true c.narrow_column.ensures.steps
 
 pub returns-then-change-clause-ok : goal.returns-then-change-clause-ok
 returns-then-change-clause-ok c =
-    column_of (is_sought c.args.change c.args.old.now) _ _ (had_gone c.args.change c.args.old.now) _ _ _ _ (λ k off. ap (λ b. if b then had_gone c.args.change c.args.old.now k else true) c.if-change.true ∙ off) c.in_ok-narrow_column.ensures.ok
+    column_of (is_sought c.args.change c.args.old.now) _ _ (had_gone c.args.change c.args.old.now) _ _ _ _ (λ k off. cc c.if-change.true) c.in_ok-narrow_column.ensures.ok
 
 pub returns-then-change-clause-steps : goal.returns-then-change-clause-steps
 returns-then-change-clause-steps c = narrowed (goal.at.returns-then-change-clause-steps c).After-narrow_column
@@ -33,13 +31,13 @@ returns-in_err-narrow_column-clause-steps c = narrowed (goal.at.returns-in_err-n
 plain : (change : Change) (old : List (ℕ × ℕ)) (lines : List KeptLine) {before after : Steps} → change.narrower ≡ false → AddsAtMost (length (terminated (map line_text lines))) before after
     → AddsAtMost (marked_cost (is_sought change old) 1 (map line_text lines) (length lines)) before after
 plain change old lines {before} {after} all spent =
-    subst (λ b. AddsAtMost (marked_cost (λ k. if b then had_gone change old k else true) 1 (map line_text lines) (length lines)) before after) (sym all)
-    (subst (λ n. AddsAtMost n before after) (all_marked (map line_text lines) (length lines) (length-map lines line_text)) spent)
+    rw all
+    (rw (all_marked _ _ (length-map lines line_text)) at spent)
 
 pub loop-from-init : goal.loop-from-init
 loop-from-init c = record {
   within = omega arith;
-  column = column_none (λ k. true) (matched_expression c.args.matcher.now) (wants_whole c.args.matcher.now) c.args.number (map line_text c.args.chunk.now) c.args.matches.now;
+  column = column_none (λ k. true) (matched_expression c.args.matcher.now) (wants_whole c.args.matcher.now) c.args.number (map line_text c.args.chunk.now) _;
   same = record { same_expression = refl; same_whole = refl; same_room = refl };
   steps = adds_none _ _ _;
 }
@@ -47,9 +45,9 @@ loop-from-init c = record {
 pub overflow_add-start : goal.overflow_add-start
 overflow_add-start c =
     let texts = map line_text c.args.chunk.now in
-    let within : c.loop-from.from ≤ length texts = omega (arith, c.loop-from.invariant.within, length-map c.args.chunk.now line_text) in
+    let within : c.loop-from.from ≤ length texts = omega (arith, length-map c.args.chunk.now line_text) in
     let small = place_fits (λ (line : Text). Matches (matched_expression c.loop-from.matcher) line (wants_whole c.loop-from.matcher)) texts c.loop-from.from _ c.in-Some.at c.text_from.ensures.lines c.in-Some.ensures.reported within _ c.start.ensures.start c.start.ensures.fits in
-    omega (arith, small)
+    omega arith
 
 pub returns-in_default-clause-ok : goal.returns-in_default-clause-ok
 returns-in_default-clause-ok c =
@@ -57,7 +55,7 @@ returns-in_default-clause-ok c =
     let P = λ (line : Text). Matches (matched_expression c.loop-from.matcher) line (wants_whole c.loop-from.matcher) in
     let texts = map line_text c.args.chunk.now in
     let none : (k : ℕ) → c.loop-from.from ≤ k → k < length texts → ¬ Matches (matched_expression c.args.matcher.now) (get_or texts k []) (wants_whole c.args.matcher.now) = rw (← i.same.same_expression, ← i.same.same_whole) (none_from P texts c.loop-from.from _ c.text_from.ensures.lines c.in_default.ensures.reported) in
-    column_of (is_sought c.args.change c.args.old.now) _ _ (λ k. true) _ _ _ _ (λ k off. absurd (false≢true (sym off))) (column_done (λ k. true) _ _ _ _ c.loop-from.from _ _ (λ k low high passed. none k low high) i.column)
+    column_of (is_sought c.args.change c.args.old.now) _ _ (λ k. true) _ _ _ _ (λ k off. absurd (false≢true (sym off))) (column_done (λ k. true) _ _ _ _ _ _ _ (λ k low high passed. none k low high) i.column)
 
 pub returns-in_default-clause-same : goal.returns-in_default-clause-same
 returns-in_default-clause-same c = same_twice c.next_matched.ensures.same c.loop-from.invariant.same
@@ -86,12 +84,12 @@ returns-in_err-note-clause-steps c =
 pub overflow_add-from : goal.overflow_add-from
 overflow_add-from c =
     let there = found (goal.at.overflow_add-from c).After-number_at-k in
-    omega (arith, there.0.1, length-map c.args.chunk.now line_text, c.len.ensures, c.len.type_inv)
+    omega (arith, length-map c.args.chunk.now line_text)
 
 pub loop-from-smaller : goal.loop-from-smaller
 loop-from-smaller c =
     let there = found (goal.at.loop-from-smaller c).After-number_at-k in
-    omega (arith, there.0.0, there.0.1, length-map c.args.chunk.now line_text)
+    omega (arith, length-map c.args.chunk.now line_text)
 
 pub loop-from-preserved : goal.loop-from-preserved
 loop-from-preserved c =
@@ -111,10 +109,9 @@ loop-from-preserved c =
 
 pub returns-clause-ok : goal.returns-clause-ok
 returns-clause-ok c =
-    let i = c.loop-from.invariant in
     column_of (is_sought c.args.change c.args.old.now) _ _ (λ k. true) _ _ _ _ (λ k off. absurd (false≢true (sym off)))
-    (column_done (λ k. true) (matched_expression c.args.matcher.now) (wants_whole c.args.matcher.now) c.args.number (map line_text c.args.chunk.now) c.loop-from.from _ _
-    (λ k low high passed. absurd (let no : ⊥ = omega (arith, low, high, length-map c.args.chunk.now line_text, c.loop-from-test.false) in no)) i.column)
+    (column_done (λ k. true) _ _ _ _ _ _ _
+    (λ k low high passed. absurd (omega (arith, length-map c.args.chunk.now line_text, c.loop-from-test.false))) c.loop-from.invariant.column)
 
 pub returns-clause-steps : goal.returns-clause-steps
 returns-clause-steps c =

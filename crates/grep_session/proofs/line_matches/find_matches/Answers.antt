@@ -1,4 +1,4 @@
-use Rattle.grep_session.proofs.Prelude.{◌≡◌, ◌+◌, ◌-◌, ◌*◌, ◌<◌, length, map, take, drop, get_or, sym, subst, ◌∙◌, length-take, arith, ◌∷◌, [], length-map, drop_all, AddsAtMost, line_text, AddsColumn, AreBelow, is_sought, marked_cost, matched_expression, wants_whole}
+use Rattle.grep_session.proofs.Prelude.{◌≡◌, ◌+◌, ◌-◌, ◌<◌, length, map, take, sym, ◌∙◌, length-take, arith, length-map, drop_all, line_text, is_sought, marked_cost, matched_expression, wants_whole}
 use Rattle.re_search.proofs.lemmas.KeptMatchers.{none_asked, one_kept}
 use Rattle.re_search.proofs.lemmas.OneMatcherMore.{one_more, value_at, within}
 use Rattle.re_meter.proofs.lemmas.Adding.{adds_none}
@@ -13,13 +13,12 @@ loop-number-init c =
     let texts = map line_text c.args.chunk.now in
     let entire = c.args.search.now.options.line_regexp in
     let sought = is_sought c.args.change c.args.old.now in
-    let left = c.drop_numbers.new.self in
     let d = rw (c.saturating_sub-fewer.ensures, c.in_ok-matches.ensures) at c.drop_numbers.ensures in
-    let none : drop first (take first es) ≡ [] = drop_all first (take first es) (omega (arith, length-take first es)) in
+    let none = drop_all first (take first es) (omega (arith, length-take first es)) in
     record {
       low = omega arith;
       high = omega arith;
-      found = (left, record { within = d.within (length texts) (subst (λ n. AreBelow n c.args.old.now) (sym (length-map c.args.chunk.now line_text)) c.requires.below); numbers = d.numbers; same = d.same }, subst (λ fs. AddsColumn sought texts entire first fs left left) (sym none) (columns_none sought texts entire first left));
+      found = (c.drop_numbers.new.self, record { within = d.within (length texts) (rw (length-map c.args.chunk.now line_text) c.requires.below); numbers = d.numbers; same = d.same }, rw none (columns_none sought _ _ _ _));
       same_matchers = none_asked;
       steps = adds_none _ _ _;
     }
@@ -32,26 +31,26 @@ loop-number-preserved c =
     let now = c.loop-number.matchers in
     let k = c.loop-number.number in
     let d = c.index-matchers-number.result in
-    let h : k < length old = omega (arith, c.loop-number-test.true, c.requires.within) in
+    let h : k < length old = omega arith in
     let entire = c.args.search.now.options.line_regexp in
     let texts = map line_text c.args.chunk.now in
     let first = c.args.change.first in
     let sought = is_sought c.args.change c.args.old.now in
-    let asks : wants_whole (get_or now k d) ≡ entire = sym (value_at wants_whole old now same.same_wholes k d h entire) ∙ c.requires.whole k entire (within wants_whole old now same.same_wholes k d h).1 in
-    let there : k < length (map matched_expression old) = (within matched_expression old now same.same_expressions k d h).1 in
-    let next : k - first + 1 ≡ k + 1 - first = omega (arith, s.low) in
+    let asks = sym (value_at wants_whole old now same.same_wholes k d h entire) ∙ c.requires.whole k entire (within wants_whole old now same.same_wholes k d h).1 in
+    let there = (within matched_expression old now same.same_expressions k d h).1 in
+    let next : k - first + 1 ≡ k + 1 - first = omega arith in
     let cost = marked_cost sought 1 texts (length c.args.chunk.now) in
     record {
-      low = omega (arith, s.low);
-      high = omega (arith, c.loop-number-test.true);
+      low = omega arith;
+      high = omega arith;
       found = (
         s.found.0,
         s.found.1,
-        columns_next sought texts entire first k (map matched_expression old) (matched_expression (get_or now k d)) s.found.0 c.loop-number.matches c.add_column.new.matches s.low there (one_more matched_expression old now same.same_expressions k d h) s.found.2
-            (subst (λ w. AddsColumn sought texts w k (matched_expression (get_or now k d) ∷ []) c.loop-number.matches c.add_column.new.matches) asks c.in_ok-add_column.ensures.ok),
+        columns_next sought _ _ _ k _ _ _ s.low there (one_more matched_expression old now same.same_expressions k d h) s.found.2
+            (rw asks at c.in_ok-add_column.ensures.ok),
       );
       same_matchers = one_kept same k d _ c.add_column.ensures.same;
-      steps = subst (λ n. AddsAtMost (n * cost) c.args.meter.now c.add_column.new.meter) next (adds_once_more (k - first) cost _ _ _ s.steps c.add_column.ensures.steps);
+      steps = rw next at (adds_once_more (k - first) cost _ _ _ s.steps c.add_column.ensures.steps);
     }
 
 pub returns-in_err-add_column-clause-same_matchers : goal.returns-in_err-add_column-clause-same_matchers
@@ -59,22 +58,19 @@ returns-in_err-add_column-clause-same_matchers c = one_kept c.loop-number.invari
 
 pub returns-in_err-add_column-clause-steps : goal.returns-in_err-add_column-clause-steps
 returns-in_err-add_column-clause-steps c =
-    let s = c.loop-number.invariant in
     let done = c.loop-number.number - c.args.change.first in
-    adds_for_more (done + 1) c.args.change.come _ _ _ (omega (arith, s.low, c.loop-number-test.true)) (adds_once_more done _ _ _ _ s.steps c.add_column.ensures.steps)
+    adds_for_more (done + 1) c.args.change.come _ _ _ (omega arith) (adds_once_more done _ _ _ _ c.loop-number.invariant.steps c.add_column.ensures.steps)
 
 pub returns-clause-ok : goal.returns-clause-ok
 returns-clause-ok c =
     let s = c.loop-number.invariant in
-    let first = c.args.change.first in
-    let reached : c.loop-number.number ≡ first + c.args.change.come = omega (arith, s.high, c.loop-number-test.false) in
+    let reached : c.loop-number.number ≡ c.args.change.first + c.args.change.come = omega arith in
     record {
       left = s.found.0;
       are_left = s.found.1;
-      adds = subst (λ n. AddsColumn (is_sought c.args.change c.args.old.now) (map line_text c.args.chunk.now) c.args.search.now.options.line_regexp first (drop first (take n (map matched_expression c.args.matchers.now))) s.found.0 c.loop-number.matches) reached s.found.2;
+      adds = rw reached at s.found.2;
     }
 
 pub returns-clause-steps : goal.returns-clause-steps
 returns-clause-steps c =
-    let s = c.loop-number.invariant in
-    adds_for_more (c.loop-number.number - c.args.change.first) c.args.change.come _ _ _ (omega (arith, s.high)) s.steps
+    adds_for_more (c.loop-number.number - c.args.change.first) c.args.change.come _ _ _ (omega arith) c.loop-number.invariant.steps

@@ -1,4 +1,4 @@
-use Rattle.grep_session.proofs.Prelude.{◌≡◌, ◌+◌, ◌<◌, ◌↔◌, true, false, IsTrue, [], length, map, get_or, get_or_default, nil_from_length, refl, sym, ap, subst, ◌∙◌, arith, length-map, false≢true, Some, Matches, AddsAtMost, IsNextLine, had_gone, marked_cost, line_text, no_line, matched_expression, wants_whole}
+use Rattle.grep_session.proofs.Prelude.{◌≡◌, ◌+◌, ◌<◌, ◌↔◌, true, false, IsTrue, [], length, map, get_or, get_or_default, nil_from_length, refl, sym, ◌∙◌, arith, length-map, false≢true, Some, Matches, AddsAtMost, IsNextLine, had_gone, marked_cost, line_text, no_line, matched_expression, wants_whole}
 use Rattle.std.proofs.Math.ListN.{get_or-map}
 use Rattle.re_search.proofs.lemmas.SameLaws.{same_twice}
 use Rattle.re_meter.proofs.lemmas.Adding.{adds_none}
@@ -12,8 +12,8 @@ returns-in_err-marks-clause-steps c = adds_none _ _ _
 
 pub returns-then-len-eq0-clause-ok : goal.returns-then-len-eq0-clause-ok
 returns-then-len-eq0-clause-ok c =
-    let none : c.args.old.now ≡ [] = nil_from_length c.args.old.now (sym c.len.ensures ∙ c.if-len-eq0.true) in
-    column_done (had_gone c.args.change c.args.old.now) _ _ _ _ 0 _ _ (λ k low high passed. passed (ap (λ pairs. had_gone c.args.change pairs k) none)) (column_none _ _ _ _ _ _)
+    let none = nil_from_length c.args.old.now (sym c.len.ensures ∙ c.if-len-eq0.true) in
+    column_done (had_gone c.args.change c.args.old.now) _ _ _ _ 0 _ _ (λ k low high passed. passed (rw none)) (column_none _ _ _ _ _ _)
 
 pub returns-then-len-eq0-clause-steps : goal.returns-then-len-eq0-clause-steps
 returns-then-len-eq0-clause-steps c = adds_none _ _ _
@@ -50,15 +50,11 @@ asked : (c : After-is_match) → had_gone c.args.change c.args.old.now c.loop-k.
     × AddsAtMost (marked_cost (had_gone c.args.change c.args.old.now) 1 texts (c.loop-k.k + 1)) c.args.meter.now c.is_match.new.meter
 asked c on =
     let s = c.loop-k.invariant in
-    let k = c.loop-k.k in
-    let lines = c.args.chunk.now in
-    let texts = map line_text lines in
-    let text : get_or texts k [] ≡ line_text (get_or lines k no_line) = get_or-map line_text lines k no_line in
-    let m = c.loop-k.matcher in
-    let reported = subst (λ x. IsTrue c.is_match.result ↔ Matches x (get_or texts k []) (wants_whole c.args.matcher.now)) s.same.same_expression (subst (λ w. IsTrue c.is_match.result ↔ Matches (matched_expression m) (get_or texts k []) w) s.same.same_whole
-    (subst (λ t. IsTrue c.is_match.result ↔ Matches (matched_expression m) t (wants_whole m)) (c.line.ensures.line ∙ sym text) c.is_match.ensures.reported)) in
-    let spent = subst (λ t. AddsAtMost (length t + 1) c.loop-k.meter c.is_match.new.meter) c.line.ensures.line c.is_match.ensures.steps in
-    (reported, searched_next (had_gone c.args.change c.args.old.now) texts k _ _ _ _ on text s.steps spent)
+    let text = get_or-map line_text c.args.chunk.now c.loop-k.k no_line in
+    let reported = rw s.same.same_expression at (rw s.same.same_whole at
+    (rw (c.line.ensures.line ∙ sym text) at c.is_match.ensures.reported)) in
+    let spent = rw c.line.ensures.line at c.is_match.ensures.steps in
+    (reported, searched_next (had_gone c.args.change c.args.old.now) _ c.loop-k.k _ _ _ _ on text s.steps spent)
 
 pub loop-k-preserved-then-not-is_match : goal.loop-k-preserved-then-not-is_match
 loop-k-preserved-then-not-is_match c =
@@ -97,7 +93,7 @@ returns-in_err-note-clause-steps c =
 
 pub returns-clause-ok : goal.returns-clause-ok
 returns-clause-ok c =
-    column_done _ _ _ _ _ c.loop-k.k _ _ (λ j low high passed. absurd (let wrong : ⊥ = omega (arith, low, high, length-map c.args.chunk.now line_text, c.loop-k-test.false, c.len-k-end.ensures) in wrong)) c.loop-k.invariant.column
+    column_done _ _ _ _ _ _ _ _ (λ j low high passed. absurd (omega (arith, length-map c.args.chunk.now line_text, c.loop-k-test.false, c.len-k-end.ensures))) c.loop-k.invariant.column
 
 pub returns-clause-steps : goal.returns-clause-steps
-returns-clause-steps c = marked_front _ 1 (map line_text c.args.chunk.now) c.loop-k.k _ _ _ c.loop-k.invariant.high c.loop-k.invariant.steps
+returns-clause-steps c = marked_front _ 1 _ _ _ _ _ c.loop-k.invariant.high c.loop-k.invariant.steps

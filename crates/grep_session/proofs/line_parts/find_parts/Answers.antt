@@ -1,10 +1,9 @@
-use Rattle.grep_session.proofs.Prelude.{ArePartsAgain, ◌≡◌, ◌+◌, ◌<◌, ◌≤◌, ◌||◌, false, has_own, length, map, get_or, ap, ◌∙◌, arith, get_or_default, line_text, no_line, is_paired, is_parted, numbers_at, parting, has_new_parts, marked_cost, AddsAtMost, matched_expression}
+use Rattle.grep_session.proofs.Prelude.{ArePartsAgain, ◌≡◌, ◌+◌, ◌<◌, ◌||◌, false, length, map, get_or, ap, ◌∙◌, arith, get_or_default, line_text, no_line, is_paired, is_parted, numbers_at, parting, has_new_parts, marked_cost, AddsAtMost, matched_expression, ◌≤◌, has_own}
+use Rattle.grep_session.proofs.line_parts.find_parts.Goals as goal
 use Rattle.re_meter.proofs.lemmas.Adding.{adds_none}
 use Rattle.re_search.proofs.lemmas.KeptMatchers.{none_asked, same_over}
-use Rattle.grep_session.proofs.lemmas.MarkedLemmas.{marked_front, marked_next}
+use Rattle.grep_session.proofs.{lemmas.MarkedLemmas.marked_front, lemmas.MarkedLemmas.marked_next, line_parts.find_parts.Goals.After-put_parts}
 use Rattle.grep_session.proofs.lemmas.PartingLemmas.{line_cost, parts_by, parts_next}
-use Rattle.grep_session.proofs.line_parts.find_parts.Goals as goal
-use Rattle.grep_session.proofs.line_parts.find_parts.Goals.{After-put_parts}
 
 pub returns-in_err-matched-clause-steps : goal.returns-in_err-matched-clause-steps
 returns-in_err-matched-clause-steps c = adds_none _ _ _
@@ -16,7 +15,7 @@ pub loop-k-init : goal.loop-k-init
 loop-k-init c = record {
   high = omega arith;
   few = omega (arith, ap length c.new-parts.ensures);
-  found = λ i low. absurd (let no : ⊥ = omega (arith, low) in no);
+  found = λ i low. absurd (omega arith);
   same_matchers = none_asked;
   steps = adds_none _ _ _;
 }
@@ -68,10 +67,10 @@ returns-in_err-put_parts-clause-steps c =
     marked_front _ _ _ (c.loop-k.k + 1) _ _ _ inside (spent (goal.at.returns-in_err-put_parts-clause-steps c).After-put_parts)
 
 pub returns-clause-ok : goal.returns-clause-ok
-returns-clause-ok c = λ k high asked. c.loop-k.invariant.found k (omega (arith, c.loop-k-test.false, c.len-size.ensures, high))
+returns-clause-ok c = λ k high asked. c.loop-k.invariant.found k (omega arith)
 
 pub returns-clause-steps : goal.returns-clause-steps
-returns-clause-steps c = marked_front _ _ _ c.loop-k.k _ _ _ c.loop-k.invariant.high c.loop-k.invariant.steps
+returns-clause-steps c = marked_front _ _ _ _ _ _ _ c.loop-k.invariant.high c.loop-k.invariant.steps
 
 pub returns-then-not-search-clause-steps : goal.returns-then-not-search-clause-steps
 returns-then-not-search-clause-steps c = adds_none _ _ _

@@ -1,4 +1,4 @@
-use Rattle.grep_session.proofs.Prelude.{◌≡◌, ◌<◌, ◌≤◌, [], length, map, get_or, arith, sym, ◌∙◌, form, length-map, All-get_or, all_of, line_text, no_line, IsKept}
+use Rattle.grep_session.proofs.Prelude.{◌<◌, [], length, get_or, arith, sym, ◌∙◌, length-map, all_of, line_text, no_line, ◌≡◌, map}
 use Rattle.std.proofs.lemmas.List.{get_or-map}
 use Rattle.grep_session.proofs.lemmas.GroupsWritten.{groups_none}
 use Rattle.grep_session.proofs.lemmas.PlaceLemmas.{none_due, shown_none, shown_on, shown_stops, shown_all}
@@ -6,8 +6,7 @@ use Rattle.grep_session.proofs.lines.write_lines.Goals as goal
 
 pub returns-in_default : goal.returns-in_default
 returns-in_default g c = λ es kept.
-    let w = c.args.layout.now.request in
-    groups_none (none_due es w.options w.many w.name.now (map line_text (all_of c.args.lines.now)) (form w.options) (sym c.context_of.ensures ∙ c.in_default.is))
+    groups_none (none_due es _ _ _ _ _ (sym c.context_of.ensures ∙ c.in_default.is))
 
 pub places-init : goal.places-init
 places-init g c = record {
@@ -22,20 +21,20 @@ places-preserved g c =
     let inside : c.places.k < length lines = omega (arith, c.places-test.true, c.len-end.ensures) in
     let at : get_or (map line_text lines) c.places.k [] ≡ line_text (get_or lines c.places.k no_line) = get_or-map line_text lines c.places.k no_line [] inside in
     record {
-      shown = λ es kept. shown_on _ _ _ _ (c.places.invariant.shown es kept) (omega (arith, inside, length-map lines line_text)) (get_or lines c.places.k no_line) at (All-get_or (IsKept es c.args.layout.now.request.options) lines c.places.k no_line inside kept) _ c.in_ok-write_place.ensures (c.next_shown-later.ensures.shown es kept);
+      shown = λ es kept. shown_on _ _ _ _ (c.places.invariant.shown es kept) (omega (arith, inside, length-map lines line_text)) (get_or lines c.places.k no_line) at (kept c.places.k no_line inside) _ c.in_ok-write_place.ensures (c.next_shown-later.ensures.shown es kept);
       near = c.next_shown-later.ensures.near;
       within = c.next_shown-later.ensures.within;
     }
 
 pub places-smaller : goal.places-smaller
-places-smaller g c = omega (arith, c.places-test.true, c.len-end.ensures, c.next_shown-later.ensures.after, c.next_shown-later.ensures.within)
+places-smaller g c = omega arith
 
 pub returns-in_err-write_place : goal.returns-in_err-write_place
 returns-in_err-write_place g c = λ es kept.
     let lines = all_of c.args.lines.now in
     let inside : c.places.k < length lines = omega (arith, c.places-test.true, c.len-end.ensures) in
     let at : get_or (map line_text lines) c.places.k [] ≡ line_text (get_or lines c.places.k no_line) = get_or-map line_text lines c.places.k no_line [] inside in
-    shown_stops _ _ _ _ (c.places.invariant.shown es kept) (omega (arith, inside, length-map lines line_text)) (get_or lines c.places.k no_line) at (All-get_or (IsKept es c.args.layout.now.request.options) lines c.places.k no_line inside kept) c.from_residual.result c.from_residual.ensures.0 c.in_err-write_place.ensures
+    shown_stops _ _ _ _ (c.places.invariant.shown es kept) (omega (arith, inside, length-map lines line_text)) (get_or lines c.places.k no_line) at (kept c.places.k no_line inside) c.from_residual.result c.from_residual.ensures.0 c.in_err-write_place.ensures
 
 pub returns : goal.returns
-returns g c = λ es kept. shown_all _ _ _ _ (c.places.invariant.shown es kept) (omega (arith, c.places-test.false, c.len-end.ensures, length-map (all_of c.args.lines.now) line_text))
+returns g c = λ es kept. shown_all _ _ _ _ (c.places.invariant.shown es kept) (omega (arith, length-map (all_of c.args.lines.now) line_text))

@@ -7,12 +7,12 @@ returns-in_err-write_part g c =
     let w = c.args.layout.now.request in
     let f = λ (span : Span). row_by w.options w.many w.name.now true c.args.number (slice_range c.args.text.now span.start span.end) in
     writes_err g.W.CountedWrite.contents g.W.CountedWrite.failures c.args.layout.now.margin.now _ _ _ c.from_residual.result c.from_residual.ensures.0
-    (row_stops g.W.CountedWrite.contents g.W.CountedWrite.failures c.args.layout.now.margin.now f c.args.spans.now c.args.spans.now c.loop-part.part-index (record { start = 0; end = 0 }) c.loop-part-test.true
-    c.args.out.now c.loop-part.out c.write_part.new.out c.loop-part.invariant c.in_err-write_part.ensures)
+    (row_stops g.W.CountedWrite.contents g.W.CountedWrite.failures _ f _ _ _ _ c.loop-part-test.true
+    _ _ _ c.loop-part.invariant c.in_err-write_part.ensures)
 
 pub loop-part-preserved : goal.loop-part-preserved
 loop-part-preserved g c =
     let w = c.args.layout.now.request in
     let f = λ (span : Span). row_by w.options w.many w.name.now true c.args.number (slice_range c.args.text.now span.start span.end) in
-    row_on g.W.CountedWrite.contents g.W.CountedWrite.failures c.args.layout.now.margin.now f c.args.spans.now c.args.spans.now c.loop-part.part-index (record { start = 0; end = 0 }) c.loop-part-test.true
-    c.args.out.now c.loop-part.out c.write_part.new.out c.loop-part.invariant c.in_ok-write_part.ensures
+    row_on g.W.CountedWrite.contents g.W.CountedWrite.failures _ f _ _ _ _ c.loop-part-test.true
+    _ _ _ c.loop-part.invariant c.in_ok-write_part.ensures

@@ -1,13 +1,12 @@
 use Rattle.grep_session.proofs.Prelude.{length, arith, ap, ◌∙◌, Marked, whole_mark}
-use Rattle.grep_session.proofs.lemmas.AddingLemmas.{all_back}
-use Rattle.grep_session.proofs.lemmas.LostLemmas.{mapped_all, mapped_next}
 use Rattle.grep_session.proofs.marks.know_all.Goals as goal
+use Rattle.grep_session.proofs.lemmas.{AddingLemmas.all_back, LostLemmas.mapped_all, LostLemmas.mapped_next}
 
 pub loop-mark-preserved : goal.loop-mark-preserved
-loop-mark-preserved c = mapped_next (λ (mark : Marked). whole_mark mark.lines) c.args.marks.now.items c.loop-mark.mark-items c.loop-mark.mark-index _ _ c.loop-mark.invariant (omega (arith, c.loop-mark-test.true, ap length c.deref_mut-mark-items.ensures.value)) c.report.ensures
+loop-mark-preserved c = mapped_next (λ (mark : Marked). whole_mark mark.lines) _ _ _ _ _ c.loop-mark.invariant (omega (arith, ap length c.deref_mut-mark-items.ensures.value)) c.report.ensures
 
 pub returns : goal.returns
 returns c =
     let len = ap length c.deref_mut-mark-items.ensures.value in
-    all_back c.args.marks.now.len c.args.marks.now.items c.loop-mark.mark-items c.args.marks.now.ok.0 (omega (arith, len, c.loop-mark.auto.mark-items)) ∙ c.loop-mark.invariant
-    ∙ mapped_all (λ (mark : Marked). whole_mark mark.lines) c.args.marks.now.items c.loop-mark.mark-index (omega (arith, len, c.loop-mark-test.false))
+    all_back _ _ _ c.args.marks.now.ok.0 (omega arith) ∙ c.loop-mark.invariant
+    ∙ mapped_all (λ (mark : Marked). whole_mark mark.lines) c.args.marks.now.items c.loop-mark.mark-index (omega arith)

@@ -1,4 +1,4 @@
-use Rattle.grep_session.proofs.Prelude.{All, ◌≡◌, take, arith, subst, take_all, All-map, HasNoNewline}
+use Rattle.grep_session.proofs.Prelude.{arith, take_all, All-map, HasNoNewline, All, ◌≡◌, take, subst}
 use Rattle.grep_session.proofs.lemmas.SessionLemmas.{fails_at, All-next}
 use Rattle.grep_session.proofs.new_lines.any_newline.Goals as goal
 
@@ -13,4 +13,4 @@ returns c =
 
 pub loop-line-preserved : goal.loop-line-preserved
 loop-line-preserved c =
-    All-next (λ line. HasNoNewline line.items) c.args.lines.now c.loop-line.line-index c.line-item.result c.loop-line-test.true c.line-item.is c.loop-line.invariant (rw c.deref.ensures.value at c.if-has_newline.ensures)
+    All-next (λ line. HasNoNewline line.items) _ _ _ c.loop-line-test.true c.line-item.is c.loop-line.invariant (rw c.deref.ensures.value at c.if-has_newline.ensures)

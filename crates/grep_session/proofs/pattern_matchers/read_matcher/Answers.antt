@@ -1,8 +1,7 @@
 use Rattle.grep_session.proofs.Prelude.{[], ◌∷◌, refl}
-use Rattle.grep_core.proofs.lemmas.MatcherLemmas.{AreMatchers-none, AreMatchers-push, refused_or_memory}
-use Rattle.grep_session.proofs.lemmas.ReadingLemmas.{reported_refused}
-use Rattle.grep_session.proofs.lemmas.RoomLemmas.{keep_none, keep_one}
 use Rattle.grep_session.proofs.pattern_matchers.read_matcher.Goals as goal
+use Rattle.grep_core.proofs.lemmas.MatcherLemmas.{AreMatchers-none, AreMatchers-push, refused_or_memory}
+use Rattle.grep_session.proofs.lemmas.{ReadingLemmas.reported_refused, RoomLemmas.keep_none, RoomLemmas.keep_one}
 
 pub returns-in-Ok-clause-ok : goal.returns-in-Ok-clause-ok
 returns-in-Ok-clause-ok c =
@@ -14,4 +13,4 @@ returns-in-Ok-clause-rooms c = keep_one c.args.states [] c.in-Ok.matcher (c.in-O
 pub returns-in-Err-clause-err : goal.returns-in-Err-clause-err
 returns-in-Err-clause-err c =
     let first = refused_or_memory c.args.syntax c.args.options.now.ignore_case [] c.args.text.now (AreMatchers-none c.args.syntax c.args.options.now [] [] refl refl).readable [] (c.args.text.now ∷ []) refl c.in-Err.fault c.in-Err.ensures.refused 0 refl in
-    reported_refused c.args.syntax c.args.options.now.ignore_case (c.args.text.now ∷ []) 0 c.in-Err.fault c.fault_at.result c.fault_at.ensures first
+    reported_refused 0 c.fault_at.ensures first

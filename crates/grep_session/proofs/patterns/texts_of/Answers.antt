@@ -3,8 +3,6 @@ use Rattle.grep_session.proofs.patterns.texts_of.Goals as goal
 
 pub loop-part-preserved : goal.loop-part-preserved
 loop-part-preserved c =
-    let s = c.loop-part.invariant in
-    let part = c.in-Some.part.now in
     let done = map (λ text. text.items) c.loop-part.texts.items in
     let more = ap (map (λ text. text.items)) c.in_ok-push.ensures.ok ∙ map-append (λ text. text.items) c.loop-part.texts.items (c.in_ok-text.text ∷ []) ∙ ap (λ t. done ++ t ∷ []) c.in_ok-text.ensures.items in
-    (tt, tt, ap (λ l. l ++ c.next.new.self) more ∙ append_assoc done (part ∷ []) c.next.new.self ∙ ap (λ l. done ++ l) (sym c.in-Some.ensures.steps) ∙ s.2)
+    (tt, tt, ap (λ l. l ++ c.next.new.self) more ∙ append_assoc done (c.in-Some.part.now ∷ []) c.next.new.self ∙ ap (λ l. done ++ l) (sym c.in-Some.ensures.steps) ∙ c.loop-part.invariant.2)

@@ -1,16 +1,14 @@
-use Rattle.grep_session.proofs.Prelude.{MatchBool, AreParts, span_places, length, map, arith, sym, subst, length-map, matched_expression, wants_whole}
-use Rattle.std.specs.Prelude.{⊤}
-use Rattle.re_meter.proofs.lemmas.Adding.{adds_none}
-use Rattle.re_search.proofs.lemmas.KeptMatchers.{none_asked, same_over}
-use Rattle.re_search.proofs.lemmas.LinePartsLaws.{all_parts}
-use Rattle.grep_core.proofs.lemmas.CostLaws.{same_length}
-use Rattle.grep_session.proofs.lemmas.FindingLemmas.{asked_cost, SpansSoFar, spans_none, spans_next, spans_done}
+use Rattle.grep_session.proofs.Prelude.{length, map, arith, sym, length-map, matched_expression, wants_whole}
 use Rattle.grep_session.proofs.search.parts_of.Goals as goal
+use Rattle.re_meter.proofs.lemmas.Adding.{adds_none}
+use Rattle.re_search.proofs.lemmas.{KeptMatchers.none_asked, KeptMatchers.same_over, LinePartsLaws.all_parts}
+use Rattle.grep_core.proofs.lemmas.CostLaws.{same_length}
+use Rattle.grep_session.proofs.lemmas.FindingLemmas.{asked_cost, spans_none, spans_next, spans_done}
 
 pub loop-part-init : goal.loop-part-init
 loop-part-init c = record {
-  parts = spans_none _ _ _ _ (c.new-spans.ensures.items) (omega arith);
-  room = omega (arith, c.in_ok-make_room.ensures.ok, c.begin.ensures.room);
+  parts = spans_none _ _ _ (c.new-spans.ensures.items) (omega arith);
+  room = omega arith;
   right = c.begin.ensures.right _ _ _;
   steps = adds_none _ _ _;
   same_matchers = none_asked;
@@ -28,7 +26,7 @@ next_part-requires-clause-right c = rw c.loop-part.invariant.same_matchers.same_
 pub loop-part-smaller : goal.loop-part-smaller
 loop-part-smaller c =
     let found = c.in-Some.ensures.reported.found in
-    omega (arith, found.not_empty, found.on_line, found.begins)
+    omega arith
 
 pub loop-part-preserved : goal.loop-part-preserved
 loop-part-preserved c =
@@ -37,8 +35,8 @@ loop-part-preserved c =
     let reported = rw i.same_matchers.same_expressions at c.in-Some.ensures.reported in
     let many = same_length wants_whole c.loop-part.matchers c.args.matchers.now i.same_matchers.same_wholes in
     record {
-      parts = subst (SpansSoFar es c.args.search.now.options c.args.line.now c.in-Some.part.end) (sym c.in_ok-push.ensures.items) (spans_next es c.args.search.now.options c.args.line.now c.loop-part.from c.loop-part.spans.items c.in-Some.part i.parts reported);
-      room = omega (arith, i.room, c.next_part.ensures.room);
+      parts = rw c.in_ok-push.ensures.items (spans_next es _ _ _ _ _ i.parts reported);
+      room = omega arith;
       right = rw i.same_matchers.same_expressions at c.in-Some.ensures.right;
       steps = (rw many at c.next_part.ensures.steps) c.args.meter.now i.steps;
       same_matchers = same_over c.next_part.ensures.same_matchers i.same_matchers;
@@ -47,9 +45,7 @@ loop-part-preserved c =
 pub returns-clause-ok : goal.returns-clause-ok
 returns-clause-ok c =
     let reported = rw c.loop-part.invariant.same_matchers.same_expressions at c.in_default.ensures.reported in
-    let es = map matched_expression c.args.matchers.now in
-    let options = c.args.search.now.options in
-    subst (λ asked. MatchBool asked (AreParts es c.args.line.now options.line_regexp (map span_places c.loop-part.spans.items)) ⊤) (sym c.if-not-search.false) (spans_done _ options _ c.loop-part.from _ c.loop-part.invariant.parts reported)
+    rw c.if-not-search.false (spans_done _ c.args.search.now.options _ _ c.loop-part.invariant.parts reported)
 
 pub returns-clause-steps : goal.returns-clause-steps
 returns-clause-steps c =

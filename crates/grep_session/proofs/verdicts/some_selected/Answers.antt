@@ -1,4 +1,4 @@
-use Rattle.grep_session.proofs.Prelude.{◌∙◌, ap, nat_lt, all_of}
+use Rattle.grep_session.proofs.Prelude.{◌∙◌, nat_lt, all_of}
 use Rattle.grep_session.proofs.lemmas.CountLaws.{some_matched, some_not_matched}
 use Rattle.grep_session.proofs.verdicts.some_selected.Goals as goal
 
@@ -6,4 +6,4 @@ pub returns-then-options : goal.returns-then-options
 returns-then-options c = (λ i. nat_lt (c.hits.ensures i) (c.len.ensures i)) ∙ some_not_matched c.args.options.now c.if-options.true (all_of c.args.lines.now)
 
 pub returns : goal.returns
-returns c = ap (nat_lt 0) c.hits-2.ensures ∙ some_matched c.args.options.now c.if-options.false (all_of c.args.lines.now)
+returns c = cc (c.hits-2.ensures, some_matched c.args.options.now c.if-options.false (all_of c.args.lines.now))

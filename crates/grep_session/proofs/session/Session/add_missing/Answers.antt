@@ -1,11 +1,10 @@
-use Rattle.grep_session.proofs.Prelude.{All, refl, map, sym, subst, All-push, matched_expression, IsFileKept}
-use Rattle.grep_session.proofs.lemmas.EditLemmas.{asked_session, left_session}
-use Rattle.grep_session.proofs.lemmas.FitLemmas.{fit_pushed}
-use Rattle.re_search.proofs.lemmas.KeptMatchers.{none_asked}
+use Rattle.grep_session.proofs.Prelude.{refl, map, All-push, matched_expression, IsFileKept, All, sym, subst}
 use Rattle.grep_session.proofs.session.Session.add_missing.Goals as goal
+use Rattle.grep_session.proofs.lemmas.{EditLemmas.asked_session, EditLemmas.left_session, FitLemmas.fit_pushed}
+use Rattle.re_search.proofs.lemmas.KeptMatchers.{none_asked}
 
 pub invariant_of-self : goal.invariant_of-self
-invariant_of-self c = left_session c.self.inside _ refl refl c.self.invariant none_asked c.in-Err.ensures.err.0 c.in-Err.ensures.err.1
+invariant_of-self c = left_session _ _ refl refl c.self.invariant none_asked c.in-Err.ensures.err.0 c.in-Err.ensures.err.1
 
 pub invariant_of-self-2 : goal.invariant_of-self-2
 invariant_of-self-2 c =

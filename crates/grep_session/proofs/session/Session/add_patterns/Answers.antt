@@ -1,30 +1,27 @@
-use Rattle.grep_session.proofs.Prelude.{◌≡◌, ◌+◌, ◌≤◌, ◌<◌, ◌++◌, [], Ok, Err, Bool, false, false≢true, length, map, inl, inr, refl, sym, ap, subst, ◌∙◌, arith, All, All-append, length-append, length-map, map-append, list_of, IsReadable, matched_expression, wants_whole, AddPatterns, EditGives, with_patterns, most_patterns, RefusesFirst, AreMatchers, AreSame, Change, HasChanged, exchanged, TakesSteps, all_lines, pairs_cost, inputs_of}
+use Rattle.grep_session.proofs.Prelude.{◌≡◌, ◌+◌, ◌<◌, ◌++◌, [], Ok, Bool, false, false≢true, length, map, inl, inr, refl, sym, ap, ◌∙◌, arith, All-append, length-append, length-map, map-append, list_of, matched_expression, wants_whole, AddPatterns, with_patterns, most_patterns, AreMatchers, HasChanged, exchanged, TakesSteps, all_lines, pairs_cost, inputs_of, ◌≤◌, Err, subst, EditGives, RefusesFirst}
+use Rattle.grep_session.proofs.session.Session.add_patterns.Goals as goal
 use Rattle.std.specs.Bool.{⊤}
 use Rattle.grep_core.proofs.lemmas.CostLaws.{same_length}
-use Rattle.grep_session.proofs.lemmas.EditLemmas.{left_session}
+use Rattle.grep_session.proofs.lemmas.{EditLemmas.left_session, StepLemmas.chosen_all, StepLemmas.takes_touched, SessionLemmas.inputs_are}
 use Rattle.grep_session.proofs.lemmas.SplicedLists.{IsSpliced, added, cut_off, list_changed, mapped}
 use Rattle.grep_session.proofs.lemmas.SplicingLemmas.{are_matchers, refuses, restored, spliced_session}
-use Rattle.grep_session.proofs.lemmas.StepLemmas.{chosen_all, takes_touched}
 use Rattle.re_search.proofs.lemmas.KeptMatchers.{none_asked}
-use Rattle.grep_session.proofs.lemmas.SessionLemmas.{inputs_are}
-use Rattle.grep_session.proofs.session.Session.add_patterns.Goals as goal
 use Rattle.grep_session.proofs.session.Session.add_patterns.Goals.{Else-too_many, After-find_columns, After-add_texts}
 
 -- the patterns are not too many
 not_many : (c : Else-too_many) → most_patterns < length (inputs_of c.self.inside).patterns + length (list_of c.args.list.now) → ⊥
 not_many c =
-    let s = c.self.inside in
-    λ many. (let no : ⊥ = omega (arith, c.if-too_many.ensures, c.len.ensures, s.matchers.ok.0, c.self.invariant.matchers.counted, many) in no)
+    λ many. (omega (arith, many))
 
 -- the new matchers and their patterns were added
 new : (c : After-find_columns) → AreMatchers c.self.inside.syntax c.self.inside.options (list_of c.args.list.now) c.in-Ok-read_matchers.matchers.items
-new c = subst (λ ts. AreMatchers c.self.inside.syntax c.self.inside.options ts c.in-Ok-read_matchers.matchers.items) c.in-Ok.ensures (rw c.deref.ensures.value at c.in-Ok-read_matchers.ensures.ok)
+new c = rw c.in-Ok.ensures at (rw c.deref.ensures.value at c.in-Ok-read_matchers.ensures.ok)
 
 count : (c : After-find_columns) → c.len-3.result ≡ length (list_of c.args.list.now)
-count c = omega (arith, c.len-3.ensures, c.in-Ok.texts.ok.0, ap length c.in-Ok.ensures, length-map c.in-Ok.texts.items (λ text. text.items))
+count c = omega (arith, ap length c.in-Ok.ensures, length-map c.in-Ok.texts.items (λ text. text.items))
 
 first : (c : After-find_columns) → c.len-first.result ≡ length c.self.inside.matchers.items
-first c = omega (arith, c.len-first.ensures, c.self.inside.matchers.ok.0)
+first c = omega arith
 
 abbrev matchers : (c : After-find_columns) → IsSpliced c.len-first.result 0 c.len-3.result c.self.inside.matchers.items c.append.new.self.items
 matchers c = added _ _ c.self.inside.matchers.items c.in-Ok-read_matchers.matchers.items _ (first c) (count c ∙ sym (new c).counted) c.in-Ok-append.ensures.items
@@ -52,7 +49,7 @@ taken c few =
 all_texts : (c : After-add_texts) → map (λ text. text.items) c.add_texts.new.texts.items ≡ map (λ text. text.items) c.self.inside.texts.items ++ list_of c.args.list.now
 all_texts c =
     let old = c.self.inside.texts.items in
-    ap (map (λ text. text.items)) (c.add_texts.ensures ∙ ap (λ l. l ++ c.in-Ok.texts.items) c.try_reserve.ensures.items) ∙ map-append (λ text. text.items) old c.in-Ok.texts.items ∙ ap (λ l. map (λ text. text.items) old ++ l) c.in-Ok.ensures
+    ap (map (λ text. text.items)) (cc (c.add_texts.ensures, c.try_reserve.ensures.items)) ∙ map-append (λ text. text.items) old c.in-Ok.texts.items ∙ ap (λ l. map (λ text. text.items) old ++ l) c.in-Ok.ensures
 
 pub returns-in-Err-read_matchers-clause-gives : goal.returns-in-Err-read_matchers-clause-gives
 returns-in-Err-read_matchers-clause-gives c =
@@ -83,22 +80,20 @@ invariant_of-self-2 c =
 
 pub returns-clause-gives : goal.returns-clause-gives
 returns-clause-gives c =
-    let s = c.self.inside in
     let made = rw c.deref.ensures.value at c.in-Ok-read_matchers.ensures.ok in
-    let readable = subst (All (IsReadable s.syntax s.options.ignore_case)) c.in-Ok.ensures made.readable in
-    rw (← c.self.view_is) (inr ((not_many (goal.at.returns-clause-gives c).Else-too_many), inl (readable, (λ i. Ok (record { syntax = s.syntax; options = s.options; patterns = all_texts (goal.at.returns-clause-gives c).After-add_texts i; files = c.find_columns.ensures.same i })))))
+    let readable = rw c.in-Ok.ensures at made.readable in
+    rw (← c.self.view_is) (inr ((not_many (goal.at.returns-clause-gives c).Else-too_many), inl (readable, (λ i. Ok (record { syntax = c.self.inside.syntax; options = c.self.inside.options; patterns = all_texts (goal.at.returns-clause-gives c).After-add_texts i; files = c.find_columns.ensures.same i })))))
 
 pub find_columns-requires-clause-whole : goal.find_columns-requires-clause-whole
 find_columns-requires-clause-whole c =
     let Whole : Bool → Type 0 = λ w. w ≡ c.self.inside.options.line_regexp in
     let made = rw c.deref.ensures.value at c.in-Ok-read_matchers.ensures.ok in
-    subst (All Whole) (sym (ap (map wants_whole) c.in-Ok-append.ensures.items ∙ map-append wants_whole c.self.inside.matchers.items c.in-Ok-read_matchers.matchers.items)) (All-append Whole (map wants_whole c.self.inside.matchers.items) _ c.self.invariant.matchers.wholes made.wholes)
+    rw (ap (map wants_whole) c.in-Ok-append.ensures.items ∙ map-append wants_whole c.self.inside.matchers.items c.in-Ok-read_matchers.matchers.items) (All-append Whole (map wants_whole c.self.inside.matchers.items) _ c.self.invariant.matchers.wholes made.wholes)
 
 pub find_columns-requires-clause-within : goal.find_columns-requires-clause-within
 find_columns-requires-clause-within c =
     let made = rw c.deref.ensures.value at c.in-Ok-read_matchers.ensures.ok in
-    let within : c.len-first.result + c.len-3.result ≤ length c.append.new.self.items = omega (arith, ap length c.in-Ok-append.ensures.items, length-append c.self.inside.matchers.items c.in-Ok-read_matchers.matchers.items, c.len-first.ensures, c.self.inside.matchers.ok.0, c.len-3.ensures, c.in-Ok.texts.ok.0, made.counted, length-map c.in-Ok.texts.items (λ text. text.items)) in
-    subst (λ (change : Change). change.first + change.come ≤ length c.append.new.self.items) (sym c.new-change.ensures) within
+    rw c.new-change.ensures (omega (arith, ap length c.in-Ok-append.ensures.items, length-append c.self.inside.matchers.items c.in-Ok-read_matchers.matchers.items, length-map c.in-Ok.texts.items (λ text. text.items)))
 
 pub returns-in-Err-clause-memory : goal.returns-in-Err-clause-memory
 returns-in-Err-clause-memory c =
@@ -121,30 +116,27 @@ returns-in-Err-find_columns-clause-memory c =
     rw (← c.self.view_is) (λ many. absurd (not_many (goal.at.returns-in-Err-find_columns-clause-memory c).Else-too_many many))
 
 pub invariant_of-self : goal.invariant_of-self
-invariant_of-self c = left_session c.self.inside _ refl c.try_reserve.ensures.items c.self.invariant none_asked refl refl
+invariant_of-self c = left_session _ _ refl c.try_reserve.ensures.items c.self.invariant none_asked refl refl
 
 pub invariant_of-self-in-Err-append : goal.invariant_of-self-in-Err-append
 invariant_of-self-in-Err-append c =
-    left_session c.self.inside _ refl c.try_reserve.ensures.items c.self.invariant (subst (AreSame c.self.inside.matchers.items) (sym c.in-Err-append.ensures.items) none_asked) refl refl
+    left_session _ _ refl c.try_reserve.ensures.items c.self.invariant (rw c.in-Err-append.ensures.items none_asked) refl refl
 
 pub returns-then-too_many-clause-gives : goal.returns-then-too_many-clause-gives
 returns-then-too_many-clause-gives c =
-    let s = c.self.inside in
-    let counted : length s.matchers.items ≡ length s.texts.items = c.self.invariant.matchers.counted ∙ length-map s.texts.items (λ text. text.items) in
-    let many : most_patterns < length (inputs_of s).patterns + length (list_of c.args.list.now) = omega (arith, c.if-too_many.ensures, c.len.ensures, s.matchers.ok.0, counted, length-map s.texts.items (λ text. text.items)) in
-    rw (← c.self.view_is) (inl (many, refl), refl)
+    let counted = c.self.invariant.matchers.counted ∙ length-map c.self.inside.texts.items (λ text. text.items) in
+    rw (← c.self.view_is) (inl (omega (arith, length-map c.self.inside.texts.items (λ text. text.items)), refl), refl)
 
 pub returns-in-Err-try_reserve-clause-gives : goal.returns-in-Err-try_reserve-clause-gives
-returns-in-Err-try_reserve-clause-gives c = ap (λ texts. with_patterns (map (λ text. text.items) texts) (inputs_of c.self.inside)) c.try_reserve.ensures.items ∙ (inputs_are c.self.view_is)
+returns-in-Err-try_reserve-clause-gives c = cc (c.try_reserve.ensures.items, (inputs_are c.self.view_is))
 
 pub returns-in-Err-append-clause-gives : goal.returns-in-Err-append-clause-gives
-returns-in-Err-append-clause-gives c = ap (λ texts. with_patterns (map (λ text. text.items) texts) (inputs_of c.self.inside)) c.try_reserve.ensures.items ∙ (inputs_are c.self.view_is)
+returns-in-Err-append-clause-gives c = cc (c.try_reserve.ensures.items, (inputs_are c.self.view_is))
 
 pub returns-in-Err-find_columns-clause-gives : goal.returns-in-Err-find_columns-clause-gives
 returns-in-Err-find_columns-clause-gives c =
-    let s = c.self.inside in
     let texts = ap (map (λ text. text.items)) c.try_reserve.ensures.items in
-    (λ i. record { syntax = s.syntax; options = s.options; patterns = texts i; files = c.find_columns.ensures.same i }) ∙ (inputs_are c.self.view_is)
+    (λ i. record { syntax = c.self.inside.syntax; options = c.self.inside.options; patterns = texts i; files = c.find_columns.ensures.same i }) ∙ (inputs_are c.self.view_is)
 
 pub returns-clause-marks : goal.returns-clause-marks
 returns-clause-marks c = rw (← c.self.view_is) c.lose_all.ensures

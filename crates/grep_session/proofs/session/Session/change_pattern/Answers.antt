@@ -1,17 +1,13 @@
-use Rattle.grep_session.proofs.Prelude.{◌≡◌, ℕ, ◌+◌, ◌<◌, ◌≤◌, Bool, true, false, List, Ok, Err, All-cons, All-nil, inl, inr, refl, map, map-set, set, slice_set, MatchBool, Narrows, Change, HasChanged, exchanged, IsSought, SearchesEach, Chosen, IfHolds, AreMatchers, KeepAtMost, IsMeant, IsReadable, Matcher, matched_expression, Expression, Matches, Matched, Text, Steps, length, sym, ap, subst, ◌∙◌, arith, [], ◌∷◌, get_or, get_or_default, length-map, RefusesFirst, EditGives, ChangePattern, TakesSteps, with_patterns, all_lines, IsSession, Inside, inputs_of}
+use Rattle.grep_session.proofs.Prelude.{◌≡◌, ℕ, ◌<◌, Bool, true, false, List, Ok, All-cons, All-nil, inl, inr, refl, map, map-set, slice_set, MatchBool, Narrows, HasChanged, exchanged, IsSought, SearchesEach, Chosen, IfHolds, AreMatchers, KeepAtMost, IsMeant, IsReadable, Matcher, matched_expression, Expression, Matches, Matched, Text, Steps, length, sym, ap, ◌∙◌, arith, [], ◌∷◌, get_or, get_or_default, length-map, ChangePattern, TakesSteps, with_patterns, all_lines, IsSession, Inside, inputs_of, Err, subst, RefusesFirst, EditGives}
+use Rattle.grep_session.proofs.session.Session.change_pattern.Goals as goal
 use Rattle.std.specs.Bool.{⊤}
 use Rattle.std.proofs.lemmas.List.{get_or-map, length-set, set-get_or}
-use Rattle.re_syntax.proofs.lemmas.Decisions.{Any-first}
-use Rattle.re_syntax.proofs.lemmas.SomeOfJoined.{Any-single}
+use Rattle.re_syntax.proofs.lemmas.{Decisions.Any-first, SomeOfJoined.Any-single}
 use Rattle.grep_core.proofs.lemmas.CostLaws.{same_length}
-use Rattle.grep_session.proofs.lemmas.EditLemmas.{left_session}
-use Rattle.grep_session.proofs.lemmas.NarrowingLemmas.{narrower_string}
-use Rattle.grep_session.proofs.lemmas.SessionLemmas.{inputs_are}
+use Rattle.grep_session.proofs.{lemmas.EditLemmas.left_session, lemmas.NarrowingLemmas.narrower_string, lemmas.SessionLemmas.inputs_are, session.Session.change_pattern.Goals.After-exchange-gone}
 use Rattle.grep_session.proofs.lemmas.SplicedLists.{IsSpliced, list_changed, mapped, replaced}
 use Rattle.grep_session.proofs.lemmas.SplicingLemmas.{are_matchers, gone_meant, no_more, refuses, restored, spliced_session}
 use Rattle.grep_session.proofs.lemmas.StepLemmas.{chosen_all, chosen_one, takes_none, takes_touched}
-use Rattle.grep_session.proofs.session.Session.change_pattern.Goals as goal
-use Rattle.grep_session.proofs.session.Session.change_pattern.Goals.{After-exchange-gone}
 
 -- the text of the old pattern, and whether another one narrows it
 abbrev was : Inside → ℕ → Text
@@ -33,7 +29,7 @@ record IsPut (s : Inside) (p : ℕ) (text : Text) (narrower : Bool) (matcher gon
 
 module _ {s : Inside} {p : ℕ} {text : Text} {narrower : Bool} {matcher gone : Matcher} {all : List Matcher} (i : IsPut s p text narrower matcher gone all) where
   has_matcher : p < length s.matchers.items
-  has_matcher = omega (arith, i.inside, i.old.matchers.counted)
+  has_matcher = omega arith
 
   abbrev patterns : IsSpliced p 1 1 (inputs_of s).patterns (slice_set (inputs_of s).patterns p text)
   patterns = replaced p (inputs_of s).patterns (was s p) i.inside (get_or_default (inputs_of s).patterns p [] _ i.inside) _ text refl
@@ -48,7 +44,7 @@ module _ {s : Inside} {p : ℕ} {text : Text} {narrower : Bool} {matcher gone : 
   was_meant = (gone_meant i.old matchers patterns i.new).0
 
   many : length all ≡ length s.matchers.items
-  many = ap length i.put ∙ length-set s.matchers.items p matcher
+  many = cc (i.put, length-set s.matchers.items p matcher)
 
   narrow : narrower ≡ true → (line : Text) → Matched (matched_expression matcher ∷ []) s.options line → Matched (matched_expression gone ∷ []) s.options line
   narrow on line some =
@@ -72,53 +68,50 @@ module _ {s : Inside} {p : ℕ} {text : Text} {narrower : Bool} {matcher gone : 
   -- they were, and those that it or the old one matches for parts
   taken : (begun ended : Steps) → SearchesEach (exchanged p 1 1 narrower) (matched_expression gone ∷ []) (matched_expression matcher ∷ []) (map matched_expression all) s.options (all_lines (inputs_of s)) begun ended → TakesSteps (ChangePattern p text) (inputs_of s) begun ended
   taken begun ended steps =
-      let inputs = inputs_of s in
-      takes_touched (ChangePattern p text) inputs (with_patterns (slice_set inputs.patterns p text) inputs) _ _ _ _ (all_lines inputs) begun ended (inl (i.inside, inl (i.new.readable, refl))) made.meant steps (λ paired parted c d.
-      (record { patterns = 1; paired = paired; lines = parted }, inr (i.other, (_, was_meant, _, i.new.meant.0, paired, paired_lines (all_lines inputs) paired c, parted, d, refl)), refl, refl))
+      takes_touched _ _ _ _ _ _ _ _ _ _ (inl (i.inside, inl (i.new.readable, refl))) made.meant steps (λ paired parted c d.
+      (record { patterns = 1; paired = paired; lines = parted }, inr (i.other, (_, was_meant, _, i.new.meant.0, paired, paired_lines _ _ c, parted, d, refl)), refl, refl))
 
 -- the text of the pattern at a place
 text_at : {V : Type 0} (items : V → Text) (texts : List V) (p : ℕ) (here : V) → p < length texts → here ≡ get_or texts p here → items here ≡ get_or (map items texts) p []
-text_at items texts p here h is = ap items is ∙ sym (get_or-map items texts p here [] h)
+text_at items texts p here h is = cc (get_or-map items texts p here [] h)
 
 -- what is known of the new matcher
 is_put : (c : After-exchange-gone) → IsPut c.self.inside c.args.p c.args.text.items c.narrows-narrower.result c.in-Ok.matcher c.exchange-gone.result c.exchange-gone.new.matchers.items
 is_put c =
-    let s = c.self.inside in
-    let p = c.args.p in
-    let texts = s.texts.items in
+    let texts = c.self.inside.texts.items in
     let narrower = c.narrows-narrower.result in
-    let here : p < length texts = omega arith in
-    let old : c.deref.result.now ≡ was s p = c.deref.ensures.value ∙ text_at (λ text. text.items) texts p c.index.result.now here c.index.ensures in
-    let old_again : c.deref-4.result.now ≡ was s p = c.deref-4.ensures.value ∙ text_at (λ text. text.items) texts p c.index-2.result.now here c.index-2.ensures in
+    let here : c.args.p < length texts = omega arith in
+    let old = c.deref.ensures.value ∙ text_at (λ text. text.items) texts c.args.p c.index.result.now here c.index.ensures in
+    let old_again = c.deref-4.ensures.value ∙ text_at (λ text. text.items) texts c.args.p c.index-2.result.now here c.index-2.ensures in
     record {
       old = c.self.invariant;
-      inside = omega (arith, here, length-map texts (λ text. text.items));
+      inside = omega (arith, length-map texts (λ text. text.items));
       other = λ same. c.if-is_text.ensures (c.deref-2.ensures.value ∙ same ∙ sym old);
-      narrows = subst (λ t. NarrowsIf s p t narrower) c.deref-5.ensures.value
-          (subst (λ o. MatchBool narrower (Narrows s.syntax s.options o c.deref-5.result.now) (Narrows s.syntax s.options o c.deref-5.result.now → ⊥)) old_again c.narrows-narrower.ensures);
-      new = subst (λ t. AreMatchers s.syntax s.options (t ∷ []) (c.in-Ok.matcher ∷ [])) c.deref-3.ensures.value c.in-Ok.ensures.ok;
+      narrows = rw c.deref-5.ensures.value at
+          (rw old_again at c.narrows-narrower.ensures);
+      new = rw c.deref-3.ensures.value at c.in-Ok.ensures.ok;
       few = c.in-Ok.ensures.rooms;
       at = c.exchange-gone.ensures.gone;
       put = c.exchange-gone.ensures.items;
     }
 
 pub returns-then-p-len-clause-steps : goal.returns-then-p-len-clause-steps
-returns-then-p-len-clause-steps c = takes_none (ChangePattern c.args.p c.args.text.items) _ _
+returns-then-p-len-clause-steps c = takes_none _ _ _
 
 pub returns-then-is_text-clause-steps : goal.returns-then-is_text-clause-steps
-returns-then-is_text-clause-steps c = takes_none (ChangePattern c.args.p c.args.text.items) _ _
+returns-then-is_text-clause-steps c = takes_none _ _ _
 
 pub returns-then-is_text-clause-gives : goal.returns-then-is_text-clause-gives
 returns-then-is_text-clause-gives c =
     let s = c.self.inside in
     let p = c.args.p in
     let here : p < length s.texts.items = omega arith in
-    let inside : p < length (inputs_of s).patterns = omega (arith, here, length-map s.texts.items (λ text. text.items)) in
-    let same : c.args.text.items ≡ was s p = sym c.deref-2.ensures.value ∙ c.if-is_text.ensures ∙ c.deref.ensures.value ∙ text_at (λ text. text.items) s.texts.items p c.index.result.now here c.index.ensures in
+    let inside : p < length (inputs_of s).patterns = omega (arith, length-map s.texts.items (λ text. text.items)) in
+    let same = sym c.deref-2.ensures.value ∙ c.if-is_text.ensures ∙ c.deref.ensures.value ∙ text_at (λ text. text.items) s.texts.items p c.index.result.now here c.index.ensures in
     let patterns = (inputs_of s).patterns in
-    let Readable : Text → Type 0 = IsReadable s.syntax s.options.ignore_case in
-    let one : Readable c.args.text.items = subst Readable (sym same) (c.self.invariant.matchers.readable p [] inside) in
-    rw (← c.self.view_is) (inl (inside, inl (All-cons Readable c.args.text.items [] one (All-nil Readable), ap (λ l. Ok (with_patterns l (inputs_of s))) (sym (ap (set patterns p) same ∙ set-get_or patterns p [])))))
+    let Readable = IsReadable s.syntax s.options.ignore_case in
+    let one : Readable c.args.text.items = rw same (c.self.invariant.matchers.readable p [] inside) in
+    rw (← c.self.view_is) (inl (inside, inl (All-cons Readable c.args.text.items [] one (All-nil Readable), ap (λ l. Ok (with_patterns l (inputs_of s))) (sym (cc (set-get_or patterns p []))))))
 
 pub returns-in-Err-clause-gives : goal.returns-in-Err-clause-gives
 returns-in-Err-clause-gives c =
@@ -131,10 +124,10 @@ returns-in-Err-clause-gives c =
     subst (λ old. EditGives {T = Unit {0}} (ChangePattern p text) old old (Err c.in-Err.fault)) (inputs_are c.self.view_is) (refuses (Unit {0}) (ChangePattern p text) (inputs_of s) _ (text ∷ []) c.in-Err.fault (λ o read. inl (inside, read)) refused)
 
 pub returns-in-Err-clause-steps : goal.returns-in-Err-clause-steps
-returns-in-Err-clause-steps c = takes_none (ChangePattern c.args.p c.args.text.items) _ _
+returns-in-Err-clause-steps c = takes_none _ _ _
 
 pub exchange-gone-requires : goal.exchange-gone-requires
-exchange-gone-requires c = omega (arith, length-map c.self.inside.texts.items (λ text. text.items), c.self.invariant.matchers.counted)
+exchange-gone-requires c = omega (arith, length-map c.self.inside.texts.items (λ text. text.items))
 
 pub find_columns-requires-clause-whole : goal.find_columns-requires-clause-whole
 find_columns-requires-clause-whole c = (made (is_put (goal.at.find_columns-requires-clause-whole c).After-exchange-gone)).wholes
@@ -142,14 +135,13 @@ find_columns-requires-clause-whole c = (made (is_put (goal.at.find_columns-requi
 pub find_columns-requires-clause-within : goal.find_columns-requires-clause-within
 find_columns-requires-clause-within c =
     let i = is_put (goal.at.find_columns-requires-clause-within c).After-exchange-gone in
-    let within : c.args.p + 1 ≤ length c.exchange-gone.new.matchers.items = omega (arith, many i, has_matcher i) in
-    subst (λ (change : Change). change.first + change.come ≤ length c.exchange-gone.new.matchers.items) (sym c.new-change.ensures) within
+    rw c.new-change.ensures (omega (arith, many i, has_matcher i))
 
 pub exchange-requires : goal.exchange-requires
 exchange-requires c =
     let i = is_put (goal.at.exchange-requires c).After-exchange-gone in
-    let now : length c.find_columns.new.matchers.items ≡ length c.exchange-gone.new.matchers.items = same_length matched_expression _ _ c.find_columns.ensures.same_matchers.same_expressions in
-    omega (arith, now, many i, has_matcher i)
+    let now = same_length matched_expression _ _ c.find_columns.ensures.same_matchers.same_expressions in
+    omega (arith, many i, has_matcher i)
 
 pub invariant_of-self : goal.invariant_of-self
 invariant_of-self c =

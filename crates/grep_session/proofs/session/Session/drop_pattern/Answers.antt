@@ -1,13 +1,11 @@
-use Rattle.grep_session.proofs.Prelude.{◌≡◌, ℕ, ◌≤◌, ◌<◌, List, [], ◌∷◌, Ok, length, map, remove, get_or, get_or_default, inl, refl, sym, subst, arith, false, false≢true, All, All-nil, length-map, Matcher, matched_expression, Steps, AreMatchers, AreSame, HasChanged, exchanged, SearchesEach, IsFileKept, kept_file, lost, IsSession, Inside, inputs_of, with_patterns, DropPattern, TakesSteps, parts_alone, all_lines}
+use Rattle.grep_session.proofs.Prelude.{◌≡◌, ℕ, ◌≤◌, ◌<◌, List, [], ◌∷◌, Ok, length, map, remove, get_or, get_or_default, inl, refl, sym, arith, false, false≢true, All, All-nil, length-map, Matcher, matched_expression, Steps, AreMatchers, AreSame, HasChanged, exchanged, SearchesEach, IsFileKept, kept_file, lost, IsSession, Inside, inputs_of, with_patterns, DropPattern, TakesSteps, parts_alone, all_lines, subst}
+use Rattle.grep_session.proofs.session.Session.drop_pattern.Goals as goal
 use Rattle.re_search.proofs.lemmas.KeptMatchers.{none_asked}
 use Rattle.grep_core.proofs.lemmas.CostLaws.{same_length}
-use Rattle.grep_session.proofs.lemmas.EditLemmas.{left_session}
-use Rattle.grep_session.proofs.lemmas.SessionLemmas.{map-remove}
+use Rattle.grep_session.proofs.{lemmas.EditLemmas.left_session, lemmas.SessionLemmas.map-remove, session.Session.drop_pattern.Goals.Else-p-len}
 use Rattle.grep_session.proofs.lemmas.SplicedLists.{IsSpliced, inserted, list_changed, mapped, removed}
 use Rattle.grep_session.proofs.lemmas.SplicingLemmas.{are_matchers, gone_meant, no_matchers, no_more, restored, spliced_session}
 use Rattle.grep_session.proofs.lemmas.StepLemmas.{chosen_one, pairs_cost-none, takes_none, takes_touched}
-use Rattle.grep_session.proofs.session.Session.drop_pattern.Goals as goal
-use Rattle.grep_session.proofs.session.Session.drop_pattern.Goals.{Else-p-len}
 
 -- there is such a pattern
 inside : (c : Else-p-len) → c.args.p < length (inputs_of c.self.inside).patterns
@@ -15,7 +13,7 @@ inside c = omega (arith, length-map c.self.inside.texts.items (λ text. text.ite
 
 module _ (s : Inside) (p : ℕ) (old : IsSession s) (h : p < length (inputs_of s).patterns) where
   has_matcher : p < length s.matchers.items
-  has_matcher = omega (arith, h, old.matchers.counted)
+  has_matcher = omega arith
 
   -- the patterns without it
   abbrev patterns : IsSpliced p 1 0 (inputs_of s).patterns (remove (inputs_of s).patterns p)
@@ -45,13 +43,13 @@ module _ (s : Inside) (p : ℕ) (old : IsSession s) (h : p < length (inputs_of s
         (parts_alone parted, (matched_expression gone, (gone_meant old matchers patterns (no_matchers s.syntax s.options)).0, parted, chosen_one (matched_expression gone) s.options (all_lines inputs) parted d, refl), refl, sym (pairs_cost-none paired)))
 
 pub returns-then-p-len-clause-steps : goal.returns-then-p-len-clause-steps
-returns-then-p-len-clause-steps c = takes_none (DropPattern c.args.p) _ _
+returns-then-p-len-clause-steps c = takes_none _ _ _
 
 pub remove-requires : goal.remove-requires
-remove-requires c = let s = c.self.inside in omega (arith, c.self.invariant.matchers.counted, length-map s.texts.items (λ text. text.items), s.matchers.ok.0, s.texts.ok.0)
+remove-requires c = let s = c.self.inside in omega (arith, length-map s.texts.items (λ text. text.items))
 
 pub remove-gone-requires : goal.remove-gone-requires
-remove-gone-requires c = let s = c.self.inside in omega (arith, c.self.invariant.matchers.counted, length-map s.texts.items (λ text. text.items), s.matchers.ok.0, s.texts.ok.0)
+remove-gone-requires c = let s = c.self.inside in omega (arith, length-map s.texts.items (λ text. text.items))
 
 pub invariant_of-self : goal.invariant_of-self
 invariant_of-self c =
@@ -71,7 +69,7 @@ returns-then-not-self-clause-gives c =
     rw (← c.self.view_is) (inl (inside (goal.at.returns-then-not-self-clause-gives c).Else-p-len, (λ i. Ok (record { syntax = s.syntax; options = s.options; patterns = texts i; files = c.drop_column.ensures.same i }))))
 
 pub returns-then-not-self-clause-steps : goal.returns-then-not-self-clause-steps
-returns-then-not-self-clause-steps c = takes_none (DropPattern c.args.p) _ _
+returns-then-not-self-clause-steps c = takes_none _ _ _
 
 pub returns-then-not-self-clause-marks : goal.returns-then-not-self-clause-marks
 returns-then-not-self-clause-marks c = rw (← c.self.view_is) c.lose_all.ensures
@@ -81,14 +79,11 @@ find_columns-requires-clause-whole c = (all c.self.inside c.args.p c.self.invari
 
 pub put_back-requires : goal.put_back-requires
 put_back-requires c =
-    let s = c.self.inside in
-    let left = c.remove-gone.new.self in
-    let now = c.find_columns.new.matchers in
-    let there = has_matcher s c.args.p c.self.invariant (inside (goal.at.put_back-requires c).Else-p-len) in
-    let as_many : length now.items ≡ length left.items = same_length matched_expression _ _ c.find_columns.ensures.same_matchers.same_expressions in
+    let there = has_matcher c.self.inside c.args.p c.self.invariant (inside (goal.at.put_back-requires c).Else-p-len) in
+    let as_many = same_length matched_expression _ _ c.find_columns.ensures.same_matchers.same_expressions in
     record {
-      within = omega (arith, there, as_many, c.remove-gone.ensures.len, left.ok.0, s.matchers.ok.0);
-      room = omega (arith, as_many, c.find_columns.ensures.room, c.remove-gone.ensures.capacity, c.remove-gone.ensures.len, left.ok.0, now.ok.0, s.matchers.ok.1);
+      within = omega arith;
+      room = omega arith;
     }
 
 pub invariant_of-self-in-Err : goal.invariant_of-self-in-Err
@@ -103,19 +98,15 @@ invariant_of-self-in-Err c =
 
 pub returns-in-Err-clause-steps : goal.returns-in-Err-clause-steps
 returns-in-Err-clause-steps c =
-    let s = c.self.inside in
-    let p = c.args.p in
     let within = inside (goal.at.returns-in-Err-clause-steps c).Else-p-len in
     let searched = rw c.new-change.ensures at c.find_columns.ensures.steps in
-    rw (← c.self.view_is) (taken s p c.self.invariant within _ _ c.remove-gone.ensures.value c.remove-gone.ensures.items _ _ (searched (changed s p c.self.invariant within _ _ c.remove-gone.ensures.value c.remove-gone.ensures.items) c.self.invariant.kept))
+    rw (← c.self.view_is) (taken c.self.inside c.args.p c.self.invariant within _ _ c.remove-gone.ensures.value c.remove-gone.ensures.items _ _ (searched (changed c.self.inside c.args.p c.self.invariant within _ _ c.remove-gone.ensures.value c.remove-gone.ensures.items) c.self.invariant.kept))
 
 pub returns-clause-steps : goal.returns-clause-steps
 returns-clause-steps c =
-    let s = c.self.inside in
-    let p = c.args.p in
     let within = inside (goal.at.returns-clause-steps c).Else-p-len in
     let searched = rw c.new-change.ensures at c.find_columns.ensures.steps in
-    rw (← c.self.view_is) (taken s p c.self.invariant within _ _ c.remove-gone.ensures.value c.remove-gone.ensures.items _ _ (searched (changed s p c.self.invariant within _ _ c.remove-gone.ensures.value c.remove-gone.ensures.items) c.self.invariant.kept))
+    rw (← c.self.view_is) (taken c.self.inside c.args.p c.self.invariant within _ _ c.remove-gone.ensures.value c.remove-gone.ensures.items _ _ (searched (changed c.self.inside c.args.p c.self.invariant within _ _ c.remove-gone.ensures.value c.remove-gone.ensures.items) c.self.invariant.kept))
 
 pub invariant_of-self-2 : goal.invariant_of-self-2
 invariant_of-self-2 c =

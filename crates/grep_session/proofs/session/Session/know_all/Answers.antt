@@ -1,8 +1,7 @@
-use Rattle.grep_session.proofs.Prelude.{◌∙◌, refl, map, sym, ap, subst, List, Marked, AreFit, kept_file, watched_of}
-use Rattle.grep_session.proofs.lemmas.EditLemmas.{asked_session}
-use Rattle.grep_session.proofs.lemmas.FitLemmas.{known_fit, known_marks_are}
-use Rattle.re_search.proofs.lemmas.KeptMatchers.{none_asked}
+use Rattle.grep_session.proofs.Prelude.{◌∙◌, refl, map, kept_file, sym, subst, AreFit}
 use Rattle.grep_session.proofs.session.Session.know_all.Goals as goal
+use Rattle.grep_session.proofs.lemmas.{EditLemmas.asked_session, FitLemmas.known_fit, FitLemmas.known_marks_are}
+use Rattle.re_search.proofs.lemmas.KeptMatchers.{none_asked}
 
 pub invariant_of-self : goal.invariant_of-self
 invariant_of-self c =
@@ -13,7 +12,6 @@ invariant_of-self c =
 
 pub returns : goal.returns
 returns c =
-    let s = c.self.inside in
-    let files = map kept_file s.files.items in
-    let known = c.know_all.ensures ∙ known_marks_are files s.marks.items c.self.invariant.fit in
-    rw (← c.self.view_is) (ap (λ (marks : List Marked). record (watched_of s) { marks = marks }) known)
+    let files = map kept_file c.self.inside.files.items in
+    let known = c.know_all.ensures ∙ known_marks_are files c.self.inside.marks.items c.self.invariant.fit in
+    rw (← c.self.view_is) (rw known)

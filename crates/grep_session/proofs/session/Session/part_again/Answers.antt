@@ -1,22 +1,17 @@
-use Rattle.grep_session.proofs.Prelude.{◌≡◌, [], refl, Ok, map, inl, sym, ap, subst, ◌∙◌, matched_expression, AreMatchers, Inputs, Edit, Applies, Touches, TakesSteps, parts_alone, read_as, inputs_of, all_lines}
-use Rattle.re_search.specs.Working.Matchers.{AreAlike}
-use Rattle.grep_session.proofs.lemmas.EditLemmas.{left_session, searched_session}
-use Rattle.grep_session.proofs.lemmas.AllPatternsRead.{AreMatchers-options}
-use Rattle.grep_session.proofs.lemmas.ChangeLemmas.{parts_anew}
-use Rattle.grep_session.proofs.lemmas.StepLemmas.{takes_parts}
-use Rattle.grep_session.proofs.lemmas.SessionLemmas.{inputs_are}
+use Rattle.grep_session.proofs.Prelude.{◌≡◌, [], refl, Ok, map, inl, ap, ◌∙◌, matched_expression, AreMatchers, Edit, Applies, Touches, TakesSteps, parts_alone, read_as, inputs_of, all_lines}
 use Rattle.grep_session.proofs.session.Session.part_again.Goals as goal
+use Rattle.grep_session.proofs.lemmas.{EditLemmas.left_session, EditLemmas.searched_session, AllPatternsRead.AreMatchers-options, ChangeLemmas.parts_anew, StepLemmas.takes_parts, SessionLemmas.inputs_are}
 use Rattle.grep_session.proofs.session.Session.part_again.Goals.{After-find_columns}
 
 -- the lines have to be whole as before
 same_whole : (c : After-find_columns) → c.args.options.line_regexp ≡ c.self.inside.options.line_regexp
-same_whole c = c.requires.same_whole ∙ sym (ap (λ (i : Inputs). i.options.line_regexp) (inputs_are c.self.view_is))
+same_whole c = c.requires.same_whole ∙ rw (← inputs_are c.self.view_is)
 
 -- the matchers serve under the new options too
 made : (c : After-find_columns) → AreMatchers c.self.inside.syntax c.args.options (inputs_of c.self.inside).patterns c.self.inside.matchers.items
 made c =
     let s = c.self.inside in
-    AreMatchers-options s.syntax s.options c.args.options _ s.matchers.items (same_whole c) (c.requires.same_case ∙ sym (ap (λ (i : Inputs). i.options.ignore_case) (inputs_are c.self.view_is))) c.self.invariant.matchers
+    AreMatchers-options s.syntax s.options c.args.options s.matchers.items (same_whole c) (c.requires.same_case ∙ rw (← inputs_are c.self.view_is)) c.self.invariant.matchers
 
 steps : (c : After-find_columns) → let old = inputs_of c.self.inside in (edit : Edit) → Applies edit old (Ok (read_as old.syntax c.args.options old)) → Touches edit old (parts_alone (all_lines old)) → TakesSteps edit old c.args.meter.now c.find_columns.new.meter
 steps c = λ edit applies touches.
@@ -28,9 +23,8 @@ steps c = λ edit applies touches.
 
 pub find_columns-requires-clause-whole : goal.find_columns-requires-clause-whole
 find_columns-requires-clause-whole c =
-    let s = c.self.inside in
-    let whole : c.args.options.line_regexp ≡ s.options.line_regexp = c.requires.same_whole ∙ sym (ap (λ (i : Inputs). i.options.line_regexp) (inputs_are c.self.view_is)) in
-    subst (λ w. AreAlike w s.matchers.items) (sym whole) c.self.invariant.matchers.wholes
+    let whole : c.args.options.line_regexp ≡ c.self.inside.options.line_regexp = c.requires.same_whole ∙ rw (← inputs_are c.self.view_is) in
+    rw whole c.self.invariant.matchers.wholes
 
 pub returns-in-Err-clause-steps : goal.returns-in-Err-clause-steps
 returns-in-Err-clause-steps c = rw (← c.self.view_is) (steps (goal.at.returns-in-Err-clause-steps c).After-find_columns)
@@ -46,8 +40,7 @@ invariant_of-self-2 c =
 
 pub returns-clause-gives : goal.returns-clause-gives
 returns-clause-gives c =
-    let s = c.self.inside in
-    rw (← c.self.view_is) (inl ((made (goal.at.returns-clause-gives c).After-find_columns).readable, ap (λ fs. Ok (record { syntax = s.syntax; options = c.args.options; patterns = map (λ text. text.items) s.texts.items; files = fs })) c.find_columns.ensures.same))
+    rw (← c.self.view_is) (inl ((made (goal.at.returns-clause-gives c).After-find_columns).readable, ap (λ fs. Ok (record { syntax = c.self.inside.syntax; options = c.args.options; patterns = map (λ text. text.items) c.self.inside.texts.items; files = fs })) c.find_columns.ensures.same))
 
 pub invariant_of-self : goal.invariant_of-self
 invariant_of-self c = left_session c.self.inside _ refl refl c.self.invariant c.find_columns.ensures.same_matchers c.in-Err.ensures.err refl

@@ -1,16 +1,15 @@
-use Rattle.grep_session.proofs.Prelude.{◌≡◌, IsTrue, map, sym, ap, subst, ◌∙◌, matched_expression, Inputs}
-use Rattle.grep_session.proofs.lemmas.AllPatternsRead.{kept_files, AreMatchers-options}
-use Rattle.grep_session.proofs.lemmas.SessionLemmas.{inputs_are}
+use Rattle.grep_session.proofs.Prelude.{◌≡◌, map, ◌∙◌, matched_expression}
 use Rattle.grep_session.proofs.session.Session.put_options.Goals as goal
+use Rattle.grep_session.proofs.lemmas.{AllPatternsRead.kept_files, AllPatternsRead.AreMatchers-options, SessionLemmas.inputs_are}
 
 pub invariant_of-self : goal.invariant_of-self
 invariant_of-self c =
     let s = c.self.inside in
-    let whole : c.args.options.line_regexp ≡ s.options.line_regexp = c.requires.same_whole ∙ sym (ap (λ (i : Inputs). i.options.line_regexp) (inputs_are c.self.view_is)) in
-    let case : c.args.options.ignore_case ≡ s.options.ignore_case = c.requires.same_case ∙ sym (ap (λ (i : Inputs). i.options.ignore_case) (inputs_are c.self.view_is)) in
-    let less = subst (λ (i : Inputs). IsTrue c.args.options.only_matching → IsTrue i.options.only_matching) (sym (inputs_are c.self.view_is)) c.requires.no_parts in
+    let whole : c.args.options.line_regexp ≡ s.options.line_regexp = c.requires.same_whole ∙ rw (← inputs_are c.self.view_is) in
+    let case : c.args.options.ignore_case ≡ s.options.ignore_case = c.requires.same_case ∙ rw (← inputs_are c.self.view_is) in
+    let less = rw (← inputs_are c.self.view_is) at c.requires.no_parts in
     record {
-      matchers = AreMatchers-options s.syntax s.options c.args.options _ s.matchers.items whole case c.self.invariant.matchers;
+      matchers = AreMatchers-options s.syntax s.options c.args.options s.matchers.items whole case c.self.invariant.matchers;
       few = c.self.invariant.few;
       kept = kept_files (map matched_expression s.matchers.items) s.options c.args.options whole less s.files.items c.self.invariant.kept;
       rooms = c.self.invariant.rooms;

@@ -1,19 +1,14 @@
-use Rattle.grep_session.proofs.Prelude.{◌≡◌, ◌≤◌, Ok, Err, refl, length, length-map, map, matched_expression, anew, arith, inl, sym, ap, subst, ◌∙◌, Edit, Applies, Touches, TakesSteps, AreReadable, searched_by, ReadsAgain, read_as, most_patterns, inputs_of, all_lines}
-use Rattle.grep_session.proofs.lemmas.EditLemmas.{left_session, searched_session}
-use Rattle.grep_session.proofs.lemmas.AllPatternsRead.{refuses_again}
-use Rattle.grep_session.proofs.lemmas.ChangeLemmas.{all_anew}
-use Rattle.grep_session.proofs.lemmas.StepLemmas.{takes_lines, takes_none}
-use Rattle.re_search.proofs.lemmas.KeptMatchers.{none_asked}
-use Rattle.grep_session.proofs.lemmas.SessionLemmas.{inputs_are}
+use Rattle.grep_session.proofs.Prelude.{◌≡◌, Ok, refl, length, length-map, map, matched_expression, anew, arith, inl, sym, ap, ◌∙◌, Edit, Applies, Touches, TakesSteps, AreReadable, searched_by, read_as, inputs_of, all_lines, ◌≤◌, Err, subst, ReadsAgain, most_patterns}
 use Rattle.grep_session.proofs.session.Session.read_again.Goals as goal
+use Rattle.grep_session.proofs.lemmas.{EditLemmas.left_session, EditLemmas.searched_session, AllPatternsRead.refuses_again, ChangeLemmas.all_anew, StepLemmas.takes_lines, StepLemmas.takes_none, SessionLemmas.inputs_are}
+use Rattle.re_search.proofs.lemmas.KeptMatchers.{none_asked}
 use Rattle.grep_session.proofs.session.Session.read_again.Goals.{After-find_columns}
 
 -- all patterns went, and others came
 again : (c : After-find_columns) → c.anew-change.result ≡ anew (length (map matched_expression c.self.inside.matchers.items)) (length (map matched_expression c.in-Ok.matchers.items))
 again c =
-    let s = c.self.inside in
-    let old : c.len.result ≡ length (map matched_expression s.matchers.items) = omega (arith, c.len.ensures, s.matchers.ok.0, length-map s.matchers.items matched_expression) in
-    let new : c.len-2.result ≡ length (map matched_expression c.in-Ok.matchers.items) = omega (arith, c.len-2.ensures, c.in-Ok.matchers.ok.0, length-map c.in-Ok.matchers.items matched_expression) in
+    let old : c.len.result ≡ length (map matched_expression c.self.inside.matchers.items) = omega (arith, length-map c.self.inside.matchers.items matched_expression) in
+    let new : c.len-2.result ≡ length (map matched_expression c.in-Ok.matchers.items) = omega (arith, length-map c.in-Ok.matchers.items matched_expression) in
     c.anew-change.ensures ∙ (λ i. anew (old i) (new i))
 
 steps : (c : After-find_columns) → let old = inputs_of c.self.inside in (edit : Edit) → (AreReadable c.args.syntax c.args.options old → Applies edit old (Ok (read_as c.args.syntax c.args.options old))) → Touches edit old (searched_by (length old.patterns) (all_lines old)) → TakesSteps edit old c.args.meter.now c.find_columns.new.meter
@@ -43,15 +38,14 @@ invariant_of-self-2 c =
 
 pub returns-clause-gives : goal.returns-clause-gives
 returns-clause-gives c =
-    let s = c.self.inside in
     let made = rw c.deref.ensures.value at c.in-Ok.ensures.ok in
-    rw (← c.self.view_is) (inl (made.readable, ap (λ fs. Ok (record { syntax = c.args.syntax; options = c.args.options; patterns = map (λ text. text.items) s.texts.items; files = fs })) c.find_columns.ensures.same))
+    rw (← c.self.view_is) (inl (made.readable, ap (λ fs. Ok (record { syntax = c.args.syntax; options = c.args.options; patterns = map (λ text. text.items) c.self.inside.texts.items; files = fs })) c.find_columns.ensures.same))
 
 pub invariant_of-self : goal.invariant_of-self
 invariant_of-self c = left_session c.self.inside _ refl refl c.self.invariant none_asked c.in-Err-find_columns.ensures.err refl
 
 pub returns-in-Err-clause-steps : goal.returns-in-Err-clause-steps
-returns-in-Err-clause-steps c = λ edit applies touches. takes_none edit _ _
+returns-in-Err-clause-steps c = λ edit applies touches. takes_none _ _ _
 
 pub returns-clause-marks : goal.returns-clause-marks
 returns-clause-marks c = rw (← c.self.view_is) c.lose_all.ensures

@@ -1,8 +1,6 @@
-use Rattle.grep_session.proofs.Prelude.{map, subst, matched_expression, ReportsInputs, inputs_of}
-use Rattle.grep_session.proofs.lemmas.HeadlineLaws.{reports_inputs}
-use Rattle.grep_session.proofs.lemmas.KeptLaws.{files_fit}
-use Rattle.grep_session.proofs.lemmas.SessionLemmas.{inputs_are}
+use Rattle.grep_session.proofs.Prelude.{map, matched_expression, inputs_of}
 use Rattle.grep_session.proofs.session.Session.report.Goals as goal
+use Rattle.grep_session.proofs.lemmas.{HeadlineLaws.reports_inputs, KeptLaws.files_fit, SessionLemmas.inputs_are}
 
 pub write_report-requires : goal.write_report-requires
 write_report-requires g c =
@@ -11,8 +9,7 @@ write_report-requires g c =
 
 pub returns : goal.returns
 returns g c =
-    let s = c.self.inside in
-    let es = map matched_expression s.matchers.items in
+    let es = map matched_expression c.self.inside.matchers.items in
     let reports = rw c.deref.ensures.value at c.write_report.ensures in
-    subst (λ inputs. ReportsInputs g.W.CountedWrite.contents g.W.CountedWrite.failures inputs c.args.margin.now c.args.out.now c.write_report.new.out c.write_report.result) (inputs_are c.self.view_is)
-    (reports_inputs (inputs_of s) es c.self.invariant.matchers.meant g.W.CountedWrite.contents g.W.CountedWrite.failures c.args.margin.now c.args.out.now c.write_report.new.out c.write_report.result (reports es c.self.invariant.kept))
+    rw (inputs_are c.self.view_is) at
+    (reports_inputs (inputs_of c.self.inside) es c.self.invariant.matchers.meant g.W.CountedWrite.contents g.W.CountedWrite.failures c.args.margin.now c.args.out.now c.write_report.new.out c.write_report.result (reports es c.self.invariant.kept))

@@ -1,11 +1,7 @@
-use Rattle.grep_session.proofs.Prelude.{◌≡◌, Ok, All, map, length, inl, inr, refl, sym, ap, subst, ◌∙◌, false≢true, Watched, true, if◌then◌else◌, changes_hits, Bool, Flag, Options, lost, kept_file, booleans_Decides, IsReadable, Inputs, ReadsAgain, AreReadable, read_as, Edit, SetFlag, Applies, option_of, with_option, inputs_of, TakesSteps, Touches, searched_by, parts_alone, all_lines, touched_by_flag}
-use Rattle.grep_session.proofs.lemmas.AllPatternsRead.{sets_flag, applies_same, applies_flag}
-use Rattle.grep_session.proofs.lemmas.StepLemmas.{takes_none}
-use Rattle.grep_session.proofs.lemmas.SessionLemmas.{inputs_are}
-use Rattle.grep_session.proofs.lemmas.FitLemmas.{fit_lose, given_flag}
-use Rattle.grep_session.proofs.lemmas.EditLemmas.{asked_session}
-use Rattle.re_search.proofs.lemmas.KeptMatchers.{none_asked}
+use Rattle.grep_session.proofs.Prelude.{◌≡◌, map, inl, inr, refl, sym, ap, subst, ◌∙◌, false≢true, Watched, true, if◌then◌else◌, Bool, Flag, Options, lost, kept_file, booleans_Decides, Inputs, read_as, SetFlag, option_of, with_option, inputs_of, parts_alone, all_lines, touched_by_flag, Ok, All, length, changes_hits, IsReadable, ReadsAgain, AreReadable, Edit, Applies, TakesSteps, Touches, searched_by}
 use Rattle.grep_session.proofs.session.Session.set_flag.Goals as goal
+use Rattle.grep_session.proofs.lemmas.{AllPatternsRead.sets_flag, AllPatternsRead.applies_same, AllPatternsRead.applies_flag, StepLemmas.takes_none, SessionLemmas.inputs_are, FitLemmas.fit_lose, FitLemmas.given_flag, EditLemmas.asked_session}
+use Rattle.re_search.proofs.lemmas.KeptMatchers.{none_asked}
 use Rattle.grep_session.proofs.session.Session.set_flag.Goals.{Else-get-on}
 
 -- the value is another
@@ -58,7 +54,7 @@ returns-in-Output-clause-gives c =
     subst (λ n. Applies (SetFlag c.args.flag c.args.on) old (Ok n)) (sym c.put_options-in-Output.ensures.inputs) applies
 
 pub returns-then-get-on-clause-steps : goal.returns-then-get-on-clause-steps
-returns-then-get-on-clause-steps c = takes_none (SetFlag c.args.flag c.args.on) _ _
+returns-then-get-on-clause-steps c = takes_none _ _ _
 
 pub returns-in-Hits-clause-gives : goal.returns-in-Hits-clause-gives
 returns-in-Hits-clause-gives c =

@@ -1,9 +1,8 @@
-use Rattle.grep_session.proofs.Prelude.{◌≡◌, ◌+◌, Ok, IfSome, length, length-map, nil_from_length, map, refl, sym, subst, ◌∙◌, ap, get_or, set, All, arith, matched_expression, KeptFile, Splice, Applies, HasPlace, TakesSteps, splice, spliced, file_at, with_files, IsKept, IsFileKept, kept_file, kept_lines, all_of, line_text, inputs_of, watched_of}
-use Rattle.grep_session.proofs.lemmas.EditLemmas.{asked_session, left_session, splice_steps, applies_splice, in_kept, kept_put, files_same, files_spliced, files_kept, needs_for_lines}
-use Rattle.grep_session.proofs.lemmas.StepLemmas.{takes_none}
-use Rattle.grep_session.proofs.lemmas.SessionLemmas.{inputs_are}
-use Rattle.grep_session.proofs.lemmas.FitLemmas.{as_many, fit_as, fit_spliced, given_splice, lines_spliced, mark_within, mark_rest, mark_spliced}
+use Rattle.grep_session.proofs.Prelude.{◌≡◌, ◌+◌, length, length-map, nil_from_length, map, refl, sym, ◌∙◌, ap, get_or, set, arith, matched_expression, KeptFile, Splice, HasPlace, TakesSteps, splice, spliced, file_at, with_files, kept_file, kept_lines, all_of, line_text, inputs_of, watched_of, IfSome, subst, All, IsKept, IsFileKept}
 use Rattle.grep_session.proofs.session.Session.splice.Goals as goal
+use Rattle.grep_session.proofs.lemmas.{StepLemmas.takes_none, SessionLemmas.inputs_are}
+use Rattle.grep_session.proofs.lemmas.EditLemmas.{asked_session, left_session, splice_steps, applies_splice, in_kept, kept_put, files_same, files_spliced, files_kept, needs_for_lines}
+use Rattle.grep_session.proofs.lemmas.FitLemmas.{as_many, fit_as, fit_spliced, given_splice, lines_spliced, mark_within, mark_rest, mark_spliced}
 use Rattle.grep_session.proofs.session.Session.splice.Goals.{After-search_new, After-line_count-many}
 
 there : (c : After-search_new) → HasPlace (inputs_of c.self.inside).files c.args.k c.args.start c.args.count
@@ -23,7 +22,7 @@ made c =
     (all, c.line_count-many.ensures ∙ lines_spliced _ old c.args.k c.args.start c.args.count (map line_text kept) c.index.result.now place.in_files all c.index.ensures)
 
 pub returns-in-Err-clause-steps : goal.returns-in-Err-clause-steps
-returns-in-Err-clause-steps c = takes_none (Splice c.args.k c.args.start c.args.count c.args.lines) _ _
+returns-in-Err-clause-steps c = takes_none _ _ _
 
 pub returns-in-Err-search_new-clause-steps : goal.returns-in-Err-search_new-clause-steps
 returns-in-Err-search_new-clause-steps c = rw (← c.self.view_is) (takes (goal.at.returns-in-Err-search_new-clause-steps c).After-search_new)
@@ -61,9 +60,8 @@ invariant_of-self-2 c =
 
 pub touch-requires-clause-inside : goal.touch-requires-clause-inside
 touch-requires-clause-inside c =
-    let s = c.self.inside in
     let place = there (goal.at.touch-requires-clause-inside c).After-search_new in
-    omega (arith, place.in_files, as_many (inputs_of s).files s.marks.items c.self.invariant.fit)
+    omega (arith, as_many (inputs_of c.self.inside).files c.self.inside.marks.items c.self.invariant.fit)
 
 pub touch-requires-clause-within : goal.touch-requires-clause-within
 touch-requires-clause-within c =
@@ -87,20 +85,19 @@ pub returns-clause-gives : goal.returns-clause-gives
 returns-clause-gives c =
     let old = inputs_of c.self.inside in
     let now = (made (goal.at.returns-clause-gives c).After-line_count-many).0 ∙ ap (λ ls. spliced old.files c.args.k c.args.start c.args.count ls) c.in-Ok-search_new.ensures.texts in
-    rw (← c.self.view_is) (subst (λ fs. Applies (Splice c.args.k c.args.start c.args.count c.args.lines) old (Ok (with_files fs old))) (sym now) (applies_splice old _ _ _ c.args.lines (there (goal.at.returns-clause-gives c).After-search_new) c.search_new.ensures.free))
+    rw (← c.self.view_is) (rw now (applies_splice old _ _ _ c.args.lines (there (goal.at.returns-clause-gives c).After-search_new) c.search_new.ensures.free))
 
 pub returns-in-Err-search_new-clause-memory : goal.returns-in-Err-search_new-clause-memory
 returns-in-Err-search_new-clause-memory c =
-    rw (← c.self.view_is) (λ need. absurd (needs_for_lines (inputs_of c.self.inside) _ _ _ _ (there (goal.at.returns-in-Err-search_new-clause-memory c).After-search_new) (λ empty. c.in-Err-search_new.ensures.memory empty) need))
+    rw (← c.self.view_is) (λ need. absurd (needs_for_lines (inputs_of c.self.inside) (there (goal.at.returns-in-Err-search_new-clause-memory c).After-search_new) (λ empty. c.in-Err-search_new.ensures.memory empty) need))
 
 pub returns-in-Err-put_in-clause-memory : goal.returns-in-Err-put_in-clause-memory
 returns-in-Err-put_in-clause-memory c =
-    rw (← c.self.view_is) (λ need. absurd (needs_for_lines (inputs_of c.self.inside) _ _ _ _ (there (goal.at.returns-in-Err-put_in-clause-memory c).After-search_new) (λ empty. c.in-Err-put_in.ensures.memory (nil_from_length (all_of c.in-Ok-search_new.kept) (sym (length-map (all_of c.in-Ok-search_new.kept) line_text) ∙ ap length (c.in-Ok-search_new.ensures.texts ∙ empty)))) need))
+    rw (← c.self.view_is) (λ need. absurd (needs_for_lines (inputs_of c.self.inside) (there (goal.at.returns-in-Err-put_in-clause-memory c).After-search_new) (λ empty. c.in-Err-put_in.ensures.memory (nil_from_length (all_of c.in-Ok-search_new.kept) (cc (length-map (all_of c.in-Ok-search_new.kept) line_text, c.in-Ok-search_new.ensures.texts ∙ empty)))) need))
 
 pub index_mut-requires : goal.index_mut-requires
 index_mut-requires c =
-    let files = c.self.inside.files in
-    omega (arith, in_kept files.items c.args.k (there (goal.at.index_mut-requires c).After-search_new).in_files, files.ok.0)
+    omega (arith, in_kept c.self.inside.files.items c.args.k (there (goal.at.index_mut-requires c).After-search_new).in_files)
 
 pub invariant_of-self : goal.invariant_of-self
 invariant_of-self c = left_session c.self.inside _ refl refl c.self.invariant c.search_new.ensures.same_matchers refl refl
