@@ -1,9 +1,9 @@
 -- How the program ends after its command (XCU grep, EXIT STATUS and STDERR).
 use Rattle.std.specs.Prelude.{◌≡◌, ℕ, nat_lt, List, [], ◌∷◌, ◌⊎◌, codes, Option, MatchBool}
-use Rattle.grep_core.specs.{Buffer.BufferedWriter, Buffer.SendsAll, Buffer.SendsSome}
-use Rattle.grep_core.specs.{Buffer.all_contents, Meters.Steps, Run.Writer, Run.writer, Run.devices}
-use Rattle.grep_utility.specs.{Bytes.Text, Command.ReportsLines, Command.CommandGives}
-use Rattle.grep_utility.specs.{Command.SendsMessages, Folder.Folder, Texts.write_error}
+use Rattle.grep_core.specs.Buffer.{SendsAll, SendsSome, all_contents, BufferedWriter}
+use Rattle.grep_core.specs.{Meters.Steps, Run.{writer, Writer, devices}}
+use Rattle.grep_utility.specs.Command.{CommandGives, SendsMessages, ReportsLines}
+use Rattle.grep_utility.specs.{Texts.write_error, Folder.Folder, Bytes.Text}
 
 abbrev pub words_refused : Text
 words_refused = codes "grep: words must be UTF-8"

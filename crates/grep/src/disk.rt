@@ -1,7 +1,6 @@
 //! The files of the system, and standard input.
 ghost use Rattle.std.specs.Prelude.{◌≡◌, false};
-ghost use Rattle.grep_core.specs.Run.{count_more};
-ghost use Rattle.grep.specs.Working.Disk.{known_bytes, folder_of};
+ghost use Rattle.{grep_core.specs.Run.count_more, grep.specs.Working.Disk.{known_bytes, folder_of}};
 
 use crate::guard::OutputGuard;
 use grep_core::{CountedRead, Options, Tally};

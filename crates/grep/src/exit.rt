@@ -1,7 +1,6 @@
 //! How the program reports its own faults, and how it ends.
 ghost use Rattle.std.specs.Prelude.{◌≡◌};
-ghost use Rattle.grep_core.specs.Run.{writer};
-ghost use Rattle.grep_utility.specs.Texts.{out_of_memory, usage};
+ghost use Rattle.{grep_core.specs.Run.writer, grep_utility.specs.Texts.{out_of_memory, usage}};
 ghost use Rattle.grep.specs.Exit.{words_refused, ReportsWriteError, EndsAs};
 
 use grep_core::{Buffered, CountedWrite, WriteFault};

@@ -5,9 +5,7 @@ mod disk;
 mod exit;
 mod guard;
 
-ghost use Rattle.grep_core.specs.Run.{writer};
-ghost use Rattle.grep_core.specs.Sources.{Returns};
-ghost use Rattle.grep_utility.specs.Words.{texts_of};
+ghost use Rattle.{grep_core.specs.{Run.writer, Sources.Returns}, grep_utility.specs.Words.texts_of};
 ghost use Rattle.grep.specs.Exit.{ProgramGives, streams};
 
 use crate::disk::DiskFiles;

@@ -1,16 +1,15 @@
 -- Editors: the lists that an editor makes by the replies alone, and that they are the present hits.
-use Rattle.std.specs.Prelude.{◌≡◌, ℕ, ◌+◌, ◌<◌, ◌^◌, Bool, true, false, List, [], ◌∷◌, ◌++◌, length}
-use Rattle.std.specs.Prelude.{take, codes, bytes_eq, if◌then◌else◌, map, ◌≢◌, ◌⊎◌}
-use Rattle.std.specs.List.{All, AllZip, list_any, sum_by}
+use Rattle.std.specs.Prelude.{◌⊎◌, ◌∷◌, ◌≢◌, ◌++◌, ℕ, map, ◌^◌, ◌+◌, List, length, take, [], Bool}
+use Rattle.std.specs.Prelude.{◌<◌, true, if◌then◌else◌, codes, false, bytes_eq, ◌≡◌}
+use Rattle.std.specs.List.{list_any, sum_by, All, AllZip}
 use Rattle.re_syntax.specs.{Bytes.Text, Expression.Expression}
 use Rattle.grep_core.specs.{declared.status.Status.Status, Choose.IfHolds}
-use Rattle.grep_core.specs.{Meters.Steps as StepCounts, Files.File, Files.Mean}
-use Rattle.grep_live.specs.{Hits.Hit, Hits.View, Hits.AreHits, Changes.Change, Changes.all_after}
-use Rattle.grep_live.specs.{Follows.Follows, Follows.view_after, Rows.changes_rows}
-use Rattle.grep_session.specs.Marks.{Watched}
-use Rattle.grep_cmd.specs.Script.{Step, does, reports, reports_changes, reports_page, sets_text}
-use Rattle.grep_cmd.specs.Script.{text_after}
-use Rattle.grep_cmd.specs.Replies.{Replies, AnswersScript, ScriptState, new_state, status_line}
+use Rattle.grep_core.specs.{Meters.Steps as StepCounts, Files.{File, Mean}}
+use Rattle.grep_live.specs.{Hits.{View, AreHits, Hit}, Changes.{all_after, Change}}
+use Rattle.grep_live.specs.{Follows.{view_after, Follows}, Rows.changes_rows}
+use Rattle.{grep_session.specs.Marks.Watched, grep_cmd.specs.Script.{Step, does, reports}}
+use Rattle.grep_cmd.specs.Script.{reports_changes, reports_page, sets_text, text_after}
+use Rattle.grep_cmd.specs.Replies.{status_line, ScriptState, new_state, AnswersScript, Replies}
 
 abbrev pub has_status : Text → Bool
 has_status line = bytes_eq (take 7 line) (codes "status ")

@@ -1,28 +1,22 @@
 -- The replies to a script (occur(1), REPLIES), and what a run of it writes and returns.
-use Rattle.std.specs.Prelude.{◌≡◌, ◌≢◌, ℕ, ◌+◌, length, if◌then◌else◌, List, [], ◌∷◌, ◌++◌, drop}
-use Rattle.std.specs.Prelude.{map, take, Bool, true, codes, bytes_eq, Option, Result, Ok, Err, ◌⊎◌}
-use Rattle.std.specs.{List.list_any, Fmt.decimal, Io.KnownBytes.prepend_known}
-use Rattle.std.specs.Io.KnownBytes.{Consumes}
-use Rattle.re_syntax.specs.{Bytes.Text, Lines.lines_of}
-use Rattle.grep_core.specs.Reading.{Reading, IsReadingOf, AreLeft, open_source, file_of}
-use Rattle.grep_core.specs.Reading.{failures_of, IsOneLineAndFew}
-use Rattle.grep_core.specs.declared.status.Status.TheVariants.{Selected, NoneSelected, Error}
-use Rattle.grep_core.specs.{Files.File, Files.Inputs, Files.whole, Files.broken, Meters.AddsAtMost}
-use Rattle.grep_core.specs.{Meters.Steps as StepCounts, Output.written, Run.count_more}
-use Rattle.grep_core.specs.{Written.GoesOut, Written.StopsWithin, Written.Writes}
-use Rattle.grep_core.specs.declared.status.Status.{Status}
-use Rattle.grep_session.specs.{declared.fault.EditFault.EditFault, Edits.Edit, Edits.EditGives}
-use Rattle.grep_session.specs.{Headline.GrepGives, Touched.Costs, Touched.NeedsNoMemory}
-use Rattle.grep_session.specs.{Marks.Watched, Marks.new_watched, Marks.all_known, Marks.MarksGiven}
-use Rattle.grep_cmd.specs.declared.script.ScriptEnd.TheVariants.{Clean, Refused}
-use Rattle.grep_cmd.specs.declared.script.ScriptFault.TheVariants.{Read, Write, Memory}
-use Rattle.grep_cmd.specs.Script.{Step, does, reports, reports_changes, reports_page, is_bad}
-use Rattle.grep_cmd.specs.Script.{is_truncated, tells_version, sets_text, Steps, IsUnfinished}
-use Rattle.grep_cmd.specs.Script.{IsBegun}
-use Rattle.grep_cmd.specs.declared.script.ScriptEnd.{ScriptEnd}
-use Rattle.grep_cmd.specs.declared.script.ScriptFault.{ScriptFault}
-use Rattle.grep_live.specs.{Reported.AllChanges, Reported.AllHits, Rows.changes_rows}
-use Rattle.grep_live.specs.Rows.{page_lines}
+use Rattle.std.specs.{Fmt.decimal, Io.KnownBytes.{prepend_known, Consumes}, List.list_any}
+use Rattle.std.specs.Prelude.{◌+◌, ◌∷◌, true, length, Err, map, ◌⊎◌, [], ◌≡◌, if◌then◌else◌, List}
+use Rattle.std.specs.Prelude.{ℕ, take, drop, bytes_eq, Bool, ◌≢◌, Option, codes, Ok, ◌++◌, Result}
+use Rattle.{re_syntax.specs.{Bytes.Text, Lines.lines_of}, grep_core.specs.Output.written}
+use Rattle.grep_core.specs.{Files.{File, Inputs, broken, whole}, Reading.{file_of, Reading}}
+use Rattle.grep_core.specs.Reading.{IsOneLineAndFew, failures_of, open_source, AreLeft, IsReadingOf}
+use Rattle.grep_core.specs.{Run.count_more, Meters.{AddsAtMost, Steps as StepCounts}}
+use Rattle.grep_core.specs.declared.status.Status.TheVariants.{Error, NoneSelected, Selected}
+use Rattle.grep_core.specs.{declared.status.Status.Status, Written.{StopsWithin, Writes, GoesOut}}
+use Rattle.grep_session.specs.{declared.fault.EditFault.EditFault, Edits.{Edit, EditGives}}
+use Rattle.grep_session.specs.{Headline.GrepGives, Touched.{NeedsNoMemory, Costs}, Marks.Watched}
+use Rattle.grep_session.specs.Marks.{new_watched, all_known, MarksGiven}
+use Rattle.grep_cmd.specs.declared.script.ScriptEnd.{TheVariants.{Clean, Refused}, ScriptEnd}
+use Rattle.grep_cmd.specs.declared.script.ScriptFault.TheVariants.{Memory, Read, Write}
+use Rattle.grep_cmd.specs.{declared.script.ScriptFault.ScriptFault, Script.{Step, does, reports}}
+use Rattle.grep_cmd.specs.Script.{reports_changes, reports_page, is_bad, is_truncated}
+use Rattle.grep_cmd.specs.Script.{tells_version, sets_text, Steps, IsUnfinished, IsBegun}
+use Rattle.grep_live.specs.{Reported.{AllChanges, AllHits}, Rows.{changes_rows, page_lines}}
 use Rattle.grep_utility.specs.Texts.{kind_name}
 use Rattle.grep_session.specs.declared.fault.EditFault.TheVariants as fault
 

@@ -1,11 +1,10 @@
 -- Scripts of a session: a script's lines are commands, each with the lines that it counts.
-use Rattle.std.specs.Prelude.{◌≡◌, ℕ, ◌<◌, Bool, List, [], ◌∷◌, ◌++◌, length, Option, Some, None}
-use Rattle.std.specs.Prelude.{◌⊎◌, ⊤}
-use Rattle.re_syntax.specs.Bytes.{Text}
-use Rattle.grep_core.specs.Files.{Ending, whole}
-use Rattle.grep_session.specs.Edits.{Edit}
-use Rattle.script_commands.specs.Commands.{Command, edits, counts, shows, lists_changes, lists_page}
-use Rattle.script_commands.specs.Commands.{asks_version, switches_text, line_command, AsksForMemory}
+use Rattle.std.specs.Prelude.{◌<◌, [], ℕ, ◌≡◌, None, ◌⊎◌, ⊤, ◌++◌, Option, List, Bool, Some, length}
+use Rattle.std.specs.Prelude.{◌∷◌}
+use Rattle.{re_syntax.specs.Bytes.Text, grep_core.specs.Files.{whole, Ending}}
+use Rattle.{grep_session.specs.Edits.Edit, script_commands.specs.Commands.asks_version}
+use Rattle.script_commands.specs.Commands.{switches_text, counts, edits, AsksForMemory, lists_page}
+use Rattle.script_commands.specs.Commands.{shows, Command, line_command, lists_changes}
 
 -- what a command line asks for
 pub data Step : Type 0 where

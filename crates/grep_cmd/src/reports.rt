@@ -1,9 +1,8 @@
 //! The replies to `show`, `changes` and `page`, as the script of the program `occur` has them.
-ghost use Rattle.grep_core.specs.Row.{output_line};
-ghost use Rattle.grep_core.specs.Written.{Writes};
+ghost use Rattle.grep_core.specs.{Row.output_line, Written.Writes};
 ghost use Rattle.std.specs.Prelude.{[]};
-ghost use Rattle.grep_cmd.specs.Replies.{Shows, status_line};
-ghost use Rattle.grep_cmd.specs.Working.Reported.{WritesReport, WritesHits};
+ghost use Rattle.grep_cmd.specs.{Working.Reported.{WritesHits, WritesReport}, Replies.status_line};
+ghost use Rattle.grep_cmd.specs.Replies.{Shows};
 
 use grep_core::{CountedWrite, Status, WriteFault, write_line};
 use grep_live::{RowForm, changes, page};

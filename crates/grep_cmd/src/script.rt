@@ -1,9 +1,8 @@
 //! Scripts: commands to a session, line by line, and the replies to them.
 ghost use Rattle.std.specs.Prelude.{◌≡◌, ◌≢◌, ◌≤◌, Err};
 ghost use Rattle.re_syntax.specs.Profile.{most_states};
-ghost use Rattle.grep_cmd.specs.declared.script.ScriptFault.{ScriptFault};
-ghost use Rattle.grep_cmd.specs.Replies.{GaveLines, ScriptGives, new_state};
-ghost use Rattle.grep_cmd.specs.Working.Answered.{FlushesAfter};
+ghost use Rattle.grep_cmd.specs.{declared.script.ScriptFault.ScriptFault, Replies.GaveLines};
+ghost use Rattle.grep_cmd.specs.{Replies.{ScriptGives, new_state}, Working.Answered.FlushesAfter};
 
 mod answer;
 mod counted;

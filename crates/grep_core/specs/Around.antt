@@ -1,11 +1,9 @@
 -- Selected lines and those around them (GNU grep, -A, -B and -C).
-use Rattle.std.specs.Prelude.{◌≡◌, ℕ, zero, suc, ◌+◌, ◌<◌, ◌≤◌, List, [], ◌∷◌, ◌++◌, length, codes}
-use Rattle.std.specs.Prelude.{get_or, Option, ⊤}
-use Rattle.std.specs.List.{enumerate_from}
-use Rattle.re_syntax.specs.{Bytes.Text, Expression.Expression}
-use Rattle.grep_core.specs.{declared.options.Context.Context, declared.options.Options.Options}
-use Rattle.grep_core.specs.{Row.colon, Row.hyphen, Row.head, Choose.IfHolds, Choose.EachGives}
-use Rattle.grep_core.specs.Files.{Selected}
+use Rattle.std.specs.Prelude.{get_or, suc, ◌≤◌, ◌<◌, ℕ, ◌++◌, ◌+◌, List, [], length, ⊤, ◌≡◌, codes}
+use Rattle.std.specs.{Prelude.{◌∷◌, Option, zero}, List.enumerate_from}
+use Rattle.re_syntax.specs.{Expression.Expression, Bytes.Text}
+use Rattle.grep_core.specs.{declared.options.{Context.Context, Options.Options}, Files.Selected}
+use Rattle.grep_core.specs.{Row.{colon, hyphen, head}, Choose.{EachGives, IfHolds}}
 
 -- the output line between groups of lines that follow one another
 abbrev pub group_separator : Text

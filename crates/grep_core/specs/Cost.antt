@@ -3,10 +3,9 @@
 -- more steps are taken than this cost, and no more bytes are passed. A search of a line costs one
 -- for each byte and one more.
 use Rattle.std.specs.Prelude.{ℕ, ◌+◌, ◌*◌, List, length, sum_by}
-use Rattle.re_meter.specs.Meters.{Steps, AddsAtMost}
-use Rattle.re_syntax.specs.Bytes.{Text}
-use Rattle.grep_core.specs.{declared.options.Options.Options, Files.File, Output.Form, Output.parts}
-use Rattle.grep_core.specs.Output.{form}
+use Rattle.{re_meter.specs.Meters.{Steps, AddsAtMost}, re_syntax.specs.Bytes.Text}
+use Rattle.grep_core.specs.{declared.options.Options.Options, Output.{form, parts, Form}}
+use Rattle.grep_core.specs.Files.{File}
 
 -- one search of a line by each of the matchers
 abbrev pub search_cost : ℕ → Text → ℕ

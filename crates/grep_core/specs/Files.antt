@@ -1,7 +1,6 @@
 -- Files as grep sees them, and which of their lines it selects (XCU grep, DESCRIPTION and INPUT
 -- FILES).
-use Rattle.std.specs.Prelude.{List, MatchBool, Any}
-use Rattle.std.specs.List.{AllZip}
+use Rattle.std.specs.{Prelude.{List, MatchBool, Any}, List.AllZip}
 use Rattle.re_syntax.specs.{declared.syntax.Syntax.Syntax, Bytes.Text, Expression.Expression}
 use Rattle.re_syntax.specs.{Holds.Matches, Spelled.IsMeant}
 use Rattle.grep_core.specs.declared.options.Options.{Options}

@@ -1,9 +1,8 @@
 -- What the definitions promise of themselves.
 use Rattle.std.specs.Prelude.{◌≡◌, ◌||◌, IsTrue, ◌↔◌, List, Option, None}
-use Rattle.re_syntax.specs.{declared.syntax.Syntax.Syntax, Bytes.Text, Expression.Expression}
-use Rattle.grep_core.specs.{declared.options.Context.Context, declared.options.Options.Options}
-use Rattle.grep_core.specs.{Files.File, Files.AreMeant, Output.around, Output.form, Output.Out}
-use Rattle.grep_core.specs.{Messages.Messages, Messages.StatusOf}
+use Rattle.re_syntax.specs.{Expression.Expression, Bytes.Text, declared.syntax.Syntax.Syntax}
+use Rattle.grep_core.specs.{declared.options.{Context.Context, Options.Options}, Files.AreMeant}
+use Rattle.grep_core.specs.{Files.File, Output.{around, form, Out}, Messages.{Messages, StatusOf}}
 
 -- P holds of one value and of no other
 abbrev pub IsOne : {A : Type 0} → (A → Type 0) → Type 0

@@ -1,8 +1,7 @@
 -- How many patterns there may be, and the first pattern that is none.
 use Rattle.std.specs.Prelude.{ℕ, ◌<◌, Bool, List, [], length, take, get_or, All}
-use Rattle.re_syntax.specs.{declared.fault.PatternFault.PatternFault, declared.syntax.Syntax.Syntax}
-use Rattle.re_syntax.specs.Bytes.{Text}
-use Rattle.re_search.specs.Reading.{IsReadable, IsRefusedFor}
+use Rattle.re_syntax.specs.declared.{fault.PatternFault.PatternFault, syntax.Syntax.Syntax}
+use Rattle.{re_syntax.specs.Bytes.Text, re_search.specs.Reading.{IsReadable, IsRefusedFor}}
 
 -- the first pattern that is not readable, and what shows it
 pub record IsFirstRefused (syntax : Syntax) (fold : Bool) (texts : List Text) (place : ℕ)

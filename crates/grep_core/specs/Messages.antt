@@ -1,12 +1,11 @@
 -- What grep writes to standard error about files, and its exit status (XCU grep, STDERR and EXIT
 -- STATUS).
-use Rattle.std.specs.Prelude.{◌≡◌, ◌||◌, IsTrue, List, [], ◌∷◌, ◌++◌, codes, MatchBool, Any, ⊤}
+use Rattle.std.specs.Prelude.{List, IsTrue, Any, ◌++◌, ◌∷◌, codes, ◌||◌, ⊤, ◌≡◌, MatchBool, []}
 use Rattle.re_syntax.specs.{Bytes.Text, Expression.Expression}
-use Rattle.grep_core.specs.declared.status.Status.TheVariants.{Selected as selected, NoneSelected}
-use Rattle.grep_core.specs.declared.status.Status.TheVariants.{Error}
-use Rattle.grep_core.specs.Files.{File, Ending, whole, missing, broken, HasSelected}
-use Rattle.grep_core.specs.{declared.options.Options.Options, declared.status.Status.Status}
-use Rattle.grep_core.specs.{Choose.IfHolds, Choose.EachGives}
+use Rattle.grep_core.specs.declared.status.Status.TheVariants.{Selected as selected, Error}
+use Rattle.grep_core.specs.declared.status.Status.{TheVariants.NoneSelected, Status}
+use Rattle.grep_core.specs.{declared.options.Options.Options, Choose.{IfHolds, EachGives}}
+use Rattle.grep_core.specs.Files.{whole, Ending, File, HasSelected, broken, missing}
 
 abbrev pub cannot_open : Text → Text
 cannot_open name = codes "grep: " ++ name ++ codes ": cannot open"

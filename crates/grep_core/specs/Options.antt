@@ -1,6 +1,6 @@
 -- The options of grep that are set or not (XCU grep, OPTIONS), by their names.
 use Rattle.std.specs.Prelude.{Bool, false, None}
-use Rattle.grep_core.specs.{declared.options.Flag.Flag, declared.options.Options.Options}
+use Rattle.grep_core.specs.declared.options.{Flag.Flag, Options.Options}
 use Rattle.grep_core.specs.declared.options.Flag.TheVariants as flag
 
 abbrev pub option_of : Flag → Options → Bool

@@ -2,12 +2,11 @@
 -- grep, -o).
 use Rattle.std.specs.Prelude.{◌≡◌, ℕ, nat_le, Bool, ◌&&◌, if◌then◌else◌, List, [], ◌∷◌, ◌++◌}
 use Rattle.std.specs.Prelude.{length, map, drop, Option, None, Some, slice_range}
-use Rattle.std.specs.{List.enumerate_from, List.flat_map, Fmt.decimal}
+use Rattle.std.specs.{List.{enumerate_from, flat_map}, Fmt.decimal}
 use Rattle.re_syntax.specs.{Bytes.Text, Expression.Expression, Parts.AreParts}
-use Rattle.grep_core.specs.{declared.options.Context.Context, declared.options.Options.Options}
-use Rattle.grep_core.specs.{Row.colon, Row.prefix, Row.head, Row.output_line, Choose.EachGives}
-use Rattle.grep_core.specs.{Choose.Chosen, Files.File, Files.Ending, Files.missing, Files.Selected}
-use Rattle.grep_core.specs.{Files.HasSelected, Around.Groups}
+use Rattle.grep_core.specs.{Around.Groups, declared.options.{Context.Context, Options.Options}}
+use Rattle.grep_core.specs.{Row.{head, prefix, output_line, colon}, Choose.{Chosen, EachGives}}
+use Rattle.grep_core.specs.Files.{File, HasSelected, Ending, missing, Selected}
 
 -- the names of this many files are shown
 abbrev pub shows_names : ℕ → Bool

@@ -1,6 +1,5 @@
 -- An output line of grep (XCU grep, STDOUT).
-use Rattle.std.specs.Prelude.{ℕ, [], ◌∷◌, ◌++◌, Option, None, Some}
-use Rattle.std.specs.Fmt.{decimal}
+use Rattle.std.specs.{Prelude.{ℕ, [], ◌∷◌, ◌++◌, Option, None, Some}, Fmt.decimal}
 use Rattle.re_syntax.specs.{Bytes.Text, Lines.newline}
 
 -- what separates name and number of a selected line, of a part and of a count from what follows

@@ -1,19 +1,15 @@
 -- What a run over sources writes, each source read once from front to back.
-use Rattle.std.specs.Prelude.{◌≡◌, ℕ, suc, ◌+◌, ◌<◌, ◌≤◌, IsTrue, List, [], ◌∷◌, ◌++◌, length, take}
-use Rattle.std.specs.Prelude.{get_or, Option, Result, Ok, Err}
-use Rattle.std.specs.{List.AllZip, Io.KnownBytes.Appends}
-use Rattle.re_syntax.specs.{Bytes.Text, Expression.Expression}
-use Rattle.re_search.specs.Meters.{Steps}
+use Rattle.std.specs.Prelude.{◌∷◌, [], Result, ◌≤◌, Err, IsTrue, ◌<◌, suc, Ok, length, get_or, ◌++◌}
+use Rattle.std.specs.{Prelude.{◌≡◌, take, List, ◌+◌, ℕ, Option}, Io.KnownBytes.Appends, List.AllZip}
+use Rattle.{re_syntax.specs.{Expression.Expression, Bytes.Text}, re_search.specs.Meters.Steps}
+use Rattle.grep_core.specs.Messages.{FaultMet, StatusOf, Messages}
 use Rattle.grep_core.specs.declared.status.RunFault.TheVariants.{Write, MessageWrite, Memory}
-use Rattle.grep_core.specs.Output.{Form, parts, lines, around, form, OutOf, Out, written}
-use Rattle.grep_core.specs.{declared.options.Options.Options, declared.status.Status.Status}
-use Rattle.grep_core.specs.{declared.status.RunFault.RunFault, Choose.IfHolds, Files.File}
-use Rattle.grep_core.specs.{Files.whole, Files.missing, Files.HasSelected, Messages.FaultMet}
-use Rattle.grep_core.specs.{Messages.Messages, Messages.StatusOf, Sources.source_at}
-use Rattle.grep_core.specs.Cost.{SearchesFiles}
-use Rattle.grep_io.specs.Reading.{Source, Reading, IsReadingOf, file_of, failures_of, AreLeft}
-use Rattle.grep_io.specs.Reading.{HasRead}
-use Rattle.grep_io.specs.Counted.{one_more}
+use Rattle.grep_core.specs.declared.status.{RunFault.RunFault, Status.Status}
+use Rattle.grep_core.specs.{declared.options.Options.Options, Choose.IfHolds, Sources.source_at}
+use Rattle.grep_core.specs.{Cost.SearchesFiles, Files.{File, whole, missing, HasSelected}}
+use Rattle.grep_core.specs.Output.{parts, Out, lines, Form, written, OutOf, form, around}
+use Rattle.grep_io.specs.{Counted.one_more, Reading.{Source, Reading, IsReadingOf, file_of}}
+use Rattle.grep_io.specs.Reading.{failures_of, AreLeft, HasRead}
 pub use Rattle.grep_io.specs.Counted.{count_more}
 
 -- ---- devices

@@ -1,8 +1,7 @@
 -- The sources of a run, each opened once and read from front to back.
 use Rattle.std.specs.Prelude.{◌≡◌, ℕ, true, false, List, [], ◌++◌, get_or, Option, None}
 use Rattle.std.specs.Prelude.{MatchOption, IfSome}
-use Rattle.re_syntax.specs.Bytes.{Text}
-use Rattle.grep_io.specs.{Counted.one_more, Reading.Source}
+use Rattle.{re_syntax.specs.Bytes.Text, grep_io.specs.{Counted.one_more, Reading.Source}}
 
 -- source k, which is there
 abbrev pub source_at : List Source → ℕ → Source

@@ -1,9 +1,7 @@
 //! The options of a run, and what they ask for.
 ghost use Rattle.std.specs.Prelude.{◌≡◌, ◌||◌, ◌↔◌, IsTrue, MatchOption};
-ghost use Rattle.grep_core.specs.Options.{option_of, with_option};
-ghost use Rattle.grep_core.specs.Output.{form, counts, around};
-ghost use Rattle.grep_core.specs.Working.OneLine.{IsPlain};
-ghost use Rattle.grep_core.specs.Working.Requests.{form_of, selects};
+ghost use Rattle.grep_core.specs.{Options.{option_of, with_option}, Output.{form, counts, around}};
+ghost use Rattle.grep_core.specs.Working.{OneLine.IsPlain, Requests.{form_of, selects}};
 
 /// How many lines are shown around each selected one (GNU grep, `-A`, `-B` and `-C`).
 #[derive(Clone, Copy, PartialEq, Eq, Debug, Drop)]

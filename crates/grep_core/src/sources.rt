@@ -1,7 +1,6 @@
 //! The sources that a run reads.
 ghost use Rattle.std.specs.Prelude.{◌≡◌, ℕ, ◌+◌, ◌<◌, List, [], ◌∷◌, Option, IfSome, length, ⊤};
-ghost use Rattle.grep_io.specs.Reading.{Source};
-ghost use Rattle.grep_core.specs.Run.{count_more};
+ghost use Rattle.{grep_io.specs.Reading.Source, grep_core.specs.Run.count_more};
 ghost use Rattle.grep_core.specs.Sources.{source_at, Opens, Returns};
 
 use grep_io::CountedRead;

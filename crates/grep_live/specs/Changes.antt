@@ -1,11 +1,10 @@
 -- Changes: what is reported of a file, and the list that an editor makes of it.
-use Rattle.std.specs.Prelude.{◌≡◌, ℕ, ◌+◌, ◌-◌, ◌<◌, ◌≤◌, nat_lt, nat_le, nat_eq, ◌&&◌, Bool}
-use Rattle.std.specs.Prelude.{if◌then◌else◌, List, [], ◌∷◌, ◌++◌, map, drop, slice_range}
-use Rattle.std.specs.List.{filter}
+use Rattle.std.specs.{Prelude.{◌≡◌, ◌+◌, ◌<◌, nat_lt, ℕ, ◌&&◌, nat_eq, nat_le, ◌≤◌}, List.filter}
+use Rattle.std.specs.Prelude.{List, ◌-◌, if◌then◌else◌, [], drop, ◌++◌, ◌∷◌, slice_range, Bool, map}
 use Rattle.re_syntax.specs.{Bytes.Text, Expression.Expression}
 use Rattle.grep_core.specs.{declared.options.Options.Options, Files.File}
 use Rattle.line_marks.specs.{Stretches.Marked, declared.stretch.Stretch.Stretch}
-use Rattle.grep_live.specs.Hits.{Hit, View, HitsFrom}
+use Rattle.grep_live.specs.Hits.{HitsFrom, View, Hit}
 
 abbrev pub hits_before : ℕ → List Hit → List Hit
 hits_before place hits = filter (λ hit. nat_lt hit.place place) hits

@@ -1,13 +1,10 @@
 -- Which lists of an editor are still right, and what an edit makes of them.
-use Rattle.std.specs.Prelude.{ℕ, ◌<◌, nat_eq, List, [], ◌∷◌, ◌++◌, map, length, get_or}
+use Rattle.std.specs.Prelude.{get_or, nat_eq, [], ◌<◌, ◌++◌, length, ◌∷◌, List, map, ℕ}
 use Rattle.std.specs.List.{filter, remove}
-use Rattle.re_syntax.specs.Expression.{Expression}
-use Rattle.grep_core.specs.Files.{File, Inputs, Mean}
-use Rattle.grep_session.specs.Edits.{Edit, AddFile, AddMissing, DropFile}
-use Rattle.line_marks.specs.Stretches.{Marked, Keeps}
+use Rattle.{re_syntax.specs.Expression.Expression, grep_core.specs.Files.{File, Mean, Inputs}}
+use Rattle.grep_session.specs.{Marks.Watched, Edits.{DropFile, AddMissing, AddFile, Edit}}
+use Rattle.{line_marks.specs.Stretches.{Marked, Keeps}, grep_live.specs.Changes.{AreWithin, moved}}
 use Rattle.grep_live.specs.Hits.{AllThree, Hit, View, HitOf}
-use Rattle.grep_live.specs.Changes.{AreWithin, moved}
-use Rattle.grep_session.specs.Marks.{Watched}
 
 abbrev pub hits_at : ℕ → List Hit → List Hit
 hits_at place hits = filter (λ hit. nat_eq hit.place place) hits

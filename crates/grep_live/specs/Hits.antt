@@ -1,10 +1,8 @@
 -- Hits: the selected lines of files, as an editor lists them.
-use Rattle.std.specs.Prelude.{◌≡◌, ℕ, List, [], ◌∷◌, ⊤}
-use Rattle.std.specs.List.{enumerate_from, AllZip}
+use Rattle.std.specs.{Prelude.{◌≡◌, ℕ, List, [], ◌∷◌, ⊤}, List.{enumerate_from, AllZip}}
 use Rattle.re_syntax.specs.{Bytes.Text, Expression.Expression}
-use Rattle.grep_core.specs.{declared.options.Options.Options, Choose.IfHolds, Choose.EachGives}
-use Rattle.grep_core.specs.{Files.File, Files.Selected}
-use Rattle.grep_session.specs.Listed.{ListedParts}
+use Rattle.grep_core.specs.{declared.options.Options.Options, Choose.{IfHolds, EachGives}}
+use Rattle.{grep_core.specs.Files.{File, Selected}, grep_session.specs.Listed.ListedParts}
 
 -- three lists are of one length, and R holds of their elements at each place
 abbrev pub AllThree : {A B C : Type 0} → (A → B → C → Type 0) → List A → List B → List C → Type 0

@@ -1,17 +1,15 @@
 -- Laws of the definitions.
-use Rattle.std.specs.Prelude.{◌≡◌, ◌≢◌, ℕ, ◌+◌, ◌-◌, ◌<◌, ◌≤◌, ◌⊎◌, ⊤, List, [], ◌∷◌, Bool, false}
-use Rattle.std.specs.Prelude.{length, get_or, Result, Ok, Err, IfOk, MatchResult}
-use Rattle.re_syntax.specs.{Bytes.Text, Expression.Expression}
-use Rattle.grep_core.specs.{Options.option_of, Choose.IfHolds, Files.Inputs, Run.file_at}
-use Rattle.grep_session.specs.Edits.{Edit, AddFile, AddMissing, DropFile, Splice, ChangePattern}
-use Rattle.grep_session.specs.Edits.{SetFlag, SetSyntax, SetContext, Applies, EditGives}
-use Rattle.grep_session.specs.{Headline.Attempt, Headline.accepted}
-use Rattle.grep_session.specs.{declared.fault.EditFault.EditFault, Marks.Watched, Marks.all_known}
-use Rattle.grep_session.specs.{Marks.changes_hits, Marks.AreFit, Marks.MarksAfter, Marks.MarksGiven}
-use Rattle.line_marks.specs.Stretches.{Moves, most_stretches}
-use Rattle.grep_live.specs.{Hits.AllThree, Hits.Hit, Hits.View, Follows.Follows, Follows.view_after}
-use Rattle.grep_live.specs.{Changes.Change, Changes.ChangesFile, Changes.AreWithin}
-use Rattle.grep_live.specs.{Rows.change_rows, Rows.changes_rows}
+use Rattle.std.specs.Prelude.{[], ◌⊎◌, get_or, ◌+◌, Result, IfOk, ◌≤◌, ⊤, ◌≡◌, false, ◌∷◌, Err, ℕ}
+use Rattle.std.specs.Prelude.{MatchResult, ◌≢◌, Ok, length, Bool, ◌-◌, ◌<◌, List}
+use Rattle.{re_syntax.specs.{Bytes.Text, Expression.Expression}, grep_core.specs.Run.file_at}
+use Rattle.grep_core.specs.{Choose.IfHolds, Files.Inputs, Options.option_of}
+use Rattle.grep_session.specs.Edits.{Splice, EditGives, ChangePattern, AddFile, SetFlag, SetSyntax}
+use Rattle.grep_session.specs.Edits.{Edit, AddMissing, SetContext, Applies, DropFile}
+use Rattle.grep_session.specs.{Headline.{Attempt, accepted}, declared.fault.EditFault.EditFault}
+use Rattle.grep_session.specs.Marks.{Watched, all_known, changes_hits, AreFit, MarksAfter}
+use Rattle.{grep_session.specs.Marks.MarksGiven, line_marks.specs.Stretches.{most_stretches, Moves}}
+use Rattle.grep_live.specs.{Follows.{Follows, view_after}, Rows.{change_rows, changes_rows}}
+use Rattle.grep_live.specs.{Hits.{AllThree, Hit, View}, Changes.{AreWithin, ChangesFile, Change}}
 
 abbrev pub view_given : {T : Type 0} → Edit → Result T EditFault → View → View
 view_given edit (Ok done) view = view_after edit view

@@ -1,12 +1,11 @@
 -- What `changes` and `page` write, and which lists an editor has after that.
-use Rattle.std.specs.Prelude.{◌≡◌, ℕ, List, Option, Result, IfOk, MatchResult, Bool}
-use Rattle.re_syntax.specs.{Bytes.Text, Expression.Expression}
-use Rattle.grep_core.specs.{declared.status.Status.Status, Files.Inputs, Files.Mean}
-use Rattle.grep_core.specs.{Messages.StatusOf, Output.written, Written.Writes}
-use Rattle.grep_live.specs.{Hits.AllThree, Hits.View, Hits.AreHits, Changes.Change}
-use Rattle.grep_live.specs.{Changes.ChangesFile, Changes.all_after, Follows.Follows}
-use Rattle.grep_live.specs.{Rows.changes_rows, Rows.page_lines}
-use Rattle.grep_session.specs.Marks.{Watched, all_known}
+use Rattle.std.specs.Prelude.{◌≡◌, ℕ, List, Option, IfOk, Result, MatchResult, Bool}
+use Rattle.re_syntax.specs.{Expression.Expression, Bytes.Text}
+use Rattle.grep_core.specs.{declared.status.Status.Status, Written.Writes, Output.written}
+use Rattle.grep_core.specs.{Files.{Inputs, Mean}, Messages.StatusOf}
+use Rattle.grep_live.specs.{Follows.Follows, Changes.{ChangesFile, Change, all_after}}
+use Rattle.grep_live.specs.{Rows.{changes_rows, page_lines}, Hits.{AllThree, View, AreHits}}
+use Rattle.grep_session.specs.Marks.{all_known, Watched}
 
 -- what changed of each file, and the status; by these changes any view that followed becomes the
 -- present hits, and follows once all of them are reported

@@ -1,9 +1,8 @@
 -- How changes and pages are written (occur(1), REPLIES).
 use Rattle.std.specs.Prelude.{ℕ, ◌+◌, ◌-◌, ◌^◌, min, List, [], ◌∷◌, ◌++◌, map, length, take, drop}
-use Rattle.std.specs.Prelude.{Bool, if◌then◌else◌, codes}
-use Rattle.std.specs.{List.flat_map, Fmt.decimal}
-use Rattle.re_syntax.specs.Bytes.{Text}
-use Rattle.grep_live.specs.{Hits.Hit, Hits.View, Changes.Change, Changes.is_idle}
+use Rattle.std.specs.{Prelude.{Bool, if◌then◌else◌, codes}, List.flat_map, Fmt.decimal}
+use Rattle.{re_syntax.specs.Bytes.Text, grep_live.specs.{Changes.{is_idle, Change}, Hits.View}}
+use Rattle.grep_live.specs.Hits.{Hit}
 
 -- numbers, each after a space
 abbrev pub spaced : List ℕ → Text

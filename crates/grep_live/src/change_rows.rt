@@ -1,16 +1,11 @@
 //! What changed of the files of a session, as rows.
 ghost use Rattle.std.specs.Prelude.{◌≡◌, ◌-◌, ◌≤◌, ◌&&◌, ◌∷◌, List, map, length, nat_eq};
 ghost use Rattle.std.specs.List.{flat_map};
-ghost use Rattle.re_syntax.specs.Expression.{Expression};
-ghost use Rattle.grep_core.specs.Output.{written};
-ghost use Rattle.grep_core.specs.Run.{file_at};
-ghost use Rattle.grep_core.specs.Written.{Writes};
-ghost use Rattle.grep_session.specs.Marks.{AreFit, IsFit};
-ghost use Rattle.grep_live.specs.Hits.{AllThree, Hit};
-ghost use Rattle.grep_live.specs.Changes.{Change, ChangesFile};
+ghost use Rattle.{re_syntax.specs.Expression.Expression, grep_core.specs.Files.Mean};
+ghost use Rattle.grep_core.specs.{Written.Writes, Run.file_at, Output.written};
+ghost use Rattle.{grep_session.specs.Marks.{AreFit, IsFit}, grep_live.specs.Hits.{Hit, AllThree}};
 ghost use Rattle.grep_live.specs.Rows.{hit_row, change_row, change_rows, changes_rows};
-ghost use Rattle.grep_live.specs.Working.LineHits.{HitsBetween};
-ghost use Rattle.grep_core.specs.Files.{Mean};
+ghost use Rattle.grep_live.specs.{Changes.{Change, ChangesFile}, Working.LineHits.HitsBetween};
 
 use crate::hits::{LineRange, count_hits, first_hit};
 use crate::row_form::RowForm;

@@ -1,11 +1,8 @@
 //! The hits of a file: how many there are among some lines, and which comes next.
-ghost use Rattle.std.specs.Prelude.{◌≡◌, ◌≤◌, ◌<◌, List, [], length, map, IfSome, MatchOption};
-ghost use Rattle.re_syntax.specs.Expression.{Expression};
-ghost use Rattle.grep_core.specs.Run.{file_at};
+ghost use Rattle.std.specs.Prelude.{IfSome, ◌≡◌, map, List, MatchOption, ◌<◌, length, ◌≤◌, []};
+ghost use Rattle.{re_syntax.specs.Expression.Expression, grep_core.specs.{Run.file_at, Files.Mean}};
 ghost use Rattle.grep_session.specs.Working.Kept.{span_places};
-ghost use Rattle.grep_live.specs.Hits.{Hit};
-ghost use Rattle.grep_live.specs.Working.LineHits.{HitsBetween, IsFirst, IsPlaceAfter};
-ghost use Rattle.grep_core.specs.Files.{Mean};
+ghost use Rattle.grep_live.specs.{Working.LineHits.{IsFirst, IsPlaceAfter, HitsBetween}, Hits.Hit};
 
 use crate::placed_hit::PlacedHit;
 use grep_session::Session;

@@ -1,14 +1,9 @@
 //! A page of the hits of all files.
 ghost use Rattle.std.specs.Prelude.{◌≡◌, ◌≤◌, ◌-◌, ◌^◌, ◌∷◌, List, min, length, map, IfOk};
-ghost use Rattle.re_syntax.specs.Expression.{Expression};
-ghost use Rattle.grep_core.specs.Output.{written};
-ghost use Rattle.grep_core.specs.Run.{file_at};
-ghost use Rattle.grep_core.specs.Written.{Writes};
-ghost use Rattle.grep_live.specs.Hits.{Hit, View, AreHits};
-ghost use Rattle.grep_live.specs.Rows.{all_hits, page_rows, total_row};
-ghost use Rattle.grep_live.specs.Working.LineHits.{HitsBetween};
-ghost use Rattle.grep_live.specs.Working.PageRest.{IsRest};
-ghost use Rattle.grep_core.specs.Files.{Mean};
+ghost use Rattle.{re_syntax.specs.Expression.Expression, grep_core.specs.Output.written};
+ghost use Rattle.grep_core.specs.{Run.file_at, Written.Writes, Files.Mean};
+ghost use Rattle.grep_live.specs.{Hits.{Hit, View, AreHits}, Rows.{all_hits, page_rows, total_row}};
+ghost use Rattle.grep_live.specs.Working.{LineHits.HitsBetween, PageRest.IsRest};
 
 use crate::hits::{LineRange, count_file, first_hit, place_after};
 use crate::row_form::RowForm;

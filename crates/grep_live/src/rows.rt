@@ -1,11 +1,8 @@
 //! Rows of numbers and of hits.
-ghost use Rattle.std.specs.Prelude.{◌++◌, [], map, codes};
-ghost use Rattle.std.specs.Fmt.{decimal};
-ghost use Rattle.grep_core.specs.Row.{output_line};
-ghost use Rattle.grep_core.specs.Written.{Writes};
-ghost use Rattle.grep_session.specs.Working.Kept.{span_places};
-ghost use Rattle.grep_live.specs.Rows.{spaced, part_text, more_parts, parts_text, hit_text};
-ghost use Rattle.grep_live.specs.Rows.{line_text};
+ghost use Rattle.std.specs.{Prelude.{◌++◌, [], map, codes}, Fmt.decimal};
+ghost use Rattle.grep_core.specs.{Row.output_line, Written.Writes};
+ghost use Rattle.{grep_session.specs.Working.Kept.span_places, grep_live.specs.Rows.spaced};
+ghost use Rattle.grep_live.specs.Rows.{part_text, more_parts, parts_text, hit_text, line_text};
 
 use crate::row_form::RowForm;
 use grep_core::{CountedWrite, WriteFault, push_all, write_decimal, write_line};

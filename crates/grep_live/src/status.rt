@@ -1,10 +1,7 @@
 //! The status of grep.
-ghost use Rattle.std.specs.Prelude.{List};
-ghost use Rattle.std.specs.Bool.{Decides};
-ghost use Rattle.re_syntax.specs.Expression.{Expression};
-ghost use Rattle.grep_core.specs.Messages.{AnySelected};
-ghost use Rattle.grep_session.specs.Headline.{IsStatusOfInputs};
-ghost use Rattle.grep_core.specs.Files.{Mean};
+ghost use Rattle.std.specs.{Prelude.List, Bool.Decides};
+ghost use Rattle.{re_syntax.specs.Expression.Expression, grep_core.specs.Messages.AnySelected};
+ghost use Rattle.{grep_core.specs.Files.Mean, grep_session.specs.Headline.IsStatusOfInputs};
 
 use grep_core::Status;
 use grep_session::Session;

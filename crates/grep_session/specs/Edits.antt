@@ -1,20 +1,16 @@
 -- The edits of a session, and the inputs that each leaves.
 use Rattle.std.specs.Prelude.{◌≡◌, ◌≢◌, ℕ, ◌+◌, ◌<◌, ◌≤◌, Bool, List, [], ◌∷◌, ◌++◌, length, Option}
-use Rattle.std.specs.Prelude.{Result, Ok, Err, All, slice_set}
-use Rattle.std.specs.List.{splice, remove}
-use Rattle.re_syntax.specs.{declared.fault.PatternFault.PatternFault, declared.syntax.Syntax.Syntax}
-use Rattle.re_syntax.specs.{declared.syntax.Syntax.TheVariants.Basic, Bytes.Text}
-use Rattle.re_syntax.specs.{Lines.HasNoNewline, Lines.list_of, Profile.most_patterns}
-use Rattle.re_search.specs.Reading.{IsReadable}
-use Rattle.grep_core.specs.{declared.options.Flag.Flag, declared.options.Context.Context}
-use Rattle.grep_core.specs.{Options.no_options, Options.with_option, Choose.IfHolds, Files.File}
-use Rattle.grep_core.specs.{Files.Inputs, Files.whole, Files.missing, Matchers.IsFirstRefused}
-use Rattle.grep_core.specs.Run.{file_at}
-use Rattle.grep_session.specs.declared.fault.EditFault.TheVariants.{NoSuchFile, FileIsMissing}
-use Rattle.grep_session.specs.declared.fault.EditFault.TheVariants.{OutOfRange, LineHasNewline}
-use Rattle.grep_session.specs.declared.fault.EditFault.TheVariants.{NoSuchPattern, Pattern}
-use Rattle.grep_session.specs.declared.fault.EditFault.TheVariants.{TooManyPatterns, Memory}
-use Rattle.grep_session.specs.declared.fault.EditFault.{EditFault}
+use Rattle.std.specs.{Prelude.{Result, Ok, Err, All, slice_set}, List.{remove, splice}}
+use Rattle.re_syntax.specs.{Bytes.Text, declared.syntax.Syntax.{Syntax, TheVariants.Basic}}
+use Rattle.re_syntax.specs.{declared.fault.PatternFault.PatternFault, Profile.most_patterns}
+use Rattle.{re_syntax.specs.Lines.{list_of, HasNoNewline}, re_search.specs.Reading.IsReadable}
+use Rattle.grep_core.specs.{Files.{File, missing, Inputs, whole}, Options.{with_option, no_options}}
+use Rattle.grep_core.specs.{Choose.IfHolds, Run.file_at, Matchers.IsFirstRefused}
+use Rattle.grep_core.specs.declared.options.{Flag.Flag, Context.Context}
+use Rattle.grep_session.specs.declared.fault.EditFault.{EditFault, TheVariants.NoSuchPattern}
+use Rattle.grep_session.specs.declared.fault.EditFault.TheVariants.{TooManyPatterns, NoSuchFile}
+use Rattle.grep_session.specs.declared.fault.EditFault.TheVariants.{LineHasNewline, OutOfRange}
+use Rattle.grep_session.specs.declared.fault.EditFault.TheVariants.{Pattern, FileIsMissing, Memory}
 
 -- the calls that change a session; files, lines and patterns are numbered from 0
 pub data Edit : Type 0 where

@@ -4,11 +4,10 @@
 -- an edit is refused only for its named cause, and a refused edit changes nothing.
 use Rattle.std.specs.Prelude.{◌≡◌, ℕ, List, [], ◌∷◌, ◌++◌, Option, Result, Ok, Err, IfOk}
 use Rattle.re_syntax.specs.{Bytes.Text, Expression.Expression}
-use Rattle.grep_core.specs.{declared.status.Status.Status, Files.Inputs, Files.Mean}
-use Rattle.grep_core.specs.{Messages.Messages, Messages.StatusOf, Output.Out, Output.written}
-use Rattle.grep_core.specs.Written.{Writes}
-use Rattle.grep_session.specs.{declared.fault.EditFault.EditFault, Edits.Edit, Edits.Applies}
-use Rattle.grep_session.specs.{Edits.EditGives, Edits.no_inputs}
+use Rattle.grep_core.specs.{declared.status.Status.Status, Written.Writes, Output.{written, Out}}
+use Rattle.grep_core.specs.{Files.{Inputs, Mean}, Messages.{StatusOf, Messages}}
+use Rattle.grep_session.specs.Edits.{Edit, Applies, EditGives, no_inputs}
+use Rattle.grep_session.specs.declared.fault.EditFault.{EditFault}
 
 -- what grep writes to standard output and to standard error for these inputs, and its status (XCU
 -- grep, STDOUT, STDERR and EXIT STATUS)

@@ -1,9 +1,7 @@
 -- Laws of the definitions.
-use Rattle.std.specs.Prelude.{◌≡◌, ℕ, Result, Ok, Err}
-use Rattle.grep_core.specs.Files.{Inputs}
-use Rattle.grep_session.specs.declared.fault.EditFault.{EditFault}
-use Rattle.grep_session.specs.{declared.fault.EditFault.TheVariants.Pattern, Edits.Edit}
-use Rattle.grep_session.specs.{Edits.Applies, Touched.Costs}
+use Rattle.std.specs.Prelude.{◌≡◌, Ok, ℕ, Err, Result}
+use Rattle.{grep_core.specs.Files.Inputs, grep_session.specs.{Touched.Costs, Edits.{Edit, Applies}}}
+use Rattle.grep_session.specs.declared.fault.EditFault.{EditFault, TheVariants.Pattern}
 
 -- two refusals are the same, or differ in what is reported of the same pattern
 abbrev pub AreAlikeFaults : EditFault → EditFault → Type 0

@@ -1,16 +1,13 @@
 -- Marks: which lines of each file edits left untouched since its changes were last reported.
-use Rattle.std.specs.Prelude.{◌≡◌, ℕ, List, [], ◌∷◌, ◌++◌, map, length, get_or, slice_set, Result}
-use Rattle.std.specs.Prelude.{Ok, Err, Bool, true, false, if◌then◌else◌}
-use Rattle.std.specs.List.{remove, AllZip}
+use Rattle.std.specs.{Prelude.{Ok, false, true, Bool, ℕ, length, Err, []}, List.{remove, AllZip}}
+use Rattle.std.specs.Prelude.{Result, get_or, ◌≡◌, List, ◌∷◌, if◌then◌else◌, map, ◌++◌, slice_set}
+use Rattle.grep_core.specs.{Files.{File, Inputs}, Choose.IfHolds, Options.option_of}
 use Rattle.grep_core.specs.declared.options.Flag.TheVariants.{IgnoreCase, OnlyMatching, InvertMatch}
-use Rattle.grep_core.specs.declared.options.Flag.TheVariants.{LineRegexp}
-use Rattle.grep_core.specs.{declared.options.Flag.Flag, Options.option_of, Choose.IfHolds}
-use Rattle.grep_core.specs.{Files.File, Files.Inputs}
+use Rattle.grep_core.specs.declared.options.Flag.{TheVariants.LineRegexp, Flag}
 use Rattle.grep_session.specs.Edits.{Edit, AddFile, AddMissing, DropFile, Splice, AddPatterns}
 use Rattle.grep_session.specs.Edits.{DropPattern, ChangePattern, SetFlag, SetSyntax, SetContext}
-use Rattle.grep_session.specs.Edits.{no_inputs}
-use Rattle.grep_session.specs.declared.fault.EditFault.{EditFault}
-use Rattle.line_marks.specs.Stretches.{Marked, Fits, Splices, whole_mark, new_mark, lost}
+use Rattle.grep_session.specs.{Edits.no_inputs, declared.fault.EditFault.EditFault}
+use Rattle.line_marks.specs.Stretches.{Fits, new_mark, lost, Splices, whole_mark, Marked}
 
 -- what an editor sees of a session: its inputs, a mark for each file, and how many states each of
 -- its patterns may keep

@@ -1,19 +1,16 @@
 -- How many steps an edit takes, and how many bytes it passes, at most: only what it touches is
 -- searched.
 use Rattle.std.specs.Prelude.{◌≡◌, ◌≢◌, ℕ, ◌+◌, ◌<◌, ◌≤◌, false, List, [], ◌∷◌, ◌++◌, ◌⊎◌, Result}
-use Rattle.std.specs.Prelude.{Ok, Err, get_or, length, if◌then◌else◌, ⊤}
-use Rattle.std.specs.List.{flat_map}
-use Rattle.re_syntax.specs.{Bytes.Text, Expression.Expression, Holds.Matches, Lines.list_of}
-use Rattle.re_syntax.specs.{Spelled.IsMeant, declared.syntax.Syntax.Syntax}
-use Rattle.re_syntax.specs.{declared.syntax.Syntax.TheVariants.Fixed, Profile.most_patterns}
-use Rattle.grep_core.specs.declared.options.Flag.TheVariants.{IgnoreCase, OnlyMatching, LineRegexp}
-use Rattle.grep_core.specs.{Meters.Steps, Meters.AddsAtMost, declared.options.Flag.Flag}
-use Rattle.grep_core.specs.{declared.options.Options.Options, Options.option_of, Choose.IfHolds}
-use Rattle.grep_core.specs.{Choose.Chosen, Cost.search_cost, Files.Inputs, Files.AreMeant}
-use Rattle.grep_core.specs.{Files.Matched, Files.Mean}
-use Rattle.grep_session.specs.Edits.{Edit, AddFile, DropFile, Splice, AddPatterns, DropPattern}
-use Rattle.grep_session.specs.Edits.{ChangePattern, SetFlag, SetSyntax, SetContext, HasPlace}
-use Rattle.grep_session.specs.Edits.{Applies}
+use Rattle.std.specs.{Prelude.{Ok, Err, get_or, length, if◌then◌else◌, ⊤}, List.flat_map}
+use Rattle.re_syntax.specs.declared.syntax.Syntax.{TheVariants.Fixed, Syntax}
+use Rattle.re_syntax.specs.{Profile.most_patterns, Spelled.IsMeant, Lines.list_of, Bytes.Text}
+use Rattle.re_syntax.specs.{Expression.Expression, Holds.Matches}
+use Rattle.grep_core.specs.declared.options.Flag.TheVariants.{LineRegexp, OnlyMatching, IgnoreCase}
+use Rattle.grep_core.specs.{declared.options.{Flag.Flag, Options.Options}, Choose.{IfHolds, Chosen}}
+use Rattle.grep_core.specs.{Meters.{Steps, AddsAtMost}, Cost.search_cost, Options.option_of}
+use Rattle.grep_core.specs.Files.{AreMeant, Mean, Inputs, Matched}
+use Rattle.grep_session.specs.Edits.{DropPattern, ChangePattern, Splice, SetContext, AddPatterns}
+use Rattle.grep_session.specs.Edits.{HasPlace, SetSyntax, DropFile, AddFile, SetFlag, Applies, Edit}
 use Rattle.grep_session.specs.declared.fault.EditFault.{EditFault}
 
 -- what an edit has searched: each of `paired` by that number of patterns, and the parts of those of

@@ -6,9 +6,8 @@ ghost use Rattle.std.specs.Prelude.{vec_capacity};
 ghost use Rattle.re_search.specs.Working.Matchers.{AreAlike, AreSame, matched_expression};
 ghost use Rattle.line_chunks.specs.Working.Chunks.{FitsColumn, all_of, line_text};
 ghost use Rattle.grep_session.specs.Working.Changed.{HasChanged, SearchesEach};
-ghost use Rattle.grep_session.specs.Working.Columns.{AddsColumns, StaysSame};
-ghost use Rattle.grep_session.specs.Working.Kept.{IsColumn, lines_of_files};
-ghost use Rattle.grep_session.specs.Working.Kept.{IsFileKept, IsKept, kept_file};
+ghost use Rattle.grep_session.specs.Working.{Columns.{AddsColumns, StaysSame}, Kept.IsColumn};
+ghost use Rattle.grep_session.specs.Working.Kept.{lines_of_files, IsFileKept, IsKept, kept_file};
 
 use crate::change::Change;
 use crate::found::put_columns;

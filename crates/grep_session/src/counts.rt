@@ -1,11 +1,10 @@
 //! Which lines of a file grep selects, by their places.
 ghost use Rattle.std.specs.Prelude.{◌≡◌, ◌≤◌, ◌<◌, ℕ, List, [], length, take, get_or};
 ghost use Rattle.re_syntax.specs.Expression.{Expression};
-ghost use Rattle.re_search.specs.Working.Blocks.{HoldsOfMany};
-ghost use Rattle.grep_core.specs.Files.{Selected};
+ghost use Rattle.{re_search.specs.Working.Blocks.HoldsOfMany, grep_core.specs.Files.Selected};
 ghost use Rattle.line_chunks.specs.Working.Chunks.{all_of};
-ghost use Rattle.grep_session.specs.Working.Kept.{IsFileKept, kept_file};
 ghost use Rattle.grep_session.specs.Working.Report.{selected_count, SelectedFrom};
+ghost use Rattle.grep_session.specs.Working.Kept.{IsFileKept, kept_file};
 
 use crate::kept::{FileLines, KeptFile};
 use grep_core::Options;

@@ -1,13 +1,11 @@
 //! How what is found in all lines replaces what is kept of them.
-ghost use Rattle.std.specs.Prelude.{◌≡◌, List, map, length, drop, All};
-ghost use Rattle.std.specs.List.{AllZip};
-ghost use Rattle.std.specs.Option.{option_map};
-ghost use Rattle.std.specs.Vec.Iter.{into_iter_items};
+ghost use Rattle.std.specs.{Option.option_map, Vec.Iter.into_iter_items, List.AllZip};
+ghost use Rattle.std.specs.Prelude.{length, List, ◌≡◌, map, drop, All};
 ghost use Rattle.re_syntax.specs.Expression.{Expression};
 ghost use Rattle.grep_core.specs.declared.options.Options.{Options};
-ghost use Rattle.line_chunks.specs.Working.Chunks.{FitsColumn, FitColumns, with_columns};
-ghost use Rattle.grep_session.specs.Working.Kept.{IsColumn, chunks_of, chunks_of_files};
-ghost use Rattle.grep_session.specs.Working.Kept.{IsFileKept, kept_file};
+ghost use Rattle.line_chunks.specs.Working.Chunks.{FitColumns, with_columns, FitsColumn};
+ghost use Rattle.grep_session.specs.Working.Kept.{chunks_of, IsFileKept, chunks_of_files, IsColumn};
+ghost use Rattle.grep_session.specs.Working.Kept.{kept_file};
 
 use crate::kept::KeptFile;
 use line_chunks::Found;

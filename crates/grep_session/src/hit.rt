@@ -1,11 +1,9 @@
 //! A line as an editor lists it.
 ghost use Rattle.std.specs.Prelude.{◌≡◌, ◌<◌, List, [], map, length, get_or, MatchOption};
-ghost use Rattle.re_syntax.specs.Expression.{Expression};
-ghost use Rattle.grep_core.specs.Files.{Selected};
+ghost use Rattle.{re_syntax.specs.Expression.Expression, grep_core.specs.Files.Selected};
 ghost use Rattle.line_chunks.specs.Working.Chunks.{all_of, no_line};
+ghost use Rattle.grep_session.specs.Working.Kept.{IsFileKept, kept_file, span_places, listed_spans};
 ghost use Rattle.grep_session.specs.Listed.{ListedParts};
-ghost use Rattle.grep_session.specs.Working.Kept.{IsFileKept, kept_file, span_places};
-ghost use Rattle.grep_session.specs.Working.Kept.{listed_spans};
 
 use crate::kept::{FileLines, KeptFile};
 use crate::verdicts::is_selected;

@@ -1,6 +1,5 @@
 //! Laws of the definitions, as functions that do nothing.
-ghost use Rattle.grep_session.specs.Headline.{AcceptedEditsDecide};
-ghost use Rattle.grep_session.specs.Laws.{EditsAreDetermined};
+ghost use Rattle.grep_session.specs.{Headline.AcceptedEditsDecide, Laws.EditsAreDetermined};
 
 /// An edit has one outcome for its inputs, up to what is reported of a refused pattern, and one
 /// cost.

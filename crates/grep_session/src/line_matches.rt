@@ -1,13 +1,11 @@
 //! Which patterns match which lines of a chunk.
-ghost use Rattle.std.specs.Prelude.{◌≡◌, ◌+◌, ◌*◌, ◌≤◌, [], ◌∷◌, length, map, true, IfOk};
+ghost use Rattle.std.specs.Prelude.{[], length, IfOk, ◌∷◌, ◌≡◌, ◌+◌, ◌≤◌, ◌*◌, true, map};
 ghost use Rattle.re_syntax.specs.Lines.{terminated};
-ghost use Rattle.re_search.specs.Working.Matchers.{AreAlike, AreSame, IsSame, matched_expression};
-ghost use Rattle.re_search.specs.Working.Matchers.{wants_whole};
-ghost use Rattle.re_search.specs.Searches.{AddsAtMost};
-ghost use Rattle.line_chunks.specs.Working.Chunks.{line_text};
-ghost use Rattle.line_chunks.specs.Working.Finds.{AreBelow};
-ghost use Rattle.grep_session.specs.Working.Columns.{AddsColumn, AreMatches};
-ghost use Rattle.grep_session.specs.Working.Columns.{had_gone, is_sought, marked_cost};
+ghost use Rattle.re_search.specs.Working.Matchers.{matched_expression, AreSame, IsSame, AreAlike};
+ghost use Rattle.re_search.specs.{Working.Matchers.wants_whole, Searches.AddsAtMost};
+ghost use Rattle.line_chunks.specs.Working.{Chunks.line_text, Finds.AreBelow};
+ghost use Rattle.grep_session.specs.Working.Columns.{is_sought, AddsColumn, marked_cost, had_gone};
+ghost use Rattle.grep_session.specs.Working.Columns.{AreMatches};
 
 use crate::change::Change;
 use crate::search::SearchContext;

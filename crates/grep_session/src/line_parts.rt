@@ -1,14 +1,11 @@
 //! The parts of the lines of a chunk after a change of the patterns.
-ghost use Rattle.std.specs.Prelude.{◌≡◌, ℕ, ◌+◌, ◌<◌, ◌≤◌, [], length, map, get_or, IfOk};
-ghost use Rattle.std.specs.Prelude.{◌&&◌, if◌then◌else◌};
+ghost use Rattle.std.specs.Prelude.{◌≡◌, ℕ, ◌+◌, ◌<◌, ◌≤◌, [], length, map, get_or, IfOk, ◌&&◌};
+ghost use Rattle.std.specs.Prelude.{if◌then◌else◌};
 ghost use Rattle.re_search.specs.Working.Matchers.{AreAlike, AreSame, matched_expression};
-ghost use Rattle.re_search.specs.Searches.{AddsAtMost};
-ghost use Rattle.grep_core.specs.Cost.{search_cost};
-ghost use Rattle.line_chunks.specs.Working.Chunks.{no_line, line_text};
-ghost use Rattle.line_chunks.specs.Working.Finds.{AreBelow};
-ghost use Rattle.grep_session.specs.Touched.{parting};
-ghost use Rattle.grep_session.specs.Working.Columns.{ArePartsAgain, AreAllParts};
-ghost use Rattle.grep_session.specs.Working.Columns.{is_parted, marked_cost};
+ghost use Rattle.{re_search.specs.Searches.AddsAtMost, grep_core.specs.Cost.search_cost};
+ghost use Rattle.line_chunks.specs.Working.{Chunks.{no_line, line_text}, Finds.AreBelow};
+ghost use Rattle.grep_session.specs.Working.Columns.{ArePartsAgain, AreAllParts, is_parted};
+ghost use Rattle.grep_session.specs.{Working.Columns.marked_cost, Touched.parting};
 
 use crate::change::Change;
 use crate::search::{SearchContext, parts_of};

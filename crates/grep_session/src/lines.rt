@@ -1,14 +1,10 @@
 //! What is written for the lines of one file.
 ghost use Rattle.std.specs.Prelude.{◌≡◌, ◌+◌, ◌^◌, ◌<◌, All, List, [], length, map, get_or};
-ghost use Rattle.re_syntax.specs.Expression.{Expression};
-ghost use Rattle.grep_core.specs.Output.{form, written};
-ghost use Rattle.grep_core.specs.Written.{Writes};
-ghost use Rattle.grep_core.specs.Working.Handed.{file_so_far};
-ghost use Rattle.grep_core.specs.Working.OneLine.{LineRowsOf};
+ghost use Rattle.{re_syntax.specs.Expression.Expression, grep_core.specs.Output.{form, written}};
+ghost use Rattle.grep_core.specs.{Written.Writes, Working.{Handed.file_so_far, OneLine.LineRowsOf}};
 ghost use Rattle.line_chunks.specs.Working.Chunks.{all_of, line_text, no_line};
-ghost use Rattle.grep_session.specs.Working.Kept.{IsKept};
-ghost use Rattle.grep_session.specs.Working.Report.{OnLine, PartsFit, part_rows, around_rows};
-ghost use Rattle.grep_session.specs.Working.Report.{place_rows, WritesGroups};
+ghost use Rattle.grep_session.specs.Working.{Kept.IsKept, Report.{OnLine, PartsFit, part_rows}};
+ghost use Rattle.grep_session.specs.Working.Report.{around_rows, place_rows, WritesGroups};
 
 use crate::counts::find_selected;
 use crate::kept::FileLines;

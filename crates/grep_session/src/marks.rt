@@ -1,9 +1,8 @@
 //! The marks of all files.
-ghost use Rattle.std.specs.Prelude.{◌≡◌, ◌+◌, ◌-◌, ◌<◌, ◌≤◌, ◌++◌, ◌∷◌, [], length, map, IfOk, OnErr};
+ghost use Rattle.std.specs.Prelude.{◌≡◌, ◌+◌, ◌-◌, ◌<◌, ◌≤◌, ◌++◌, ◌∷◌, [], length, map, IfOk};
+ghost use Rattle.std.specs.Prelude.{OnErr};
 ghost use Rattle.line_marks.specs.Stretches.{lost, new_mark, whole_mark};
-ghost use Rattle.grep_session.specs.Working.Kept.{kept_file};
-ghost use Rattle.grep_session.specs.Working.Sessions.{SplicesMark};
-ghost use Rattle.grep_session.specs.Marks.{mark_at};
+ghost use Rattle.grep_session.specs.{Working.{Kept.kept_file, Sessions.SplicesMark}, Marks.mark_at};
 
 use crate::kept::KeptFile;
 use line_marks::Mark;

@@ -1,9 +1,8 @@
 //! Lines that a session is given.
 ghost use Rattle.std.specs.Prelude.{◌≡◌, [], ◌∷◌, ◌++◌, length, map, All, IfOk, OnErr, MatchBool};
 ghost use Rattle.re_syntax.specs.Lines.{HasNoNewline};
-ghost use Rattle.grep_session.specs.Working.Kept.{IsNew};
+ghost use Rattle.grep_session.specs.Working.{Refusals.CopiesLines, Kept.IsNew};
 ghost use Rattle.line_chunks.specs.Working.Chunks.{all_of, line_text};
-ghost use Rattle.grep_session.specs.Working.Refusals.{CopiesLines};
 
 use crate::fault::EditFault;
 use crate::kept::FileLines;

@@ -1,9 +1,8 @@
 //! The matchers of patterns.
 ghost use Rattle.std.specs.Prelude.{◌≡◌, ◌≤◌, [], ◌∷◌, map, IfOk, IfErr};
 ghost use Rattle.re_syntax.specs.Profile.{most_states};
-ghost use Rattle.grep_core.specs.Working.MatcherLists.{AreMatchers};
+ghost use Rattle.grep_core.specs.Working.MatcherLists.{AreMatchers, KeepAtMost};
 ghost use Rattle.grep_session.specs.Working.Refusals.{RefusesFirst, reported_at};
-ghost use Rattle.grep_core.specs.Working.MatcherLists.{KeepAtMost};
 
 use crate::fault::EditFault;
 use crate::vec_push::push;

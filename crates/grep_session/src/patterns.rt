@@ -1,9 +1,8 @@
 //! The texts of a pattern list, and their place in a session.
-ghost use Rattle.std.specs.Prelude.{◌≡◌, ◌≤◌, ◌<◌, ◌+◌, ◌++◌, length, map, vec_len};
-ghost use Rattle.std.specs.Prelude.{vec_capacity, MatchBool, IfOk};
-ghost use Rattle.re_syntax.specs.Lines.{list_of};
+ghost use Rattle.std.specs.Prelude.{◌≡◌, ◌≤◌, ◌<◌, ◌+◌, ◌++◌, length, map, vec_len, vec_capacity};
+ghost use Rattle.std.specs.Prelude.{MatchBool, IfOk};
+ghost use Rattle.re_syntax.specs.{Lines.list_of, Profile.most_patterns};
 ghost use Rattle.grep_session.specs.Touched.{Narrows};
-ghost use Rattle.re_syntax.specs.Profile.{most_patterns};
 
 use crate::options::is_same;
 use crate::vec_push::push;

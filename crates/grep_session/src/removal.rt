@@ -1,10 +1,9 @@
 //! A pattern is removed, and the later ones move up; or another is put in its place.
 ghost use Rattle.std.specs.Prelude.{◌≡◌, ◌<◌, List, length, map, false, All, ◌≤◌, vec_len};
-ghost use Rattle.std.specs.Prelude.{vec_capacity, get_or, slice_set};
+ghost use Rattle.std.specs.{Prelude.{vec_capacity, get_or, slice_set}, List.{remove, insert}};
 ghost use Rattle.re_syntax.specs.Expression.{Expression};
 ghost use Rattle.grep_core.specs.declared.options.Options.{Options};
 ghost use Rattle.grep_session.specs.Working.Kept.{IsFileKept, kept_file};
-ghost use Rattle.std.specs.List.{remove, insert};
 
 use crate::kept::KeptFile;
 use re_search::Matcher;

@@ -1,11 +1,8 @@
 //! Lines that are replaced by others.
-ghost use Rattle.std.specs.Prelude.{◌≡◌, ◌≢◌, ◌+◌, ◌-◌, ◌≤◌, length, map, IfOk, IfErr, IfSome};
-ghost use Rattle.std.specs.Prelude.{OnErr, []};
-ghost use Rattle.std.specs.List.{splice};
-ghost use Rattle.std.specs.Option.{option_map};
+ghost use Rattle.std.specs.Prelude.{map, ◌-◌, ◌≢◌, ◌≡◌, ◌≤◌, [], ◌+◌, IfOk, OnErr, IfSome, length};
+ghost use Rattle.std.specs.{Prelude.IfErr, List.splice, Option.option_map};
+ghost use Rattle.grep_session.specs.Working.{Kept.{kept_lines, kept_file}, Refusals.PlaceGives};
 ghost use Rattle.grep_session.specs.declared.fault.EditFault.TheVariants.{Memory};
-ghost use Rattle.grep_session.specs.Working.Kept.{kept_lines, kept_file};
-ghost use Rattle.grep_session.specs.Working.Refusals.{PlaceGives};
 ghost use Rattle.line_chunks.specs.Working.Chunks.{all_of};
 
 use crate::fault::EditFault;

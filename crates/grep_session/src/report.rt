@@ -1,13 +1,11 @@
 //! What grep writes for the kept files, and its status. No line is searched and nothing is
 //! allocated: all is computed from what is kept.
 ghost use Rattle.std.specs.Prelude.{◌≡◌, All, List, [], ◌∷◌, map};
-ghost use Rattle.re_syntax.specs.Expression.{Expression};
-ghost use Rattle.grep_core.specs.Output.{form};
+ghost use Rattle.{re_syntax.specs.Expression.Expression, grep_core.specs.Output.form};
 ghost use Rattle.grep_core.specs.Working.Groups.{GroupedAs};
 ghost use Rattle.grep_session.specs.Working.Kept.{kept_lines, kept_file, file_with, IsFileKept};
-ghost use Rattle.grep_session.specs.Working.Report.{FileFits, WritesGroups};
-ghost use Rattle.grep_session.specs.Working.Report.{any_selected, any_missing, status_by_files};
-ghost use Rattle.grep_session.specs.Working.Report.{status_given};
+ghost use Rattle.grep_session.specs.Working.Report.{FileFits, WritesGroups, any_selected};
+ghost use Rattle.grep_session.specs.Working.Report.{any_missing, status_by_files, status_given};
 ghost use Rattle.grep_session.specs.Working.Report.{Reports, ReportsMessages};
 
 use crate::counts::count_all;

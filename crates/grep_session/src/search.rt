@@ -1,13 +1,11 @@
 //! What is found in lines, and kept.
 ghost use Rattle.std.specs.Prelude.{◌≡◌, length, map, IfOk, IfErr, [], All};
-ghost use Rattle.re_search.specs.Working.Matchers.{AreAlike, AreSame, matched_expression};
-ghost use Rattle.re_search.specs.Searches.{AddsAtMost};
-ghost use Rattle.re_syntax.specs.Lines.{HasNoNewline};
+ghost use Rattle.re_search.specs.Working.Matchers.{matched_expression, AreAlike, AreSame};
+ghost use Rattle.{re_search.specs.Searches.AddsAtMost, re_syntax.specs.Lines.HasNoNewline};
 ghost use Rattle.line_chunks.specs.Working.Chunks.{all_of, line_text};
 ghost use Rattle.grep_core.specs.Cost.{search_cost};
-ghost use Rattle.grep_session.specs.Touched.{parting};
-ghost use Rattle.grep_session.specs.Working.Changed.{SearchesEach, anew};
-ghost use Rattle.grep_session.specs.Working.Kept.{ArePartsKept, IsKept};
+ghost use Rattle.grep_session.specs.Working.{Changed.{SearchesEach, anew}, Kept.ArePartsKept};
+ghost use Rattle.grep_session.specs.{Working.Kept.IsKept, Touched.parting};
 
 use crate::change::Change;
 use crate::columns::find_in_lines;

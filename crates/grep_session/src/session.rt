@@ -1,15 +1,13 @@
 //! A session.
-ghost use Rattle.std.specs.Prelude.{◌≡◌, ◌≢◌, ◌≤◌, Ok, length, IsTrue, IfErr};
-ghost use Rattle.grep_session.specs.declared.fault.EditFault.TheVariants.{Memory};
-ghost use Rattle.grep_session.specs.Edits.{Edit, AddFile, AddMissing, DropFile, Splice};
-ghost use Rattle.grep_session.specs.Edits.{AddPatterns, DropPattern, ChangePattern, SetFlag};
-ghost use Rattle.grep_session.specs.Edits.{SetSyntax, SetContext, EditGives, Applies};
-ghost use Rattle.re_syntax.specs.Profile.{most_states};
-ghost use Rattle.grep_session.specs.Touched.{TakesSteps, NeedsNoMemory, Touches, searched_by};
-ghost use Rattle.grep_session.specs.Touched.{parts_alone, all_lines};
-ghost use Rattle.grep_session.specs.Marks.{new_watched, all_known, MarksGiven};
-ghost use Rattle.grep_session.specs.Working.Sessions.{LosesMarks};
-ghost use Rattle.grep_session.specs.Working.Again.{ReadsAgain, AreReadable, read_as};
+ghost use Rattle.std.specs.Prelude.{IfErr, ◌≤◌, Ok, IsTrue, length, ◌≢◌, ◌≡◌};
+ghost use Rattle.grep_session.specs.{declared.fault.EditFault.TheVariants.Memory, Edits.Applies};
+ghost use Rattle.grep_session.specs.Edits.{DropPattern, AddFile, AddMissing, SetContext, EditGives};
+ghost use Rattle.grep_session.specs.Edits.{Splice, DropFile, SetFlag, SetSyntax, AddPatterns};
+ghost use Rattle.grep_session.specs.{Edits.{ChangePattern, Edit}, Touched.{Touches, NeedsNoMemory}};
+ghost use Rattle.grep_session.specs.Touched.{searched_by, parts_alone, TakesSteps, all_lines};
+ghost use Rattle.grep_session.specs.Marks.{MarksGiven, all_known, new_watched};
+ghost use Rattle.grep_session.specs.Working.{Sessions.LosesMarks, Again.{read_as, AreReadable}};
+ghost use Rattle.{grep_session.specs.Working.Again.ReadsAgain, re_syntax.specs.Profile.most_states};
 
 mod outputs;
 mod queries;

@@ -1,10 +1,9 @@
 //! Which lines of a file are shown: the selected ones, and those around them.
 ghost use Rattle.std.specs.Prelude.{◌≡◌, ◌-◌, ◌≤◌, All, List, length, map};
-ghost use Rattle.re_syntax.specs.Expression.{Expression};
-ghost use Rattle.grep_core.specs.Output.{form};
+ghost use Rattle.{re_syntax.specs.Expression.Expression, grep_core.specs.Output.form};
 ghost use Rattle.line_chunks.specs.Working.Chunks.{all_of, line_text};
+ghost use Rattle.grep_session.specs.Working.Report.{SelectedFrom, context_as, NextShown};
 ghost use Rattle.grep_session.specs.Working.Kept.{IsKept};
-ghost use Rattle.grep_session.specs.Working.Report.{context_as, NextShown, SelectedFrom};
 
 use crate::counts::find_selected;
 use crate::kept::FileLines;

@@ -1,9 +1,8 @@
 //! What is known of files and lines without a search, from what is kept of them.
 ghost use Rattle.std.specs.Prelude.{◌≡◌, ◌<◌, length, get_or};
 ghost use Rattle.line_chunks.specs.Working.Chunks.{all_of, no_line};
-ghost use Rattle.grep_session.specs.Working.Kept.{kept_file};
-ghost use Rattle.grep_session.specs.Working.Report.{end_of, is_selected, some_selected};
-ghost use Rattle.grep_session.specs.Working.Report.{has_selected};
+ghost use Rattle.grep_session.specs.Working.Report.{has_selected, some_selected, is_selected};
+ghost use Rattle.grep_session.specs.Working.{Report.end_of, Kept.kept_file};
 
 use crate::kept::{FileLines, KeptFile};
 use grep_core::{FileEnd, Options};

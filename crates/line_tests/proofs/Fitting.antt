@@ -1,8 +1,5 @@
 -- What is found in the chunks so far fits them.
-use Rattle.std.proofs.Common.{◌≡◌, ℕ, suc, zero, ◌+◌, ◌<◌, List, [], ◌∷◌, ◌++◌, length, take, get_or, arith, subst}
-use Rattle.std.specs.Prelude.{Option, Some}
-use Rattle.line_chunks.specs.Working.Finds.{FoundIn}
-use Rattle.line_chunks.specs.Working.Chunks.{KeptLine, FitsColumn, FitColumns}
+use Rattle.{std.{proofs.Common.{◌≡◌, ℕ, suc, zero, ◌+◌, ◌<◌, List, [], ◌∷◌, ◌++◌, length, take, get_or, arith, subst}, specs.Prelude.{Option, Some}}, line_chunks.specs.Working.{Finds.FoundIn, Chunks.{KeptLine, FitsColumn, FitColumns}}}
 
 fits_suc : (cs : List (List KeptLine)) (fs : List (Option FoundIn)) (k : ℕ) (one : Option FoundIn) → k < length cs
     → length fs ≡ k → FitColumns (take k cs) fs → FitsColumn (get_or cs k []) one

@@ -1,7 +1,6 @@
 //! What is found in lines: pattern `p` matches the lines that have its letter.
 ghost use Rattle.std.specs.Prelude.{◌≡◌, ◌+◌, length, IfOk, IsTrue};
-ghost use Rattle.re_trees.specs.Lines.{HasNoNewline};
-ghost use Rattle.line_chunks.specs.Working.Finds.{AreBelow};
+ghost use Rattle.{re_trees.specs.Lines.HasNoNewline, line_chunks.specs.Working.Finds.AreBelow};
 ghost use Rattle.line_chunks.specs.Working.Chunks.{FitColumns};
 
 use line_chunks::{Chunk, Found, KeptLines, Matches, SpanLists};

@@ -1,7 +1,7 @@
 //! Files in memory, for tests of searches and of whole commands.
-ghost use Rattle.std.specs.Prelude.{◌≡◌, length, MatchOption, option_map, option_copied, find, bytes_eq};
-ghost use Rattle.grep_core.specs.Counted.{one_more};
-ghost use Rattle.grep_core.specs.Run.{count_more};
+ghost use Rattle.std.specs.Prelude.{◌≡◌, length, MatchOption, option_map, option_copied, find};
+ghost use Rattle.std.specs.Prelude.{bytes_eq};
+ghost use Rattle.grep_core.specs.{Counted.one_more, Run.count_more};
 ghost use Rattle.memory_files.specs.Working.Memory.{content_named, fresh_reader, next_count};
 ghost use Rattle.memory_files.specs.Working.Memory.{IsSameHistory};
 

@@ -1,11 +1,9 @@
 //! Two commands on files in memory, whose bytes are worked by hand.
 ghost use Rattle.std.specs.Prelude.{◌≡◌};
-ghost use Rattle.grep_core.specs.declared.status.Status.TheVariants.{Error};
-ghost use Rattle.grep_core.specs.Run.{writer, devices};
-ghost use Rattle.grep_utility.specs.Working.Known.{WritesJust};
-ghost use Rattle.grep_utility.specs.Words.{texts_of};
-ghost use Rattle.grep_utility.specs.Working.Worked.{row_words, row_output, row_messages};
-ghost use Rattle.grep_utility.specs.Working.Worked.{broken_words, broken_output, broken_messages};
+ghost use Rattle.grep_core.specs.{declared.status.Status.TheVariants.Error, Run.{writer, devices}};
+ghost use Rattle.grep_utility.specs.Working.Worked.{row_output, row_words, row_messages};
+ghost use Rattle.grep_utility.specs.Working.Worked.{broken_messages, broken_words, broken_output};
+ghost use Rattle.grep_utility.specs.{Working.Known.WritesJust, Words.texts_of};
 
 use crate::files::{Content, MemoryFile, MemoryFiles};
 use grep_core::CountedWrite;

@@ -1,13 +1,12 @@
 -- How the program reports its faults, and its exit status.
 use Rattle.std.specs.Prelude.{◌≡◌, ◌≢◌, ℕ, [], ◌∷◌, ◌++◌, codes, Option, Result, Ok, Err}
-use Rattle.clap.specs.declared.error.kind.ErrorKind.TheVariants.{DisplayHelp, DisplayVersion}
+use Rattle.clap.specs.declared.error.kind.ErrorKind.TheVariants.{DisplayVersion, DisplayHelp}
 use Rattle.clap.specs.declared.error.kind.ErrorKind.{ErrorKind}
-use Rattle.grep_core.specs.{Buffer.BufferedWriter, Buffer.all_contents, Meters.Steps, Run.Writer}
-use Rattle.grep_cmd.specs.declared.script.ScriptEnd.TheVariants.{Clean, Refused}
-use Rattle.grep_cmd.specs.declared.script.ScriptFault.TheVariants.{Read, Write, Memory}
-use Rattle.grep_cmd.specs.{Bytes.Text, Replies.GaveLines, Replies.ScriptGives, Replies.ScriptState}
-use Rattle.grep_cmd.specs.{Replies.new_state, declared.script.ScriptEnd.ScriptEnd}
-use Rattle.grep_cmd.specs.declared.script.ScriptFault.{ScriptFault}
+use Rattle.grep_core.specs.{Buffer.{BufferedWriter, all_contents}, Meters.Steps, Run.Writer}
+use Rattle.grep_cmd.specs.Replies.{GaveLines, ScriptGives, ScriptState, new_state}
+use Rattle.grep_cmd.specs.declared.script.ScriptEnd.{TheVariants.{Refused, Clean}, ScriptEnd}
+use Rattle.grep_cmd.specs.declared.script.ScriptFault.TheVariants.{Memory, Write, Read}
+use Rattle.grep_cmd.specs.{declared.script.ScriptFault.ScriptFault, Bytes.Text}
 use Rattle.grep_utility.specs.Command.{ReportsLines, SendsMessages}
 
 abbrev pub words_refused : Text

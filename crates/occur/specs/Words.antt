@@ -1,19 +1,15 @@
 -- What the words of the command line ask for: occur [--states N] [SCRIPT].
 use Rattle.std.specs.Prelude.{◌≡◌, ◌≢◌, ◌==◌, Bool, true, not, ⊤, List, [], ◌∷◌, Option, None, Some}
 use Rattle.std.specs.Prelude.{Ok, Err, Result, map, option_map, IsSomeAnd, codes, String}
-use Rattle.std.specs.Prelude.{string_bytes, if◌then◌else◌}
-use Rattle.std.specs.{Option.option_map_or, Str.Parse.digits_value, Str.Parse.without_leading_plus}
-use Rattle.clap.specs.Words.{App, IsUnsignedIn, Row, Rule, Text, first_of, kind_of, new_app}
-use Rattle.clap.specs.Words.{new_rule, one_of, one_text, with_rule}
-use Rattle.clap.specs.{Kinds.Kinds, Kinds.IsAmong}
-use Rattle.clap.specs.declared.builder.action.ArgAction.TheVariants.{Set}
+use Rattle.std.specs.{Prelude.{string_bytes, if◌then◌else◌}, Option.option_map_or}
+use Rattle.std.specs.Str.Parse.{without_leading_plus, digits_value}
+use Rattle.clap.specs.Words.{one_of, Rule, one_text, Row, with_rule, IsUnsignedIn, kind_of}
+use Rattle.clap.specs.{Words.{new_rule, new_app, first_of, Text, App}, Kinds.{Kinds, IsAmong}}
 use Rattle.clap.specs.declared.builder.value_parser.ValueParser.TheVariants.{Unsigned}
-use Rattle.clap.specs.{declared.error.Error.Error, declared.error.kind.ErrorKind.ErrorKind}
-use Rattle.clap.specs.declared.error.kind.ErrorKind.TheVariants.{OutOfMemory}
-use Rattle.clap.specs.declared.parser.matches.Found.{Found}
-use Rattle.grep_utility.specs.Folder.{is_standard}
-use Rattle.occur.specs.declared.words.ScriptRequest.{ScriptRequest}
-use Rattle.occur.specs.declared.words.OccurFault.{OccurFault}
+use Rattle.clap.specs.declared.{builder.action.ArgAction.TheVariants.Set, error.Error.Error}
+use Rattle.clap.specs.declared.error.kind.ErrorKind.{ErrorKind, TheVariants.OutOfMemory}
+use Rattle.{clap.specs.declared.parser.matches.Found.Found, grep_utility.specs.Folder.is_standard}
+use Rattle.occur.specs.declared.words.{OccurFault.OccurFault, ScriptRequest.ScriptRequest}
 use Rattle.occur.specs.declared.words.OccurFault.TheVariants as fault
 
 abbrev pub texts_of : {Z : Type 0} → List (String Z) → List Text

@@ -1,12 +1,9 @@
 //! How the program reports its own faults, and how it ends.
 ghost use Rattle.std.specs.Prelude.{◌≡◌, [], ◌∷◌};
-ghost use Rattle.clap.specs.Words.{kind_of};
-ghost use Rattle.grep_core.specs.Row.{output_line};
-ghost use Rattle.grep_core.specs.Run.{writer};
-ghost use Rattle.grep_core.specs.Written.{Writes};
-ghost use Rattle.grep_utility.specs.Command.{ReportsLines};
-ghost use Rattle.occur.specs.Exit.{EndsScript, cannot_open, fault_text, out_of_memory};
-ghost use Rattle.occur.specs.Exit.{usage, words_refused, words_status};
+ghost use Rattle.{clap.specs.Words.kind_of, grep_core.specs.{Row.output_line, Run.writer}};
+ghost use Rattle.{grep_core.specs.Written.Writes, grep_utility.specs.Command.ReportsLines};
+ghost use Rattle.occur.specs.Exit.{EndsScript, cannot_open, fault_text, out_of_memory, usage};
+ghost use Rattle.occur.specs.Exit.{words_refused, words_status};
 
 use clap::Error;
 use clap::error::ErrorKind;

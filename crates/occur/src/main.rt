@@ -6,10 +6,8 @@ mod help;
 mod words;
 
 ghost use Rattle.std.specs.Prelude.{◌≤◌, IfOk};
-ghost use Rattle.clap.specs.Words.{matches_of};
-ghost use Rattle.re_syntax.specs.Profile.{most_states};
-ghost use Rattle.grep_core.specs.Run.{writer};
-ghost use Rattle.occur.specs.Exit.{ProgramGives, streams};
+ghost use Rattle.{clap.specs.Words.matches_of, re_syntax.specs.Profile.most_states};
+ghost use Rattle.{grep_core.specs.Run.writer, occur.specs.Exit.{ProgramGives, streams}};
 ghost use Rattle.occur.specs.Words.{IsChosenBy, occur_app, texts_of};
 
 use crate::exit::{end_script, program, refuse_script, words_status};

@@ -1,12 +1,10 @@
 //! The words of the command line.
 ghost use Rattle.std.specs.Prelude.{[], ◌∷◌, ◌≡◌, ◌≤◌, IfOk, Option, codes, false, option_map};
 ghost use Rattle.std.specs.Prelude.{string_bytes, true};
-ghost use Rattle.clap.specs.Words.{Text, app_of, fault_of, found_of, matches_of, rows_of};
-ghost use Rattle.clap.specs.Words.{rule_of};
+ghost use Rattle.clap.specs.Words.{Text, app_of, fault_of, found_of, matches_of, rows_of, rule_of};
 ghost use Rattle.occur.specs.Words.{AsksFor, HasStates, IsChosenBy, Explains, ExplainsAmong};
-ghost use Rattle.occur.specs.Words.{occur_app};
-ghost use Rattle.occur.specs.Words.{Reads, form_words, is_no_option, script_file, script_rule};
-ghost use Rattle.occur.specs.Words.{states_rule, texts_of};
+ghost use Rattle.occur.specs.Words.{occur_app, Reads, form_words, is_no_option, script_file};
+ghost use Rattle.occur.specs.Words.{script_rule, states_rule, texts_of};
 ghost use Rattle.occur.specs.declared.words.OccurFault.TheVariants.{Memory};
 
 use crate::help::{ABOUT, commands_help};

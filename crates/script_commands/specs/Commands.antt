@@ -1,15 +1,13 @@
 -- The commands of a script: what a line asks for, with the lines that it counts (occur(1), COMMANDS).
-use Rattle.std.specs.Prelude.{◌≡◌, ℕ, ◌≤◌, nat_eq, Bool, true, false, if◌then◌else◌, List, [], ◌∷◌}
-use Rattle.std.specs.Prelude.{length, codes, bytes_eq, Option, Some, None, option_and_then}
-use Rattle.std.specs.Prelude.{option_map}
-use Rattle.re_syntax.specs.declared.syntax.Syntax.TheVariants.{Basic, Extended, Fixed}
-use Rattle.re_syntax.specs.{declared.syntax.Syntax.Syntax, Bytes.Text, Lines.put_before}
-use Rattle.re_syntax.specs.Lines.{joined}
-use Rattle.grep_core.specs.declared.options.Flag.{Flag}
-use Rattle.grep_session.specs.Edits.{Edit, AddFile, AddMissing, DropFile, Splice, AddPatterns}
-use Rattle.grep_session.specs.Edits.{DropPattern, ChangePattern, SetFlag, SetSyntax, SetContext}
-use Rattle.grep_utility.specs.{declared.words.tokens.Meaning.Meaning, Words.meaning_of}
-use Rattle.grep_utility.specs.Words.{number_of}
+use Rattle.std.specs.Prelude.{if◌then◌else◌, Option, length, ◌∷◌, option_map, ◌≡◌, Some, nat_eq}
+use Rattle.std.specs.Prelude.{List, bytes_eq, false, option_and_then, [], ℕ, true, None, Bool}
+use Rattle.std.specs.Prelude.{codes, ◌≤◌}
+use Rattle.re_syntax.specs.declared.syntax.Syntax.{TheVariants.{Fixed, Extended, Basic}, Syntax}
+use Rattle.re_syntax.specs.{Bytes.Text, Lines.{joined, put_before}}
+use Rattle.{grep_core.specs.declared.options.Flag.Flag, grep_session.specs.Edits.ChangePattern}
+use Rattle.grep_session.specs.Edits.{SetSyntax, AddPatterns, Edit, SetContext, DropPattern, AddFile}
+use Rattle.grep_session.specs.Edits.{Splice, DropFile, SetFlag, AddMissing}
+use Rattle.grep_utility.specs.{Words.{number_of, meaning_of}, declared.words.tokens.Meaning.Meaning}
 use Rattle.grep_utility.specs.declared.words.tokens.Meaning.TheVariants as meaning
 
 abbrev pub space : ℕ

@@ -1,11 +1,11 @@
 //! The commands of a script.
 ghost use Rattle.std.specs.Prelude.{◌≡◌, [], ◌∷◌, Some, IfOk, IfErr, option_map};
-ghost use Rattle.script_commands.specs.Commands.{name_of, flag_of, switch_of, syntax_of, file_command};
-ghost use Rattle.script_commands.specs.Commands.{missing_command, close_command, splice_command};
-ghost use Rattle.script_commands.specs.Commands.{patterns_command, pattern_command, drop_command};
-ghost use Rattle.script_commands.specs.Commands.{flag_command, syntax_command, context_command};
-ghost use Rattle.script_commands.specs.Commands.{page_command, text_command, alone, asking_command};
-ghost use Rattle.script_commands.specs.Commands.{unnamed_command, line_command, AsksForMemory};
+ghost use Rattle.script_commands.specs.Commands.{splice_command, close_command, missing_command};
+ghost use Rattle.script_commands.specs.Commands.{flag_of, flag_command, syntax_of, context_command};
+ghost use Rattle.script_commands.specs.Commands.{line_command, text_command, page_command, name_of};
+ghost use Rattle.script_commands.specs.Commands.{unnamed_command, asking_command, file_command};
+ghost use Rattle.script_commands.specs.Commands.{alone, pattern_command, switch_of, drop_command};
+ghost use Rattle.script_commands.specs.Commands.{AsksForMemory, patterns_command, syntax_command};
 ghost use Rattle.script_commands.specs.Working.ReadCommands.{meant};
 
 use crate::line_words::{LineWords, words_of};

@@ -1,8 +1,8 @@
 //! The words of a command line.
-ghost use Rattle.std.specs.Prelude.{◌≡◌, [], ◌∷◌, option_map};
-ghost use Rattle.std.specs.Iterator.{YieldsFirstRef, item_count};
+ghost use Rattle.std.specs.{Prelude.{◌≡◌, [], ◌∷◌, option_map}, Iterator.YieldsFirstRef};
+ghost use Rattle.std.specs.Iterator.{item_count};
+ghost use Rattle.script_commands.specs.Working.LineWords.{two_words, four_words, only_word};
 ghost use Rattle.script_commands.specs.Commands.{words_of};
-ghost use Rattle.script_commands.specs.Working.LineWords.{only_word, two_words, four_words};
 
 use std::marker::Model;
 

@@ -1,7 +1,5 @@
 -- Counts that stop at the greatest u64.
-use Rattle.std.proofs.Common.{◌≡◌, ℕ, zero, suc, ◌+◌, ◌-◌, ◌^◌, ◌≤◌, min, ap, ◌∙◌, arith}
-use Rattle.grep_core.specs.Counted.{one_more}
-use Rattle.grep_core.specs.Run.{count_more}
+use Rattle.{std.proofs.Common.{◌≡◌, ℕ, zero, suc, ◌+◌, ◌-◌, ◌^◌, ◌≤◌, min, ap, ◌∙◌, arith}, grep_core.specs.{Counted.one_more, Run.count_more}}
 
 -- counting k more is one sum
 pub count_more-sum : (n k : ℕ) → n ≤ 2 ^ 64 - 1 → count_more n k ≡ min (n + k) (2 ^ 64 - 1)

@@ -1,8 +1,7 @@
 -- What is known of the files of the system.
 use Rattle.std.specs.Prelude.{Bool, [], Option, None, Some, if◌then◌else◌}
-use Rattle.grep_utility.specs.{Bytes.Text, Folder.Folder}
-use Rattle.grep.specs.declared.disk.Stream.TheVariants.{StandardInput, File, Empty, Output}
-use Rattle.grep.specs.declared.disk.Stream.{Stream}
+use Rattle.{grep_utility.specs.{Bytes.Text, Folder.Folder}, grep.specs.declared.disk.Stream.Stream}
+use Rattle.grep.specs.declared.disk.Stream.TheVariants.{File, StandardInput, Empty, Output}
 
 -- the bytes that a stream will give, by what is known of its device
 abbrev pub known_bytes : {I F : Type 0} → (I → Option Text) → (F → Option Text) → Stream I F →

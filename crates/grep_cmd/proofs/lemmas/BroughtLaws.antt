@@ -1,6 +1,5 @@
 -- The steps of a script bring no more bytes than its lines have.
-use Rattle.grep_cmd.proofs.Prelude.{◌≡◌, ℕ, ◌+◌, ◌≤◌, Bool, true, false, List, [], ◌∷◌, ◌++◌, length, codes, bytes_eq, nat_eq, Option, Some, None, refl, ap, inl, inr, arith, if◌then◌else◌, option_map, option_and_then, sum_by, Text, joined, Ending, Edit, AddFile, AddMissing, DropFile, Splice, DropPattern, ChangePattern, SetFlag, SetSyntax, SetContext, number_of, name_of, flag_of, switch_of, syntax_of, Command, alone, from_number, edits, counts, shows, lists_changes, lists_page, asks_version, switches_text, file_command, missing_command, close_command, splice_command, patterns_command, drop_command, pattern_command, flag_command, syntax_command, context_command, page_command, text_command, asking_command, unnamed_command, command_of, Step, does, reports, reports_changes, reports_page, tells_version, sets_text, is_bad, IsStep, IsUnfinished, Steps, words_of, bytes_of, sum_by-append, sum_by-cons}
-use Rattle.grep_session.specs.Edits.{AddPatterns}
+use Rattle.{grep_cmd.proofs.Prelude.{◌≡◌, ℕ, ◌+◌, ◌≤◌, Bool, true, false, List, [], ◌∷◌, ◌++◌, length, codes, bytes_eq, nat_eq, Option, Some, None, refl, ap, inl, inr, arith, if◌then◌else◌, option_map, option_and_then, sum_by, Text, joined, Ending, Edit, AddFile, AddMissing, DropFile, Splice, DropPattern, ChangePattern, SetFlag, SetSyntax, SetContext, number_of, name_of, flag_of, switch_of, syntax_of, Command, alone, from_number, edits, counts, shows, lists_changes, lists_page, asks_version, switches_text, file_command, missing_command, close_command, splice_command, patterns_command, drop_command, pattern_command, flag_command, syntax_command, context_command, page_command, text_command, asking_command, unnamed_command, command_of, Step, does, reports, reports_changes, reports_page, tells_version, sets_text, is_bad, IsStep, IsUnfinished, Steps, words_of, bytes_of, sum_by-append, sum_by-cons}, grep_session.specs.Edits.AddPatterns}
 
 -- one for a step, and the bytes of the lines that it puts into a file
 abbrev pub brought : Step → ℕ

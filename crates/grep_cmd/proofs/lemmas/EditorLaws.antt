@@ -1,15 +1,7 @@
 -- The lists that an editor makes by the replies alone follow, and are the present hits.
-use Rattle.grep_cmd.proofs.Prelude.{Bool, ◌⊎◌, ◌≢◌, All, All-head, All-tail, All-cons, All-weaker, map, text_after, sets_text, HaveTexts, AreButTexts, read_change, ScriptState, new_state, ◌≡◌, ℕ, ◌+◌, ◌<◌, ◌≤◌, ◌^◌, min, true, false, true≢false, List, [], ◌∷◌, ◌++◌, length, take, drop, get_or, codes, Result, Ok, Err, refl, sym, ap, subst, ◌∙◌, inl, inr, arith, append_assoc, ◌-◌, list_any, sum_by, Text, Status, IfHolds, File, Inputs, EditFault, Edit, Marked, View, Watched, ChangesFile, all_after, FollowsFile, Follows, view_after, AreFit, changes_rows, total_row, page_row, page_rows, all_hits, all_known, Step, does, reports, reports_changes, reports_page, tells_version, is_bad, is_truncated, AreShown, with_margin, status_line, ReportsChanges, RepliesTo, Replies, SearchesAtMost, IsAnswered, AnswersScript, cause, reply_to, IsHeld, bytes_of, has_status, EndsWithStatus, IsOneReply, ReadsChanges, ListsAfter, ListsAfterAll, ArePresent, Took, EditorsFollow, or_parts, All-nil, sum_by-cons}
+use Rattle.{grep_cmd.proofs.{Prelude.{Bool, ◌⊎◌, ◌≢◌, All, All-head, All-tail, All-cons, All-weaker, map, text_after, sets_text, HaveTexts, AreButTexts, read_change, ScriptState, new_state, ◌≡◌, ℕ, ◌+◌, ◌<◌, ◌≤◌, ◌^◌, min, true, false, true≢false, List, [], ◌∷◌, ◌++◌, length, take, drop, get_or, codes, Result, Ok, Err, refl, sym, ap, subst, ◌∙◌, inl, inr, arith, append_assoc, ◌-◌, list_any, sum_by, Text, Status, IfHolds, File, Inputs, EditFault, Edit, Marked, View, Watched, ChangesFile, all_after, FollowsFile, Follows, view_after, AreFit, changes_rows, total_row, page_row, page_rows, all_hits, all_known, Step, does, reports, reports_changes, reports_page, tells_version, is_bad, is_truncated, AreShown, with_margin, status_line, ReportsChanges, RepliesTo, Replies, SearchesAtMost, IsAnswered, AnswersScript, cause, reply_to, IsHeld, bytes_of, has_status, EndsWithStatus, IsOneReply, ReadsChanges, ListsAfter, ListsAfterAll, ArePresent, Took, EditorsFollow, or_parts, All-nil, sum_by-cons}, lemmas.{ReadingLaws.{first_same, rest_same, cut_same, one_reading}, BroughtLaws.{brought, steps_bring}, TextLaws.{Kept, AreAs, ViewsAs, as_all_after, as_view_after, same_views, but_texts}, RowTests.{none_mapped, none_joined, none_changes}, HeldLaws.{IsWithin, within_wider, within_after, within_known, changes_held}}}, grep_session.proofs.lemmas.FitLemmas.{known_fit, zip-length}, grep_live.proofs.lemmas.{CarryLemmas.edits_carry, ListLemmas.three-length}}
 use Rattle.grep_core.specs.Meters.{Steps as StepCounts}
 use Rattle.grep_core.specs.declared.status.Status.TheVariants as status
-use Rattle.grep_session.proofs.lemmas.FitLemmas.{known_fit, zip-length}
-use Rattle.grep_live.proofs.lemmas.CarryLemmas.{edits_carry}
-use Rattle.grep_live.proofs.lemmas.ListLemmas.{three-length}
-use Rattle.grep_cmd.proofs.lemmas.ReadingLaws.{first_same, rest_same, cut_same, one_reading}
-use Rattle.grep_cmd.proofs.lemmas.BroughtLaws.{brought, steps_bring}
-use Rattle.grep_cmd.proofs.lemmas.TextLaws.{Kept, AreAs, ViewsAs, as_all_after, as_view_after, same_views, but_texts}
-use Rattle.grep_cmd.proofs.lemmas.RowTests.{none_mapped, none_joined, none_changes}
-use Rattle.grep_cmd.proofs.lemmas.HeldLaws.{IsWithin, within_wider, within_after, within_known, changes_held}
 
 -- ---- where a reply ends
 

@@ -1,6 +1,5 @@
 -- No line that was handed out has a newline.
-use Rattle.grep_cmd.proofs.Prelude.{ℕ, List, [], ◌∷◌, ◌++◌, All, Option, All-head, All-tail, Text, HasNoNewline, Stage, Open, Ended, Failed, AreHanded, Numbered, HasHanded}
-use Rattle.re_syntax.proofs.lemmas.LinesLaws.{AreLines-lines_of}
+use Rattle.{grep_cmd.proofs.Prelude.{ℕ, List, [], ◌∷◌, ◌++◌, All, Option, All-head, All-tail, Text, HasNoNewline, Stage, Open, Ended, Failed, AreHanded, Numbered, HasHanded}, re_syntax.proofs.lemmas.LinesLaws.AreLines-lines_of}
 
 free_lines : (stage : Stage) (given : Text) (handed : List Text) → AreHanded stage given handed → All HasNoNewline handed
 free_lines Open given handed h = h.1

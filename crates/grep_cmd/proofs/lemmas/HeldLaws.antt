@@ -1,9 +1,5 @@
 -- Where the steps of a script bring few bytes, the numbers of all changes can be held.
-use Rattle.grep_cmd.proofs.Prelude.{◌≡◌, ℕ, zero, suc, ◌+◌, ◌-◌, ◌<◌, ◌≤◌, Bool, true, false, List, [], ◌∷◌, ◌++◌, length, map, take, drop, get_or, All, MatchBool, Result, Ok, Err, refl, sym, ap, subst, inl, inr, arith, length-append, length-set, length-drop, length-take, slice_set, slice_range, remove, splice, Text, Expression, ArePartsFrom, AreParts, Options, File, Inputs, file_at, EditFault, Edit, AddFile, AddMissing, DropFile, Splice, DropPattern, ChangePattern, SetFlag, SetSyntax, SetContext, Applies, EditGives, with_files, spliced, whole_file, missing_file, ListedParts, Marked, Stretch, Fits, AllThree, Hit, HitOf, HitsFrom, Watched, whole_mark, new_mark, mark_at, lost, changes_hits, if◌then◌else◌, IsFit, AreFit, MarksAfter, MarksGiven, Change, AreChanges, ChangesFile, all_known, does, IsHeld, IsHeldPart, IsHeldHit, IsHeldChange, bytes_of, cases_lt, take-take, All-nil, All-cons, All-head, All-tail, All-append, All-set, All-weaker, All-take, All-drop, All-map, All-get_or, sum_by-append, sum_by-cons, sum_by-take-drop, sum_by-take-le, get_or-le-sum_by}
-use Rattle.grep_session.specs.Edits.{AddPatterns}
-use Rattle.grep_live.proofs.lemmas.CarryLemmas.{added_file, added_missing, added_patterns, changed_pattern, context_set, dropped_pattern, file_dropped, option_set, refused_same, splice_accepted, syntax_set}
-use Rattle.grep_cmd.proofs.lemmas.BroughtLaws.{brought}
-use Rattle.grep_cmd.proofs.lemmas.ReadingLaws.{AreHeldChanges}
+use Rattle.{grep_cmd.proofs.{Prelude.{◌≡◌, ℕ, zero, suc, ◌+◌, ◌-◌, ◌<◌, ◌≤◌, Bool, true, false, List, [], ◌∷◌, ◌++◌, length, map, take, drop, get_or, All, MatchBool, Result, Ok, Err, refl, sym, ap, subst, inl, inr, arith, length-append, length-set, length-drop, length-take, slice_set, slice_range, remove, splice, Text, Expression, ArePartsFrom, AreParts, Options, File, Inputs, file_at, EditFault, Edit, AddFile, AddMissing, DropFile, Splice, DropPattern, ChangePattern, SetFlag, SetSyntax, SetContext, Applies, EditGives, with_files, spliced, whole_file, missing_file, ListedParts, Marked, Stretch, Fits, AllThree, Hit, HitOf, HitsFrom, Watched, whole_mark, new_mark, mark_at, lost, changes_hits, if◌then◌else◌, IsFit, AreFit, MarksAfter, MarksGiven, Change, AreChanges, ChangesFile, all_known, does, IsHeld, IsHeldPart, IsHeldHit, IsHeldChange, bytes_of, cases_lt, take-take, All-nil, All-cons, All-head, All-tail, All-append, All-set, All-weaker, All-take, All-drop, All-map, All-get_or, sum_by-append, sum_by-cons, sum_by-take-drop, sum_by-take-le, get_or-le-sum_by}, lemmas.{BroughtLaws.brought, ReadingLaws.AreHeldChanges}}, grep_session.specs.Edits.AddPatterns, grep_live.proofs.lemmas.CarryLemmas.{added_file, added_missing, added_patterns, changed_pattern, context_set, dropped_pattern, file_dropped, option_set, refused_same, splice_accepted, syntax_set}}
 
 get_or_past : {A : Type 0} (xs : List A) (k : ℕ) (d : A) → length xs ≤ k → get_or xs k d ≡ d
 get_or_past [] k d past = refl

@@ -1,6 +1,5 @@
 -- The replies to `changes` and `page`, with the status after them.
-use Rattle.grep_cmd.proofs.Prelude.{Bool, ◌≡◌, ℕ, [], ◌∷◌, ◌++◌, Option, Result, Ok, Err, inl, inr, refl, append-nil, IsErr, Text, Status, Inputs, written, output_line, Writes, Watched, changes_rows, page_lines, WritesChanges, WritesPage, all_known, status_line, LeavesReport, WritesReport, WritesHits}
-use Rattle.grep_session.proofs.lemmas.Writing.{writes_err, writes_after, stops_before}
+use Rattle.{grep_cmd.proofs.Prelude.{Bool, ◌≡◌, ℕ, [], ◌∷◌, ◌++◌, Option, Result, Ok, Err, inl, inr, refl, append-nil, IsErr, Text, Status, Inputs, written, output_line, Writes, Watched, changes_rows, page_lines, WritesChanges, WritesPage, all_known, status_line, LeavesReport, WritesReport, WritesHits}, grep_session.proofs.lemmas.Writing.{writes_err, writes_after, stops_before}}
 
 -- a write failed before what changed counted as reported, or all of it does
 left_before : {T E : Type 0} (before after then : Watched) (r : Result T E) → IsErr r → after ≡ before → LeavesReport before after then r

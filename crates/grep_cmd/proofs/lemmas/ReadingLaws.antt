@@ -1,6 +1,5 @@
 -- The rows of changes are read in one way.
-use Rattle.grep_cmd.proofs.Prelude.{◌≡◌, ℕ, zero, suc, ◌+◌, ◌/◌, ◌%◌, ◌^◌, ◌<◌, ◌≤◌, Bool, true, false, cond, eqb, List, [], ◌∷◌, ◌++◌, length, map, get_or, All, refl, sym, ap, subst, ◌∙◌, inl, inr, arith, append_assoc, append-nil, length-append, pow-suc, lt-ltb, ne_eqb, if◌then◌else◌, decimal, digits_onto, digit_glyph, digits_value, Text, Status, Hit, View, Change, is_idle, spliced_hits, after_each, all_after, spaced, part_text, more_parts, parts_text, flat_map, line_text, hit_row, change_row, change_rows, changes_rows, status_line, IsHeld, IsHeldPart, IsHeldHit, IsHeldChange, read_hit, read_change, cases_lt, decimal_is_IsNumeral_wide, length-decimal-le, All-cons, All-head, All-tail}
-use Rattle.std.specs.Fmt.{digits}
+use Rattle.{grep_cmd.proofs.Prelude.{◌≡◌, ℕ, zero, suc, ◌+◌, ◌/◌, ◌%◌, ◌^◌, ◌<◌, ◌≤◌, Bool, true, false, cond, eqb, List, [], ◌∷◌, ◌++◌, length, map, get_or, All, refl, sym, ap, subst, ◌∙◌, inl, inr, arith, append_assoc, append-nil, length-append, pow-suc, lt-ltb, ne_eqb, if◌then◌else◌, decimal, digits_onto, digit_glyph, digits_value, Text, Status, Hit, View, Change, is_idle, spliced_hits, after_each, all_after, spaced, part_text, more_parts, parts_text, flat_map, line_text, hit_row, change_row, change_rows, changes_rows, status_line, IsHeld, IsHeldPart, IsHeldHit, IsHeldChange, read_hit, read_change, cases_lt, decimal_is_IsNumeral_wide, length-decimal-le, All-cons, All-head, All-tail}, std.specs.Fmt.digits}
 
 -- ---- lists
 

@@ -1,11 +1,7 @@
 -- What is taken and answered for one command of a script.
-use Rattle.grep_cmd.proofs.Prelude.{Bool, ScriptState, ◌≡◌, ◌≢◌, ℕ, ◌<◌, false, List, [], ◌∷◌, ◌++◌, length, min, take, drop, ◌-◌, ◌^◌, Option, Some, None, Result, Ok, Err, IfErr, inl, inr, refl, sym, ap, ◌∙◌, subst, append_assoc, append-nil, codes, arith, list_any, Text, Status, Inputs, written, GoesOut, Numbered, HasHanded, EditFault, Edit, EditGives, MarksGiven, ScriptFault, Read, Write, Memory, Answer, Accepted, Truncated, Watched, changes_rows, total_row, page_row, page_rows, all_hits, AreShown, with_margin, status_line, all_known, LeavesReport, ReportsChanges, ReportsPage, Step, does, counts, Command, IsStep, line_command, RepliesTo, SearchesAtMost, reply_to, truncated, is_refusal, ReadsNext, TakesLines, FlushesFor, Replied, DoesStep, AnswersLine, answer_for, was_refused}
+use Rattle.{grep_cmd.proofs.{Prelude.{Bool, ScriptState, ◌≡◌, ◌≢◌, ℕ, ◌<◌, false, List, [], ◌∷◌, ◌++◌, length, min, take, drop, ◌-◌, ◌^◌, Option, Some, None, Result, Ok, Err, IfErr, inl, inr, refl, sym, ap, ◌∙◌, subst, append_assoc, append-nil, codes, arith, list_any, Text, Status, Inputs, written, GoesOut, Numbered, HasHanded, EditFault, Edit, EditGives, MarksGiven, ScriptFault, Read, Write, Memory, Answer, Accepted, Truncated, Watched, changes_rows, total_row, page_row, page_rows, all_hits, AreShown, with_margin, status_line, all_known, LeavesReport, ReportsChanges, ReportsPage, Step, does, counts, Command, IsStep, line_command, RepliesTo, SearchesAtMost, reply_to, truncated, is_refusal, ReadsNext, TakesLines, FlushesFor, Replied, DoesStep, AnswersLine, answer_for, was_refused}, lemmas.RowTests.{none_mapped, none_joined, none_changes}}, grep_core.proofs.lemmas.RowLemmas.{goes_on, stops_later}, re_meter.proofs.lemmas.Adding.adds_none, grep_session.specs.Touched.{NeedsNoMemory, TakesSteps}}
 use Rattle.grep_core.specs.declared.status.Status.TheVariants as status
 use Rattle.grep_core.specs.Meters.{Steps as StepCounts}
-use Rattle.grep_core.proofs.lemmas.RowLemmas.{goes_on, stops_later}
-use Rattle.re_meter.proofs.lemmas.Adding.{adds_none}
-use Rattle.grep_cmd.proofs.lemmas.RowTests.{none_mapped, none_joined, none_changes}
-use Rattle.grep_session.specs.Touched.{NeedsNoMemory, TakesSteps}
 use Rattle.grep_session.specs.declared.fault.EditFault.TheVariants as fault
 
 -- ---- refusals

@@ -1,15 +1,6 @@
 -- How a run of a script continues and ends.
-use Rattle.grep_cmd.proofs.Prelude.{◌≡◌, ◌⊎◌, ℕ, ◌+◌, ◌<◌, ◌≤◌, true, false, List, [], ◌∷◌, ◌++◌, length, Option, Result, Ok, Err, arith, inl, inr, refl, sym, ap, ◌∙◌, subst, append_assoc, append-nil, length-append, list_any, Text, HasNoNewline, lines_of, File, Ending, whole, broken, written, file_of, most_lines, GoesOut, StopsWithin, Numbered, HasHanded, StandsAs, AreHanded, IsOneLineAndFew, Stage, Open, Ended, Failed, ScriptState, ScriptFault, Read, Write, Memory, ScriptEnd, Clean, is_truncated, IsBegun, truncated, is_refusal, end_for, AnswersScript, ReadsScript, BeginsScript, GaveLines, AddsAtMost, Replies, ScriptGives, IsUpToReport, HasRead, ReadsNext, FlushesFor, FlushesAfter, DoesStep, WantsLines, AnswersLine, AnsweredSoFar}
-use Rattle.re_syntax.proofs.lemmas.LinesLaws.{lines_of-terminated}
+use Rattle.{grep_cmd.{proofs.{Prelude.{◌≡◌, ◌⊎◌, ℕ, ◌+◌, ◌<◌, ◌≤◌, true, false, List, [], ◌∷◌, ◌++◌, length, Option, Result, Ok, Err, arith, inl, inr, refl, sym, ap, ◌∙◌, subst, append_assoc, append-nil, length-append, list_any, Text, HasNoNewline, lines_of, File, Ending, whole, broken, written, file_of, most_lines, GoesOut, StopsWithin, Numbered, HasHanded, StandsAs, AreHanded, IsOneLineAndFew, Stage, Open, Ended, Failed, ScriptState, ScriptFault, Read, Write, Memory, ScriptEnd, Clean, is_truncated, IsBegun, truncated, is_refusal, end_for, AnswersScript, ReadsScript, BeginsScript, GaveLines, AddsAtMost, Replies, ScriptGives, IsUpToReport, HasRead, ReadsNext, FlushesFor, FlushesAfter, DoesStep, WantsLines, AnswersLine, AnsweredSoFar}, lemmas.ScriptSteps.{done_push, done_steps, done_alone, replies_push, end_kept, end_refused, all_but_last, all_before}}, specs.declared.script.ScriptEnd.TheVariants.Refused}, re_syntax.proofs.lemmas.LinesLaws.lines_of-terminated, re_meter.proofs.lemmas.Adding.{adds_none, adds_both}, grep_core.proofs.lemmas.{HandedLemmas.begins_with, NumberedLemmas.has_handed_none, RowLemmas.{goes_nowhere, goes_on}, WriterLaws.written-append}, std.proofs.KnownBytes.Appends-trans}
 use Rattle.grep_core.specs.Meters.{Steps as StepCounts}
-use Rattle.re_meter.proofs.lemmas.Adding.{adds_none, adds_both}
-use Rattle.grep_core.proofs.lemmas.HandedLemmas.{begins_with}
-use Rattle.grep_core.proofs.lemmas.NumberedLemmas.{has_handed_none}
-use Rattle.std.proofs.KnownBytes.{Appends-trans}
-use Rattle.grep_core.proofs.lemmas.RowLemmas.{goes_nowhere, goes_on}
-use Rattle.grep_core.proofs.lemmas.WriterLaws.{written-append}
-use Rattle.grep_cmd.specs.declared.script.ScriptEnd.TheVariants.{Refused}
-use Rattle.grep_cmd.proofs.lemmas.ScriptSteps.{done_push, done_steps, done_alone, replies_push, end_kept, end_refused, all_but_last, all_before}
 
 abbrev script_of : List Text → Ending → File
 script_of lines ending = record { name = []; lines = lines; ending = ending }

@@ -1,7 +1,5 @@
 -- The steps of a script, and the replies to them, one more at a time.
-use Rattle.grep_cmd.proofs.Prelude.{◌≡◌, ℕ, ◌+◌, true, false, ◌||◌, if◌then◌else◌, List, [], ◌∷◌, ◌++◌, inl, refl, sym, ap, ◌∙◌, subst, append_assoc, append-nil, arith, or_right, list_any-append, list_any, length-append, length-drop, take_at, Text, Ending, written, ScriptState, Clean, Step, IsStep, line_command, Steps, RepliesTo, Replies, HasAllButLast, SearchesAtMost, is_refusal, end_for, AreDone}
-use Rattle.grep_core.proofs.lemmas.WriterLaws.{written-append}
-use Rattle.grep_cmd.specs.declared.script.ScriptEnd.TheVariants.{Refused}
+use Rattle.{grep_cmd.{proofs.Prelude.{◌≡◌, ℕ, ◌+◌, true, false, ◌||◌, if◌then◌else◌, List, [], ◌∷◌, ◌++◌, inl, refl, sym, ap, ◌∙◌, subst, append_assoc, append-nil, arith, or_right, list_any-append, list_any, length-append, length-drop, take_at, Text, Ending, written, ScriptState, Clean, Step, IsStep, line_command, Steps, RepliesTo, Replies, HasAllButLast, SearchesAtMost, is_refusal, end_for, AreDone}, specs.declared.script.ScriptEnd.TheVariants.Refused}, grep_core.proofs.lemmas.WriterLaws.written-append}
 
 -- one more step
 pub done_push : (lines : List Text) (steps : List Step) (line : Text) (taken : List Text) (step : Step) → AreDone lines steps → IsStep (line_command line) taken step

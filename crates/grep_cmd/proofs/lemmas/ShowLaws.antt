@@ -1,9 +1,5 @@
 -- What is shown is the output, the messages and the status, one after another.
-use Rattle.grep_cmd.proofs.Prelude.{◌≡◌, ℕ, List, [], ◌∷◌, ◌++◌, codes, Option, Result, refl, ◌∙◌, append-nil, IsErr, Text, Status, Inputs, written, output_line, GoesOut, StopsWithin, Writes, GrepGives, ReportsAllInputs, status_line, with_margin, Shows}
-use Rattle.grep_core.proofs.lemmas.RowLemmas.{stops_early, stops_later, writes_last}
-use Rattle.grep_core.proofs.lemmas.WriterLaws.{written-append}
-use Rattle.grep_session.proofs.lemmas.HeadlineLaws.{one_report}
-use Rattle.grep_session.proofs.lemmas.Writing.{writes_err}
+use Rattle.{grep_cmd.proofs.Prelude.{◌≡◌, ℕ, List, [], ◌∷◌, ◌++◌, codes, Option, Result, refl, ◌∙◌, append-nil, IsErr, Text, Status, Inputs, written, output_line, GoesOut, StopsWithin, Writes, GrepGives, ReportsAllInputs, status_line, with_margin, Shows}, grep_core.proofs.lemmas.{RowLemmas.{stops_early, stops_later, writes_last}, WriterLaws.written-append}, grep_session.proofs.lemmas.{HeadlineLaws.one_report, Writing.writes_err}}
 
 -- a margin is as good as a beginning of each line
 with_margin-written : (margin : Text) (text : List Text) → written [] (with_margin margin text) ≡ written margin text

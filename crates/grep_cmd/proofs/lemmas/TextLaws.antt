@@ -1,9 +1,5 @@
 -- Lists of hits that are others, but that some may lack their text.
-use Rattle.grep_cmd.proofs.Prelude.{◌≡◌, ℕ, ◌+◌, Bool, true, false, true≢false, cond, List, [], ◌∷◌, map, if◌then◌else◌, refl, sym, ap, subst, inl, inr, nat_lt, nat_le, ◌⊎◌, AllZip, filter, Hit, View, Change, after, after_each, all_after, moved, is_idle, spliced_hits, view_after, Edit, AddFile, AddMissing, DropFile, Splice, ChangePattern, DropPattern, SetFlag, SetSyntax, SetContext, read_hit, read_change, MayLackText, AreButTexts}
-use Rattle.grep_session.specs.Edits.{AddPatterns}
-use Rattle.grep_core.proofs.lemmas.MatcherLemmas.{AllZip-append}
-use Rattle.grep_session.proofs.lemmas.DroppingLemmas.{AllZip-remove}
-use Rattle.std.proofs.lemmas.List.Elements.{same_from_all_zip}
+use Rattle.{grep_cmd.proofs.Prelude.{◌≡◌, ℕ, ◌+◌, Bool, true, false, true≢false, cond, List, [], ◌∷◌, map, if◌then◌else◌, refl, sym, ap, subst, inl, inr, nat_lt, nat_le, ◌⊎◌, AllZip, filter, Hit, View, Change, after, after_each, all_after, moved, is_idle, spliced_hits, view_after, Edit, AddFile, AddMissing, DropFile, Splice, ChangePattern, DropPattern, SetFlag, SetSyntax, SetContext, read_hit, read_change, MayLackText, AreButTexts}, grep_session.{specs.Edits.AddPatterns, proofs.lemmas.DroppingLemmas.AllZip-remove}, grep_core.proofs.lemmas.MatcherLemmas.AllZip-append, std.proofs.lemmas.List.Elements.same_from_all_zip}
 
 zip_weaker : {A B : Type 0} (R S : A → B → Type 0) → ((x : A) (y : B) → R x y → S x y) → (xs : List A) (ys : List B) → AllZip R xs ys → AllZip S xs ys
 zip_weaker R S step [] [] all = tt

@@ -1,20 +1,17 @@
 -- How a script is answered, one command after the other.
-use Rattle.std.specs.Prelude.{◌≡◌, ℕ, ◌<◌, ◌≤◌, Bool, true, false, List, [], ◌∷◌, ◌++◌, length}
-use Rattle.std.specs.Prelude.{Option, Some, None, Result, Ok, Err, ◌⊎◌}
-use Rattle.std.specs.List.{list_any}
-use Rattle.re_syntax.specs.Bytes.{Text}
-use Rattle.grep_core.specs.Working.Numbered.{Numbered, HasHanded, StandsAs}
-use Rattle.grep_core.specs.{Files.Ending, Files.whole, Files.broken, Meters.AddsAtMost}
-use Rattle.grep_core.specs.{Meters.Steps as StepCounts, Output.written, Written.GoesOut}
-use Rattle.grep_core.specs.{Written.StopsWithin, Reading.IsOneLineAndFew}
-use Rattle.grep_session.specs.{declared.fault.EditFault.EditFault, Marks.Watched}
-use Rattle.grep_cmd.specs.declared.script.ScriptFault.TheVariants.{Read, Write, Memory}
-use Rattle.grep_cmd.specs.declared.script.reply.Answer.TheVariants.{Accepted, Refused, Truncated}
-use Rattle.grep_cmd.specs.Replies.{RepliesTo, Replies, SearchesAtMost, truncated, is_refusal}
-use Rattle.grep_cmd.specs.Replies.{end_for, ScriptState, IsUpToReport}
-use Rattle.grep_cmd.specs.declared.script.ScriptFault.{ScriptFault}
-use Rattle.grep_cmd.specs.{declared.script.ScriptEnd.ScriptEnd, declared.script.reply.Answer.Answer}
-use Rattle.grep_cmd.specs.{Script.Step, Script.IsStep, Script.WantsMore}
+use Rattle.std.specs.Prelude.{None, ◌≡◌, Some, ◌∷◌, ◌++◌, Err, Bool, false, ℕ, Result, ◌⊎◌, []}
+use Rattle.std.specs.{Prelude.{Option, true, Ok, List, ◌≤◌, ◌<◌, length}, List.list_any}
+use Rattle.{re_syntax.specs.Bytes.Text, grep_core.specs.Meters.{Steps as StepCounts, AddsAtMost}}
+use Rattle.grep_core.specs.{Files.{Ending, whole, broken}, Output.written}
+use Rattle.grep_core.specs.Working.Numbered.{Numbered, StandsAs, HasHanded}
+use Rattle.grep_core.specs.{Reading.IsOneLineAndFew, Written.{GoesOut, StopsWithin}}
+use Rattle.grep_session.specs.{Marks.Watched, declared.fault.EditFault.EditFault}
+use Rattle.grep_cmd.specs.Replies.{ScriptState, SearchesAtMost, truncated, IsUpToReport, is_refusal}
+use Rattle.grep_cmd.specs.{Replies.{Replies, end_for, RepliesTo}, Script.{WantsMore, IsStep, Step}}
+use Rattle.grep_cmd.specs.declared.script.ScriptFault.TheVariants.{Read, Memory, Write}
+use Rattle.grep_cmd.specs.declared.script.{ScriptFault.ScriptFault, reply.Answer.Answer}
+use Rattle.grep_cmd.specs.declared.script.reply.Answer.TheVariants.{Truncated, Accepted, Refused}
+use Rattle.grep_cmd.specs.declared.script.ScriptEnd.{ScriptEnd}
 use Rattle.script_commands.specs.Commands.{AsksForMemory, line_command}
 
 -- the state of a script by its session and its flag

@@ -1,8 +1,7 @@
 -- How the replies to `changes` and `page` are written.
 use Rattle.std.specs.Prelude.{◌≡◌, ℕ, List, [], Option, Result, MatchResult, ◌⊎◌, Bool}
-use Rattle.re_syntax.specs.Bytes.{Text}
-use Rattle.grep_core.specs.{Files.Inputs, Output.written, Written.Writes}
-use Rattle.grep_session.specs.Marks.{Watched}
+use Rattle.{re_syntax.specs.Bytes.Text, grep_core.specs.{Files.Inputs, Output.written}}
+use Rattle.{grep_core.specs.Written.Writes, grep_session.specs.Marks.Watched}
 use Rattle.grep_cmd.specs.Replies.{ReportsChanges, ReportsPage}
 
 -- what changed counts as reported; where a write failed it may still be to report

@@ -1,21 +1,17 @@
 //! How a command is done and answered.
-ghost use Rattle.std.specs.Prelude.{◌≡◌, ◌≢◌, List, [], ◌∷◌, Some, IfOk, IfErr, map, Bool, codes};
-ghost use Rattle.re_syntax.specs.Bytes.{Text};
-ghost use Rattle.re_syntax.specs.Lines.{joined};
-ghost use Rattle.grep_core.specs.Reading.{IsOneLineAndFew};
-ghost use Rattle.grep_core.specs.Working.Numbered.{HasHanded};
-ghost use Rattle.grep_session.specs.declared.fault.EditFault.TheVariants.{Memory};
-ghost use Rattle.grep_session.specs.Edits.{EditGives};
+ghost use Rattle.std.specs.Prelude.{IfOk, [], IfErr, ◌∷◌, codes, Bool, Some, List, ◌≡◌, map, ◌≢◌};
+ghost use Rattle.re_syntax.specs.{Bytes.Text, Lines.joined};
+ghost use Rattle.grep_core.specs.{Working.Numbered.HasHanded, Reading.IsOneLineAndFew};
 ghost use Rattle.grep_session.specs.Touched.{NeedsNoMemory, TakesSteps};
-ghost use Rattle.script_commands.specs.declared.command.CountedEdit.{CountedEdit};
-ghost use Rattle.script_commands.specs.Commands.{line_command, counts};
-ghost use Rattle.script_commands.specs.Working.ReadCommands.{line_meant, pattern_meant};
-ghost use Rattle.script_commands.specs.Working.ReadCommands.{counted_meant};
-ghost use Rattle.grep_cmd.specs.declared.script.reply.Answer.{Answer};
-ghost use Rattle.grep_cmd.specs.Working.Reported.{LeavesReport};
+ghost use Rattle.grep_session.specs.{declared.fault.EditFault.TheVariants.Memory, Edits.EditGives};
 ghost use Rattle.grep_session.specs.Marks.{MarksGiven, Watched};
-ghost use Rattle.grep_cmd.specs.Replies.{AreShown, ReportsChanges, ReportsPage, reply_to, version_line};
+ghost use Rattle.script_commands.specs.{declared.command.CountedEdit.CountedEdit, Commands.counts};
+ghost use Rattle.script_commands.specs.{Commands.line_command, Working.ReadCommands.line_meant};
+ghost use Rattle.script_commands.specs.Working.ReadCommands.{pattern_meant, counted_meant};
+ghost use Rattle.grep_cmd.specs.Replies.{AreShown, ReportsChanges, ReportsPage, reply_to};
+ghost use Rattle.grep_cmd.specs.{Replies.version_line, Working.Reported.LeavesReport};
 ghost use Rattle.grep_cmd.specs.Working.Answered.{AnswersLine, Replied, answer_for, state_of};
+ghost use Rattle.grep_cmd.specs.declared.script.reply.Answer.{Answer};
 
 use crate::reports::{show, show_changes, show_page};
 use crate::script::counted::take_lines;

@@ -1,7 +1,6 @@
 //! The lines of a script that a command counts.
 ghost use Rattle.std.specs.Prelude.{◌≡◌, List};
-ghost use Rattle.re_syntax.specs.Bytes.{Text};
-ghost use Rattle.grep_core.specs.Reading.{IsOneLineAndFew};
+ghost use Rattle.{re_syntax.specs.Bytes.Text, grep_core.specs.Reading.IsOneLineAndFew};
 ghost use Rattle.grep_core.specs.Working.Numbered.{HasHanded};
 ghost use Rattle.grep_cmd.specs.Working.Answered.{ReadsNext, TakesLines, Flushes};
 

@@ -1,8 +1,7 @@
 //! The lines of a script that are patterns.
 ghost use Rattle.std.specs.Prelude.{◌≡◌, [], ◌∷◌, ◌++◌, List, IfOk, map, option_map};
 ghost use Rattle.std.specs.Result.{result_map_both};
-ghost use Rattle.re_syntax.specs.Bytes.{Text};
-ghost use Rattle.grep_core.specs.Reading.{IsOneLineAndFew};
+ghost use Rattle.{re_syntax.specs.Bytes.Text, grep_core.specs.Reading.IsOneLineAndFew};
 ghost use Rattle.grep_core.specs.Working.Numbered.{HasHanded};
 ghost use Rattle.grep_cmd.specs.Working.Answered.{TakesLines, Flushes};
 

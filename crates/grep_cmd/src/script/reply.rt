@@ -1,9 +1,7 @@
 //! The replies to commands.
 ghost use Rattle.std.specs.Prelude.{◌≡◌, [], IfOk};
-ghost use Rattle.grep_core.specs.Row.{output_line};
-ghost use Rattle.grep_core.specs.Written.{Writes};
-ghost use Rattle.grep_cmd.specs.Replies.{cause, refused_for, reply_to};
-ghost use Rattle.grep_cmd.specs.Working.Answered.{answer_for};
+ghost use Rattle.{grep_core.specs.{Row.output_line, Written.Writes}, grep_cmd.specs.Replies.cause};
+ghost use Rattle.grep_cmd.specs.{Replies.{refused_for, reply_to}, Working.Answered.answer_for};
 
 use grep_core::{CountedWrite, WriteFault, write_line};
 use grep_session::EditFault;

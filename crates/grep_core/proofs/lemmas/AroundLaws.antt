@@ -1,9 +1,6 @@
 -- The lines around selected ones: which are shown is decided, a file has one output of them, and
 -- none exactly where no line is selected.
-use Rattle.grep_core.proofs.Prelude.{◌≡◌, ℕ, zero, suc, ◌+◌, ◌<◌, ◌≤◌, List, [], ◌∷◌, ◌++◌, length, get_or, Option, Any, inl, inr, refl, sym, ap, ◌∙◌, arith, enumerate_from, Text, Expression, Context, Options, EachGives, Selected, group_separator, IsShown, BeginsGroup, IsRow, Shows, Groups, dec_le, map_dec}
-use Rattle.re_syntax.proofs.lemmas.Decisions.{dec_not, dec_both, dec_below, Any-none, Any-first, Any-later, Any-cases}
-use Rattle.grep_core.proofs.lemmas.ChooseLaws.{same_value, IfHolds-both, IfHolds-exist, EachGives-determined, EachGives-exist, EachGives-nothing}
-use Rattle.grep_core.proofs.lemmas.Decided.{dec_selected}
+use Rattle.{grep_core.proofs.{Prelude.{◌≡◌, ℕ, zero, suc, ◌+◌, ◌<◌, ◌≤◌, List, [], ◌∷◌, ◌++◌, length, get_or, Option, Any, inl, inr, refl, sym, ap, ◌∙◌, arith, enumerate_from, Text, Expression, Context, Options, EachGives, Selected, group_separator, IsShown, BeginsGroup, IsRow, Shows, Groups, dec_le, map_dec}, lemmas.{ChooseLaws.{same_value, IfHolds-both, IfHolds-exist, EachGives-determined, EachGives-exist, EachGives-nothing}, Decided.dec_selected}}, re_syntax.proofs.lemmas.Decisions.{dec_not, dec_both, dec_below, Any-none, Any-first, Any-later, Any-cases}}
 
 -- ---- places in a list
 

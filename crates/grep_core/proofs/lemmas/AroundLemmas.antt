@@ -1,13 +1,6 @@
 -- A search that shows lines around selected ones: what is written of a file's first lines, one more
 -- line at a time.
-use Rattle.grep_core.proofs.Prelude.{AreUnselected, ◌≡◌, ℕ, ◌+◌, ◌-◌, ◌<◌, ◌≤◌, ◌⊎◌, ◌↔◌, Bool, true, false, ◌&&◌, ◌||◌, IsTrue, Decides, List, [], ◌∷◌, ◌++◌, length, take, drop, inl, inr, refl, sym, ap, subst, ◌∙◌, append_assoc, arith, if◌then◌else◌, enumerate_from, Text, Expression, Context, Options, Progress, EachGives, Selected, group_separator, IsShown, BeginsGroup, Groups, around, shown_number, name_shown, rows_after, progress_from, next_shown, with_waiting, after_line, last_of, rows_around, row_by, rows_at, min-eq_left, min-eq_right, cases_lt, false≢true, lt-ltb, le-ltb, or_right, false_from_ne_true, length-append, length-take-le, length-drop, append-nil, take-append-drop, drop_at, All-nil, All-cons, All-append, All-drop}
-use Rattle.grep_core.proofs.lemmas.ChooseLaws.{EachGives-append}
-use Rattle.grep_core.proofs.lemmas.Decided.{dec_selected}
-use Rattle.grep_core.proofs.lemmas.Verdicts.{decided_yes, decided_no}
-use Rattle.grep_core.proofs.lemmas.MoreLines.{enumerate_from-append}
-use Rattle.grep_core.proofs.lemmas.ShownLemmas.{EachGives-placed, EachGives-placed_nothing, shown_more, shown_passed, shown_cases, shown_near, begins_from, begins_at, begins_same, shows_same}
-use Rattle.grep_core.proofs.lemmas.GroupLaws.{after_nothing}
-use Rattle.grep_core.proofs.lemmas.GroupLemmas.{after_group, said_before, more_nonempty, Given, groups_grown}
+use Rattle.grep_core.proofs.{Prelude.{AreUnselected, ◌≡◌, ℕ, ◌+◌, ◌-◌, ◌<◌, ◌≤◌, ◌⊎◌, ◌↔◌, Bool, true, false, ◌&&◌, ◌||◌, IsTrue, Decides, List, [], ◌∷◌, ◌++◌, length, take, drop, inl, inr, refl, sym, ap, subst, ◌∙◌, append_assoc, arith, if◌then◌else◌, enumerate_from, Text, Expression, Context, Options, Progress, EachGives, Selected, group_separator, IsShown, BeginsGroup, Groups, around, shown_number, name_shown, rows_after, progress_from, next_shown, with_waiting, after_line, last_of, rows_around, row_by, rows_at, min-eq_left, min-eq_right, cases_lt, false≢true, lt-ltb, le-ltb, or_right, false_from_ne_true, length-append, length-take-le, length-drop, append-nil, take-append-drop, drop_at, All-nil, All-cons, All-append, All-drop}, lemmas.{ChooseLaws.EachGives-append, Decided.dec_selected, Verdicts.{decided_yes, decided_no}, MoreLines.enumerate_from-append, ShownLemmas.{EachGives-placed, EachGives-placed_nothing, shown_more, shown_passed, shown_cases, shown_near, begins_from, begins_at, begins_same, shows_same}, GroupLaws.after_nothing, GroupLemmas.{after_group, said_before, more_nonempty, Given, groups_grown}}}
 
 module _ (es : List Expression) (options : Options) (many : Bool) (name : Text) (context : Context) (before : Bool) where
   -- the search is at this progress after these lines, and these rows of them are written; `before`

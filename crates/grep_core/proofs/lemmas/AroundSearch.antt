@@ -1,17 +1,6 @@
 -- A search of the lines of an open source, with lines around the selected ones, one more line at a
 -- time.
-use Rattle.grep_core.proofs.Prelude.{◌≡◌, ℕ, ◌+◌, ◌≤◌, Bool, IsTrue, Decides, List, [], ◌∷◌, ◌++◌, Option, Err, length, refl, sym, ap, ◌∙◌, append-nil, inl, inr, arith, if◌then◌else◌, length-append, Text, Expression, Options, Context, Progress, Open, SearchFault, Selected, around, form, GroupsOf, IsOneLineAndFew, Writer, TakesAll, SearchesLines, LastLines, Numbered, HasHanded, AreUnselected, Waits, progress_from, next_shown, after_line, last_of, rows_at, leaves_early, ShowStops}
-use Rattle.re_search.specs.Meters.{Steps}
-use Rattle.grep_core.specs.declared.status.SearchFault.TheVariants.{Write, Memory}
-use Rattle.grep_core.proofs.lemmas.AroundLemmas.{Tracks, tracks_none, tracks_line, tracks_passed, tracked_groups, tracks_further}
-use Rattle.grep_core.proofs.lemmas.CostLaws.{searched_more_lines}
-use Rattle.grep_core.proofs.lemmas.ChooseLaws.{EachGives-one}
-use Rattle.grep_core.proofs.lemmas.FileOutput.{file_is}
-use Rattle.grep_core.proofs.lemmas.BlockLines.{last_of-many}
-use Rattle.grep_io.proofs.lemmas.HandedLemmas.{has_read}
-use Rattle.grep_core.proofs.lemmas.LinesLemmas.{early_form, WrittenOf, WritesLines, writes_more, stops_among, stops_after, breaks_adding, chosen_on, SearchedSoFar, GivesOn, begins, searched_none, searched_sent, number, at_most}
-use Rattle.grep_io.proofs.lemmas.FileLaws.{file_with}
-use Rattle.grep_core.proofs.lemmas.WaitingRows.{WaitsNot, waits_not_next, held_next, length-last_of}
+use Rattle.{grep_core.{proofs.{Prelude.{◌≡◌, ℕ, ◌+◌, ◌≤◌, Bool, IsTrue, Decides, List, [], ◌∷◌, ◌++◌, Option, Err, length, refl, sym, ap, ◌∙◌, append-nil, inl, inr, arith, if◌then◌else◌, length-append, Text, Expression, Options, Context, Progress, Open, SearchFault, Selected, around, form, GroupsOf, IsOneLineAndFew, Writer, TakesAll, SearchesLines, LastLines, Numbered, HasHanded, AreUnselected, Waits, progress_from, next_shown, after_line, last_of, rows_at, leaves_early, ShowStops}, lemmas.{AroundLemmas.{Tracks, tracks_none, tracks_line, tracks_passed, tracked_groups, tracks_further}, CostLaws.searched_more_lines, ChooseLaws.EachGives-one, FileOutput.file_is, BlockLines.last_of-many, LinesLemmas.{early_form, WrittenOf, WritesLines, writes_more, stops_among, stops_after, breaks_adding, chosen_on, SearchedSoFar, GivesOn, begins, searched_none, searched_sent, number, at_most}, WaitingRows.{WaitsNot, waits_not_next, held_next, length-last_of}}}, specs.declared.status.SearchFault.TheVariants.{Write, Memory}}, re_search.specs.Meters.Steps, grep_io.proofs.lemmas.{HandedLemmas.has_read, FileLaws.file_with}}
 
 -- ---- the turns of the search
 

@@ -1,9 +1,6 @@
 -- The last lines of a block: where they begin, and that no others need be held after lines that
 -- are.
-use Rattle.grep_core.proofs.Prelude.{◌≡◌, ◌≢◌, ℕ, ◌+◌, ◌-◌, ◌<◌, ◌≤◌, min, inl, inr, List, [], ◌∷◌, ◌++◌, All, length, take, drop, get_or, refl, sym, ap, ◌∙◌, arith, length-append, append_assoc, append-nil, take-append-drop, take-append_seam, drop-append_seam, cases_lt, length-take, length-drop, get_or-drop, get_or_append_left, get_or-append-add, drop-drop, drop-append-le, take_more, take_all, All-drop, Text, newline, terminated, lines_of, HasNoNewline, IsBlock, LastLines, with_lines, last_of}
-use Rattle.re_syntax.proofs.lemmas.LinesLaws.{lines_of-terminated, terminated-append}
-use Rattle.grep_io.proofs.lemmas.WindowBlocks.{ends_in_newline, drop_past}
-use Rattle.grep_core.proofs.lemmas.WaitingRows.{length-last_of}
+use Rattle.{grep_core.proofs.{Prelude.{◌≡◌, ◌≢◌, ℕ, ◌+◌, ◌-◌, ◌<◌, ◌≤◌, min, inl, inr, List, [], ◌∷◌, ◌++◌, All, length, take, drop, get_or, refl, sym, ap, ◌∙◌, arith, length-append, append_assoc, append-nil, take-append-drop, take-append_seam, drop-append_seam, cases_lt, length-take, length-drop, get_or-drop, get_or_append_left, get_or-append-add, drop-drop, drop-append-le, take_more, take_all, All-drop, Text, newline, terminated, lines_of, HasNoNewline, IsBlock, LastLines, with_lines, last_of}, lemmas.WaitingRows.length-last_of}, re_syntax.proofs.lemmas.LinesLaws.{lines_of-terminated, terminated-append}, grep_io.proofs.lemmas.WindowBlocks.{ends_in_newline, drop_past}}
 
 -- ---- the last of some lines
 

@@ -1,8 +1,5 @@
 -- Costs that are added up.
-use Rattle.grep_core.proofs.Prelude.{◌≡◌, ℕ, ◌+◌, ◌*◌, ◌≤◌, List, [], ◌∷◌, ◌++◌, length, map, sym, ap, ◌∙◌, arith, length-append, mul-le-mul_right, length-map, sum_by-append, sum_by-cons, sum_by_push, AddsAtMost, Text, Expression, newline, terminated, Options, File, parts, form, search_cost, parts_cost, line_cost, lines_cost, files_cost, SearchesLines, SearchesFiles}
-use Rattle.re_meter.specs.Meters.{Steps}
-use Rattle.re_meter.proofs.lemmas.Adding.{adds_none, adds_within, adds_both}
-use Rattle.re_syntax.proofs.lemmas.LinesLaws.{terminated-append}
+use Rattle.{grep_core.proofs.Prelude.{◌≡◌, ℕ, ◌+◌, ◌*◌, ◌≤◌, List, [], ◌∷◌, ◌++◌, length, map, sym, ap, ◌∙◌, arith, length-append, mul-le-mul_right, length-map, sum_by-append, sum_by-cons, sum_by_push, AddsAtMost, Text, Expression, newline, terminated, Options, File, parts, form, search_cost, parts_cost, line_cost, lines_cost, files_cost, SearchesLines, SearchesFiles}, re_meter.{specs.Meters.Steps, proofs.lemmas.Adding.{adds_none, adds_within, adds_both}}, re_syntax.proofs.lemmas.LinesLaws.terminated-append}
 
 -- what is at most a cost is at most a greater one
 pub cost_within : (few most : ℕ) {old new : Steps} → few ≤ most → AddsAtMost few old new → AddsAtMost most old new

@@ -1,7 +1,5 @@
 -- Whether a line is selected, and whether a file's fault is met, is decided.
-use Rattle.grep_core.proofs.Prelude.{Bool, true, false, ◌||◌, IsTrue, List, refl, Text, Expression, Options, File, Ending, whole, missing, broken, Matched, Selected, HasSelected, FaultMet, FaultMetBy, AnySelected, false≢true}
-use Rattle.re_syntax.proofs.lemmas.Decisions.{dec_not, dec_both, dec_any, dec_IsTrue, dec_MatchBool}
-use Rattle.re_syntax.proofs.lemmas.HoldsDecided.{dec_matches}
+use Rattle.{grep_core.proofs.Prelude.{Bool, true, false, ◌||◌, IsTrue, List, refl, Text, Expression, Options, File, Ending, whole, missing, broken, Matched, Selected, HasSelected, FaultMet, FaultMetBy, AnySelected, false≢true}, re_syntax.proofs.lemmas.{Decisions.{dec_not, dec_both, dec_any, dec_IsTrue, dec_MatchBool}, HoldsDecided.dec_matches}}
 
 module _ (es : List Expression) (options : Options) where
   -- whether some expression matches a line is decided

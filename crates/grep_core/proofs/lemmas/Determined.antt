@@ -1,9 +1,6 @@
 -- The output, the messages and the status are determined by the expressions, the options and the
 -- files.
-use Rattle.grep_core.proofs.Prelude.{◌≡◌, ℕ, Bool, true, false, List, [], ◌∷◌, ◌++◌, sym, ap, ◌∙◌, length, map, drop, slice_range, MatchBool, decimal, Text, Expression, Options, Status, colon, prefix, EachGives, File, Ending, whole, missing, broken, Form, nothing, names, counts, parts, lines, around, shown_name, shown_number, head_of, CountOf, RowsOf, PartRowsOf, PartsOfLine, GroupsOf, OutAs, Out, Reached, Message, Messages, StatusOf}
-use Rattle.re_syntax.proofs.lemmas.PartsLaws.{ArePartsFrom-unique}
-use Rattle.grep_core.proofs.lemmas.ChooseLaws.{same_value, IfHolds-both, EachGives-determined, Chosen-determined}
-use Rattle.grep_core.proofs.lemmas.AroundLaws.{Groups-determined}
+use Rattle.{grep_core.proofs.{Prelude.{◌≡◌, ℕ, Bool, true, false, List, [], ◌∷◌, ◌++◌, sym, ap, ◌∙◌, length, map, drop, slice_range, MatchBool, decimal, Text, Expression, Options, Status, colon, prefix, EachGives, File, Ending, whole, missing, broken, Form, nothing, names, counts, parts, lines, around, shown_name, shown_number, head_of, CountOf, RowsOf, PartRowsOf, PartsOfLine, GroupsOf, OutAs, Out, Reached, Message, Messages, StatusOf}, lemmas.{ChooseLaws.{same_value, IfHolds-both, EachGives-determined, Chosen-determined}, AroundLaws.Groups-determined}}, re_syntax.proofs.lemmas.PartsLaws.ArePartsFrom-unique}
 
 module _ (es : List Expression) (options : Options) (many : Bool) where
   -- a file has at most one count

@@ -1,11 +1,6 @@
 -- All expressions, options and files have their output, their messages and their status.
-use Rattle.grep_core.proofs.Prelude.{◌≡◌, ℕ, Bool, true, false, IsTrue, List, [], ◌∷◌, ◌++◌, inl, inr, refl, length, map, drop, slice_range, MatchBool, Any, decimal, Text, Expression, Context, Options, Status, NoneSelected, Error, colon, prefix, EachGives, File, Ending, whole, missing, broken, Selected, HasSelected, Form, nothing, names, counts, parts, lines, around, shown_name, shown_number, head_of, numbered, SelectedLines, CountOf, RowsOf, PartRowsOf, PartsOfLine, GroupsOf, OutAs, Out, FaultMet, Reached, Message, Messages, AnySelected, StatusOf}
-use Rattle.re_syntax.proofs.lemmas.Decisions.{dec_any, dec_both, dec_IsTrue}
-use Rattle.re_syntax.proofs.lemmas.PartsExist.{AreParts-exist}
+use Rattle.{grep_core.proofs.{Prelude.{◌≡◌, ℕ, Bool, true, false, IsTrue, List, [], ◌∷◌, ◌++◌, inl, inr, refl, length, map, drop, slice_range, MatchBool, Any, decimal, Text, Expression, Context, Options, Status, NoneSelected, Error, colon, prefix, EachGives, File, Ending, whole, missing, broken, Selected, HasSelected, Form, nothing, names, counts, parts, lines, around, shown_name, shown_number, head_of, numbered, SelectedLines, CountOf, RowsOf, PartRowsOf, PartsOfLine, GroupsOf, OutAs, Out, FaultMet, Reached, Message, Messages, AnySelected, StatusOf}, lemmas.{AroundLaws.Groups-exist, ChooseLaws.{IfHolds-exist, EachGives-exist, Chosen-exist}, Decided.{dec_selected, dec_has_selected, dec_any_selected, dec_stops, dec_fault_met}}}, re_syntax.proofs.lemmas.{Decisions.{dec_any, dec_both, dec_IsTrue}, PartsExist.AreParts-exist}}
 use Rattle.grep_core.specs.declared.status.Status.TheVariants.{Selected as selected}
-use Rattle.grep_core.proofs.lemmas.AroundLaws.{Groups-exist}
-use Rattle.grep_core.proofs.lemmas.ChooseLaws.{IfHolds-exist, EachGives-exist, Chosen-exist}
-use Rattle.grep_core.proofs.lemmas.Decided.{dec_selected, dec_has_selected, dec_any_selected, dec_stops, dec_fault_met}
 
 module _ (es : List Expression) (options : Options) (many : Bool) where
   -- a file has its selected lines

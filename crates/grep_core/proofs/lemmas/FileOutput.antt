@@ -1,11 +1,5 @@
 -- The output for one file, by the rows of its lines and how many are selected.
-use Rattle.grep_core.proofs.Prelude.{◌≡◌, ℕ, ◌+◌, nat_lt, ◌<◌, ◌⊎◌, Bool, true, false, Decides, List, [], ◌∷◌, ◌++◌, length, Any, refl, ap, ◌∙◌, inl, inr, arith, append-nil, if◌then◌else◌, enumerate_from, Text, Expression, Options, FileEnd, Missing, Whole, Broken, Left, IfHolds, Chosen, File, whole, Selected, HasSelected, Form, nothing, names, counts, parts, lines, around, OutAs, CountOf, RowsOf, PartRowsOf, GroupsOf, SelectedLines, begun, first_lines, file_so_far, GroupedAs, rows_after, IsPlain, LineRowsOf, RowsOfSelected, ending_of, count_line, summary_as, false≢true, lt-ltb, ltb-true, length_push}
-use Rattle.re_syntax.proofs.lemmas.Decisions.{Any-none, Any-first, Any-later, Any-cases}
-use Rattle.grep_core.proofs.lemmas.ChooseLaws.{EachGives-one}
-use Rattle.grep_core.proofs.lemmas.Exist.{OutAs-exist}
-use Rattle.grep_io.proofs.lemmas.FileLaws.{file_with}
-use Rattle.grep_core.proofs.lemmas.MoreLines.{SelectedLines-end, SelectedLines-passed, RowsOf-end, RowsOf-passed, RowsOf-front, PartRowsOf-end, PartRowsOf-passed, PartRowsOf-front}
-use Rattle.grep_core.proofs.lemmas.Verdicts.{picked}
+use Rattle.{grep_core.proofs.{Prelude.{◌≡◌, ℕ, ◌+◌, nat_lt, ◌<◌, ◌⊎◌, Bool, true, false, Decides, List, [], ◌∷◌, ◌++◌, length, Any, refl, ap, ◌∙◌, inl, inr, arith, append-nil, if◌then◌else◌, enumerate_from, Text, Expression, Options, FileEnd, Missing, Whole, Broken, Left, IfHolds, Chosen, File, whole, Selected, HasSelected, Form, nothing, names, counts, parts, lines, around, OutAs, CountOf, RowsOf, PartRowsOf, GroupsOf, SelectedLines, begun, first_lines, file_so_far, GroupedAs, rows_after, IsPlain, LineRowsOf, RowsOfSelected, ending_of, count_line, summary_as, false≢true, lt-ltb, ltb-true, length_push}, lemmas.{ChooseLaws.EachGives-one, Exist.OutAs-exist, MoreLines.{SelectedLines-end, SelectedLines-passed, RowsOf-end, RowsOf-passed, RowsOf-front, PartRowsOf-end, PartRowsOf-passed, PartRowsOf-front}, Verdicts.picked}}, re_syntax.proofs.lemmas.Decisions.{Any-none, Any-first, Any-later, Any-cases}, grep_io.proofs.lemmas.FileLaws.file_with}
 
 -- a number that is greater than 0
 pub positive : (n : ℕ) → 0 < n → nat_lt 0 n ≡ true

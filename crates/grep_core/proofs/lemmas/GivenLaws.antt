@@ -1,6 +1,5 @@
 -- A run keeps what it gives where more is said of what readers had left.
-use Rattle.grep_core.proofs.Prelude.{List, ◌∷◌, [], ◌++◌, Option, Result, Ok, Err, Text, Expression, Options, Status, RunFault, MessageWrite, Source, Devices, Story, BreaksOff, RunGives}
-use Rattle.grep_core.specs.declared.status.RunFault.TheVariants.{Write, Memory}
+use Rattle.grep_core.{proofs.Prelude.{List, ◌∷◌, [], ◌++◌, Option, Result, Ok, Err, Text, Expression, Options, Status, RunFault, MessageWrite, Source, Devices, Story, BreaksOff, RunGives}, specs.declared.status.RunFault.TheVariants.{Write, Memory}}
 
 module _ (es : List Expression) (options : Options) (sources : List Source) where
   abbrev Story-given : (reached : List Source) (given other : List (Option Text) → Type 0) → ((left : List (Option Text)) → given left → other left) → (old new : Devices) → Story es options sources reached given old new → Story es options sources reached other old new

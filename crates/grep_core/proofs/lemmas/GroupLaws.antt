@@ -1,8 +1,6 @@
 -- What is written of output in which each group of lines is after a separator, for some files and
 -- for others after them.
-use Rattle.grep_core.proofs.Prelude.{◌≡◌, ℕ, Bool, true, false, Decides, List, [], ◌∷◌, ◌++◌, drop, inl, inr, refl, sym, ap, ◌∙◌, append-nil, false≢true, Text, Expression, Context, Options, FileEnd, EachGives, File, HasSelected, AnySelected, Form, nothing, names, counts, parts, lines, around, shown_name, shown_number, GroupsOf, GroupedAs, rows_after, summary_as}
-use Rattle.re_syntax.proofs.lemmas.Decisions.{Any-none, Any-first, Any-later, Any-cases}
-use Rattle.grep_core.proofs.lemmas.AroundLaws.{first_empty, second_empty, groups_none, groups_some}
+use Rattle.{grep_core.proofs.{Prelude.{◌≡◌, ℕ, Bool, true, false, Decides, List, [], ◌∷◌, ◌++◌, drop, inl, inr, refl, sym, ap, ◌∙◌, append-nil, false≢true, Text, Expression, Context, Options, FileEnd, EachGives, File, HasSelected, AnySelected, Form, nothing, names, counts, parts, lines, around, shown_name, shown_number, GroupsOf, GroupedAs, rows_after, summary_as}, lemmas.AroundLaws.{first_empty, second_empty, groups_none, groups_some}}, re_syntax.proofs.lemmas.Decisions.{Any-none, Any-first, Any-later, Any-cases}}
 
 -- ---- what is written of such output
 

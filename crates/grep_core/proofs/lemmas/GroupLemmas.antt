@@ -1,9 +1,6 @@
 -- The groups of lines around selected ones, as a file has one more line, and what is written of
 -- them.
-use Rattle.grep_core.proofs.Prelude.{AreUnselected, ◌≡◌, ℕ, ◌+◌, ◌<◌, ◌≤◌, ◌⊎◌, Bool, true, false, ◌&&◌, IsTrue, Decides, List, [], ◌∷◌, ◌++◌, length, inl, inr, refl, sym, ap, ◌∙◌, append_assoc, arith, if◌then◌else◌, enumerate_from, Text, Expression, Context, Options, hyphen, IfHolds, EachGives, Selected, group_separator, IsShown, BeginsGroup, IsRow, Shows, around, shown_number, name_shown, rows_after, row_with, rows_around, false≢true, length-append, All-head, All-tail}
-use Rattle.grep_core.proofs.lemmas.ChooseLaws.{EachGives-one, EachGives-append}
-use Rattle.grep_core.proofs.lemmas.MoreLines.{enumerate_from-append}
-use Rattle.grep_core.proofs.lemmas.ShownLemmas.{EachGives-placed, shown_more, begins_at, begins_same, shows_same}
+use Rattle.grep_core.proofs.{Prelude.{AreUnselected, ◌≡◌, ℕ, ◌+◌, ◌<◌, ◌≤◌, ◌⊎◌, Bool, true, false, ◌&&◌, IsTrue, Decides, List, [], ◌∷◌, ◌++◌, length, inl, inr, refl, sym, ap, ◌∙◌, append_assoc, arith, if◌then◌else◌, enumerate_from, Text, Expression, Context, Options, hyphen, IfHolds, EachGives, Selected, group_separator, IsShown, BeginsGroup, IsRow, Shows, around, shown_number, name_shown, rows_after, row_with, rows_around, false≢true, length-append, All-head, All-tail}, lemmas.{ChooseLaws.{EachGives-one, EachGives-append}, MoreLines.enumerate_from-append, ShownLemmas.{EachGives-placed, shown_more, begins_at, begins_same, shows_same}}}
 
 -- a group that begins is after a separator where something was written before
 pub after_group : (context : Context) (before gap shown : Bool) (groups rest : List Text) → Decides shown (IsTrue before ⊎ (groups ≡ [] → ⊥)) → (groups ≡ [] → gap ≡ true)

@@ -1,9 +1,6 @@
 -- The laws of the definitions: one output, one list of messages, one status, and one meaning of the
 -- patterns.
-use Rattle.grep_core.proofs.Prelude.{◌≡◌, Bool, [], ◌∷◌, refl, sym, ap, ◌∙◌, if◌then◌else◌, Syntax, Text, Expression, folded, IsMeant, Options, Out, Messages, StatusOf, IsOne, HasOneAnswer, MeansOne}
-use Rattle.re_syntax.proofs.lemmas.SpelledUnique.{spells_one}
-use Rattle.grep_core.proofs.lemmas.Determined.{Out-determined, Messages-determined, StatusOf-determined}
-use Rattle.grep_core.proofs.lemmas.Exist.{Out-exist, Messages-exist, StatusOf-exist}
+use Rattle.{grep_core.proofs.{Prelude.{◌≡◌, Bool, [], ◌∷◌, refl, sym, ap, ◌∙◌, if◌then◌else◌, Syntax, Text, Expression, folded, IsMeant, Options, Out, Messages, StatusOf, IsOne, HasOneAnswer, MeansOne}, lemmas.{Determined.{Out-determined, Messages-determined, StatusOf-determined}, Exist.{Out-exist, Messages-exist, StatusOf-exist}}}, re_syntax.proofs.lemmas.SpelledUnique.spells_one}
 
 -- a value for which P holds is the one, if P holds for no two
 is_one : {A : Type 0} (P : A → Type 0) → (x : A) × P x → ((x y : A) → P x → P y → x ≡ y) → IsOne P

@@ -1,24 +1,6 @@
 -- A search of the lines of an open source, one more line at a time, and what it says of the
 -- source's file.
-use Rattle.grep_core.proofs.Prelude.{AreUnselected, ◌≡◌, ℕ, ◌+◌, ◌-◌, ◌*◌, ◌^◌, nat_lt, ◌<◌, ◌≤◌, ◌⊎◌, Bool, true, false, ◌&&◌, IsTrue, Decides, List, [], ◌∷◌, ◌++◌, Option, length, min, take, refl, sym, ap, subst, ◌∙◌, append-nil, append_assoc, inl, inr, arith, Any, if◌then◌else◌, take-append_seam, false≢true, cases_Bool, cases_lt, lt-ltb, le-ltb, cond-true, cond-false, length_push, length-append, All-head, All-tail, Text, lines_of, Expression, HoldsOfMany, Options, Open, Whole, Broken, Left, one_more, Numbered, AreAhead, HasHanded, PassesNext, File, whole, Matched, Selected, HasSelected, Form, nothing, names, counts, form, SelectedLines, FaultMet, open_source, file_of, failures_of, most_lines, OneLeft, HasRead, IsOneLineAndFew, Writer, TakesAll, TakesFront, first_lines, GroupedAs, rows_after, BeginsWith, file_so_far, line_cost, SearchesLines, IsPlain, LineRowsOf, TakesLine, BreaksLine, StopsLine, RowsOfLines, TakesLines, BreaksLines, StopsLines, SearchFault, SearchGives, Err, leaves_early, BreaksSource, StopsSource, SearchesSource, Some, Result, Ok, GoesOut, FileEnd, Missing, FileFound, writer, NextTaken}
-use Rattle.re_search.specs.Meters.{Steps}
-use Rattle.re_search.specs.Searches.{AddsAtMost}
-use Rattle.re_syntax.proofs.lemmas.SomeOfJoined.{Any-left}
-use Rattle.grep_core.specs.declared.status.SearchFault.TheVariants.{Write, Memory}
-use Rattle.grep_core.proofs.lemmas.Verdicts.{decided_yes, decided_no, picked}
-use Rattle.grep_core.proofs.lemmas.Decided.{dec_fault_met}
-use Rattle.grep_core.proofs.lemmas.CostLaws.{unsearched_lines, searched_one_line, searched_more_lines, searched_first_lines}
-use Rattle.grep_core.proofs.lemmas.WriterLaws.{TakesAll-nothing, TakesAll-more, TakesFront-more, TakesFront-longer}
-use Rattle.grep_core.proofs.lemmas.OneLineLemmas.{line_passed, line_counted}
-use Rattle.grep_core.proofs.lemmas.CountedLines.{many_within}
-use Rattle.grep_core.proofs.lemmas.PassedLines.{passed_block, counted_block, block_spent}
-use Rattle.grep_core.proofs.lemmas.SearchedBlockLemmas.{found_within}
-use Rattle.grep_core.proofs.lemmas.OneFile.{FaultMet-left, whole-failures}
-use Rattle.grep_core.proofs.lemmas.MoreLines.{SelectedLines-passed}
-use Rattle.grep_io.proofs.lemmas.HandedLemmas.{begins_with, has_read}
-use Rattle.grep_io.proofs.lemmas.NumberedLemmas.{has_handed_none}
-use Rattle.grep_core.proofs.lemmas.WrittenLemmas.{TakesAll-written, TakesFront-written}
-use Rattle.grep_core.proofs.lemmas.FileOutput.{positive, chosen_decides, rows_line, chosen_line, chosen_count, output_all, output_left, output_front, rows_begun, plain_rows}
+use Rattle.{grep_core.{proofs.{Prelude.{AreUnselected, ◌≡◌, ℕ, ◌+◌, ◌-◌, ◌*◌, ◌^◌, nat_lt, ◌<◌, ◌≤◌, ◌⊎◌, Bool, true, false, ◌&&◌, IsTrue, Decides, List, [], ◌∷◌, ◌++◌, Option, length, min, take, refl, sym, ap, subst, ◌∙◌, append-nil, append_assoc, inl, inr, arith, Any, if◌then◌else◌, take-append_seam, false≢true, cases_Bool, cases_lt, lt-ltb, le-ltb, cond-true, cond-false, length_push, length-append, All-head, All-tail, Text, lines_of, Expression, HoldsOfMany, Options, Open, Whole, Broken, Left, one_more, Numbered, AreAhead, HasHanded, PassesNext, File, whole, Matched, Selected, HasSelected, Form, nothing, names, counts, form, SelectedLines, FaultMet, open_source, file_of, failures_of, most_lines, OneLeft, HasRead, IsOneLineAndFew, Writer, TakesAll, TakesFront, first_lines, GroupedAs, rows_after, BeginsWith, file_so_far, line_cost, SearchesLines, IsPlain, LineRowsOf, TakesLine, BreaksLine, StopsLine, RowsOfLines, TakesLines, BreaksLines, StopsLines, SearchFault, SearchGives, Err, leaves_early, BreaksSource, StopsSource, SearchesSource, Some, Result, Ok, GoesOut, FileEnd, Missing, FileFound, writer, NextTaken}, lemmas.{Verdicts.{decided_yes, decided_no, picked}, Decided.dec_fault_met, CostLaws.{unsearched_lines, searched_one_line, searched_more_lines, searched_first_lines}, WriterLaws.{TakesAll-nothing, TakesAll-more, TakesFront-more, TakesFront-longer}, OneLineLemmas.{line_passed, line_counted}, CountedLines.many_within, PassedLines.{passed_block, counted_block, block_spent}, SearchedBlockLemmas.found_within, OneFile.{FaultMet-left, whole-failures}, MoreLines.SelectedLines-passed, WrittenLemmas.{TakesAll-written, TakesFront-written}, FileOutput.{positive, chosen_decides, rows_line, chosen_line, chosen_count, output_all, output_left, output_front, rows_begun, plain_rows}}}, specs.declared.status.SearchFault.TheVariants.{Write, Memory}}, re_search.specs.{Meters.Steps, Searches.AddsAtMost}, re_syntax.proofs.lemmas.SomeOfJoined.Any-left, grep_io.proofs.lemmas.{HandedLemmas.{begins_with, has_read}, NumberedLemmas.has_handed_none}}
 
 -- where a file is left early, only its name is written, if that
 pub early_form : (options : Options) → IsTrue (leaves_early options) → (form options ≡ nothing) ⊎ (form options ≡ names)

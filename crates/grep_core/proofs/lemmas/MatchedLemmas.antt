@@ -1,20 +1,5 @@
 -- The matched lines of a block, which are written as they are.
-use Rattle.grep_core.proofs.Prelude.{◌≡◌, ℕ, ◌+◌, ◌-◌, ◌*◌, false≢true, AddsAtMost, Numbered, IsNextOf, TakesHeld, StopsHeld, most_lines, writer, ◌<◌, ◌≤◌, Bool, true, false, List, [], ◌∷◌, ◌++◌, All, Option, length, take, drop, slice_range, refl, sym, ap, ◌∙◌, arith, inl, inr, append_assoc, append-nil, length-append, length-drop, take-append_seam, drop-drop, All-head, All-tail, Text, newline, terminated, lines_of, HasNoNewline, Expression, Span, IsBlock, IsNext, Sought, IsSought, Options, Selected, Chosen, colon, head, form, shown_number, name_shown, written, IsBare, RowsOfSelected, RowsOfLines, GoesOut, StopsWithin}
-use Rattle.re_syntax.proofs.lemmas.LinesLaws.{lines_of-terminated}
-use Rattle.re_syntax.proofs.lemmas.Decisions.{dec_any}
-use Rattle.re_syntax.proofs.lemmas.HoldsDecided.{dec_matches}
-use Rattle.re_search.proofs.lemmas.NextLines.{block_lines, free_lines, bytes_after_next, after_next}
-use Rattle.grep_io.specs.declared.input.lines.Stage.TheVariants.{Ended}
-use Rattle.grep_core.specs.declared.status.SearchFault.TheVariants.{Write}
-use Rattle.grep_core.proofs.lemmas.PassedLines.{block_spent}
-use Rattle.grep_core.proofs.lemmas.WrittenLemmas.{TakesAll-written, TakesFront-written}
-use Rattle.grep_io.proofs.lemmas.WindowBlocks.{joined_range}
-use Rattle.re_search.specs.Meters.{Steps}
-use Rattle.grep_core.proofs.lemmas.CostLaws.{cost_within, cost_after}
-use Rattle.grep_core.proofs.lemmas.ChooseLaws.{Chosen-exist, EachGives-append}
-use Rattle.grep_core.proofs.lemmas.RowLemmas.{stops_early, stops_later}
-use Rattle.grep_core.proofs.lemmas.Verdicts.{decided_yes, decided_no}
-use Rattle.grep_core.proofs.lemmas.SearchedBlockLemmas.{selected_matched, line_with_newline, lines_within}
+use Rattle.{grep_core.{proofs.{Prelude.{◌≡◌, ℕ, ◌+◌, ◌-◌, ◌*◌, false≢true, AddsAtMost, Numbered, IsNextOf, TakesHeld, StopsHeld, most_lines, writer, ◌<◌, ◌≤◌, Bool, true, false, List, [], ◌∷◌, ◌++◌, All, Option, length, take, drop, slice_range, refl, sym, ap, ◌∙◌, arith, inl, inr, append_assoc, append-nil, length-append, length-drop, take-append_seam, drop-drop, All-head, All-tail, Text, newline, terminated, lines_of, HasNoNewline, Expression, Span, IsBlock, IsNext, Sought, IsSought, Options, Selected, Chosen, colon, head, form, shown_number, name_shown, written, IsBare, RowsOfSelected, RowsOfLines, GoesOut, StopsWithin}, lemmas.{PassedLines.block_spent, WrittenLemmas.{TakesAll-written, TakesFront-written}, CostLaws.{cost_within, cost_after}, ChooseLaws.{Chosen-exist, EachGives-append}, RowLemmas.{stops_early, stops_later}, Verdicts.{decided_yes, decided_no}, SearchedBlockLemmas.{selected_matched, line_with_newline, lines_within}}}, specs.declared.status.SearchFault.TheVariants.Write}, re_syntax.proofs.lemmas.{LinesLaws.lines_of-terminated, Decisions.dec_any, HoldsDecided.dec_matches}, re_search.{proofs.lemmas.NextLines.{block_lines, free_lines, bytes_after_next, after_next}, specs.Meters.Steps}, grep_io.{specs.declared.input.lines.Stage.TheVariants.Ended, proofs.lemmas.WindowBlocks.joined_range}}
 
 regroup : (s x a l m : Text) → (s ++ (x ++ a)) ++ (l ++ m) ≡ ((s ++ x) ++ (a ++ l)) ++ m
 regroup s x a l m = ap (λ t. t ++ (l ++ m)) (sym (append_assoc s x a)) ∙ append_assoc (s ++ x) a (l ++ m) ∙ ap (λ t. (s ++ x) ++ t) (sym (append_assoc a l m)) ∙ sym (append_assoc (s ++ x) (a ++ l) m)

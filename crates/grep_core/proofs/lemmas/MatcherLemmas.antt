@@ -1,6 +1,5 @@
 -- The matchers of patterns, one more at a time.
-use Rattle.grep_core.proofs.Prelude.{◌≡◌, ℕ, ◌+◌, ◌<◌, List, [], ◌∷◌, ◌++◌, All, ◌⊎◌, inl, inr, length, map, take, get_or, refl, sym, ap, ◌∙◌, subst, arith, length_push, map-append, Bool, All-push, AllZip, PatternFault, Syntax, Text, IsMeant, Matcher, IsSmallFor, IsReadable, IsRefusedFor, IsOutOfMemory, matched_expression, expressions_of, wants_whole, Options, IsFirstRefused, AreMatchers}
-use Rattle.re_search.proofs.lemmas.ReadingLaws.{refused_unreadable}
+use Rattle.{grep_core.proofs.Prelude.{◌≡◌, ℕ, ◌+◌, ◌<◌, List, [], ◌∷◌, ◌++◌, All, ◌⊎◌, inl, inr, length, map, take, get_or, refl, sym, ap, ◌∙◌, subst, arith, length_push, map-append, Bool, All-push, AllZip, PatternFault, Syntax, Text, IsMeant, Matcher, IsSmallFor, IsReadable, IsRefusedFor, IsOutOfMemory, matched_expression, expressions_of, wants_whole, Options, IsFirstRefused, AreMatchers}, re_search.proofs.lemmas.ReadingLaws.refused_unreadable}
 
 -- two lists, element by element, joined
 pub AllZip-append : {X Y : Type 0} (P : X → Y → Type 0) (xs vs : List X) (ys ws : List Y) → AllZip P xs ys → AllZip P vs ws → AllZip P (xs ++ vs) (ys ++ ws)

@@ -1,8 +1,5 @@
 -- The messages, file by file, up to the one at which `-q` stops.
-use Rattle.grep_core.proofs.Prelude.{◌≡◌, Bool, true, false, List, [], ◌∷◌, ◌++◌, inl, inr, refl, MatchBool, Any, append-nil, Text, Expression, Options, EachGives, File, Stops, Reached, Message, Reported, Messages}
-use Rattle.re_syntax.proofs.lemmas.Decisions.{Any-first, Any-later}
-use Rattle.grep_core.proofs.lemmas.ChooseLaws.{EachGives-append, EachGives-exist}
-use Rattle.grep_core.proofs.lemmas.Exist.{Reached-exist, Message-exist}
+use Rattle.{grep_core.proofs.{Prelude.{◌≡◌, Bool, true, false, List, [], ◌∷◌, ◌++◌, inl, inr, refl, MatchBool, Any, append-nil, Text, Expression, Options, EachGives, File, Stops, Reached, Message, Reported, Messages}, lemmas.{ChooseLaws.{EachGives-append, EachGives-exist}, Exist.{Reached-exist, Message-exist}}}, re_syntax.proofs.lemmas.Decisions.{Any-first, Any-later}}
 
 module _ (es : List Expression) (options : Options) where
   -- after files at which a run does not stop, the files that are reached follow

@@ -1,8 +1,6 @@
 -- The output for more files begins with that for fewer, where each group of lines is after a
 -- separator.
-use Rattle.grep_core.proofs.Prelude.{Bool, false, List, ◌++◌, refl, sym, ◌∙◌, map-append, Text, Expression, Options, File, Form, nothing, names, counts, parts, lines, around, OutAs, GroupedAs, rows_after}
-use Rattle.grep_core.proofs.lemmas.ChooseLaws.{EachGives-append}
-use Rattle.grep_core.proofs.lemmas.Exist.{OutAs-exist, groups_exist}
+use Rattle.grep_core.proofs.{Prelude.{Bool, false, List, ◌++◌, refl, sym, ◌∙◌, map-append, Text, Expression, Options, File, Form, nothing, names, counts, parts, lines, around, OutAs, GroupedAs, rows_after}, lemmas.{ChooseLaws.EachGives-append, Exist.{OutAs-exist, groups_exist}}}
 
 module _ (es : List Expression) (options : Options) (many : Bool) where
   -- the output for some files, and that for others after it

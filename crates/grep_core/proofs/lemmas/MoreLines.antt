@@ -1,9 +1,5 @@
 -- What one more line of a file adds to its selected lines, its rows and the rows of its parts.
-use Rattle.grep_core.proofs.Prelude.{◌≡◌, ℕ, ◌+◌, Bool, List, [], ◌∷◌, ◌++◌, sym, ap, ◌∙◌, length, map, arith, enumerate_from, Text, Expression, Options, Ending, Selected, head_of, numbered, SelectedLines, RowsOf, PartsOfLine, PartRowsOf, map-append}
-use Rattle.grep_io.proofs.lemmas.FileLaws.{file_with}
-use Rattle.grep_core.proofs.lemmas.ChooseLaws.{EachGives-append, EachGives-end, EachGives-exist, Chosen-end, Chosen-passed, Chosen-exist}
-use Rattle.grep_core.proofs.lemmas.Decided.{dec_selected}
-use Rattle.grep_core.proofs.lemmas.Exist.{PartsOfLine-exist}
+use Rattle.{grep_core.proofs.{Prelude.{◌≡◌, ℕ, ◌+◌, Bool, List, [], ◌∷◌, ◌++◌, sym, ap, ◌∙◌, length, map, arith, enumerate_from, Text, Expression, Options, Ending, Selected, head_of, numbered, SelectedLines, RowsOf, PartsOfLine, PartRowsOf, map-append}, lemmas.{ChooseLaws.{EachGives-append, EachGives-end, EachGives-exist, Chosen-end, Chosen-passed, Chosen-exist}, Decided.dec_selected, Exist.PartsOfLine-exist}}, grep_io.proofs.lemmas.FileLaws.file_with}
 
 -- the numbers continue after a list
 pub enumerate_from-append : {A : Type 0} (n : ℕ) (xs ys : List A) → enumerate_from n (xs ++ ys) ≡ enumerate_from n xs ++ enumerate_from (n + length xs) ys

@@ -1,6 +1,5 @@
 -- A run over one source, by its lines: its output, messages, status and failures.
-use Rattle.grep_core.proofs.Prelude.{◌≡◌, false, ◌⊎◌, ◌||◌, IsTrue, List, [], refl, ap, ◌∙◌, arith, inl, inr, Text, ended_lines_of, Expression, Options, File, Ending, whole, broken, HasSelected, FaultMet, Reading, not_opened, fails_after, ends_after, up_to_limit, file_of, failures_of}
-use Rattle.grep_io.proofs.lemmas.FileLaws.{up_to_limit-beyond}
+use Rattle.{grep_core.proofs.Prelude.{◌≡◌, false, ◌⊎◌, ◌||◌, IsTrue, List, [], refl, ap, ◌∙◌, arith, inl, inr, Text, ended_lines_of, Expression, Options, File, Ending, whole, broken, HasSelected, FaultMet, Reading, not_opened, fails_after, ends_after, up_to_limit, file_of, failures_of}, grep_io.proofs.lemmas.FileLaws.up_to_limit-beyond}
 
 -- ---- readings
 

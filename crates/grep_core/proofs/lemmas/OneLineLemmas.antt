@@ -1,7 +1,5 @@
 -- What was written for one line.
-use Rattle.grep_core.proofs.Prelude.{ap, ◌≡◌, ℕ, Bool, true, false, not, MatchBool, if◌then◌else◌, Decides, List, [], ◌∷◌, ◌++◌, Option, Result, Ok, Err, IfOk, IsErrAnd, OnErr, refl, sym, inl, inr, false≢true, Text, Expression, Options, output_line, Writes, Matched, Selected, lines, counts, form, head_of, Writer, writer, file_so_far, selects, RowsOfSelected, WritesSelected, BreaksSelected, TakesLine, BreaksLine}
-use Rattle.grep_core.proofs.lemmas.PassLemmas.{TakesAll-line, TakesFront-line}
-use Rattle.grep_core.proofs.lemmas.WriterLaws.{TakesAll-nothing}
+use Rattle.grep_core.proofs.{Prelude.{ap, ◌≡◌, ℕ, Bool, true, false, not, MatchBool, if◌then◌else◌, Decides, List, [], ◌∷◌, ◌++◌, Option, Result, Ok, Err, IfOk, IsErrAnd, OnErr, refl, sym, inl, inr, false≢true, Text, Expression, Options, output_line, Writes, Matched, Selected, lines, counts, form, head_of, Writer, writer, file_so_far, selects, RowsOfSelected, WritesSelected, BreaksSelected, TakesLine, BreaksLine}, lemmas.{PassLemmas.{TakesAll-line, TakesFront-line}, WriterLaws.TakesAll-nothing}}
 
 -- what holds anyway holds at an error
 pub err_with : {T E P : Type 0} (r : Result T E) → P → OnErr r P

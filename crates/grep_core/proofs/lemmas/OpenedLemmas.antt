@@ -1,16 +1,5 @@
 -- A search of a source that was opened, by the search of its reader.
-use Rattle.grep_core.proofs.Prelude.{◌≡◌, ℕ, zero, suc, ◌≤◌, ◌⊎◌, Bool, true, false, List, [], ◌∷◌, length, take, Option, Result, Ok, Err, IfSome, refl, sym, ap, ◌∙◌, inl, inr, arith, false≢true, Consumes-nil, Text, Expression, Options, FileEnd, Missing, FileFound, SearchFault, one_more, LineReader, File, Selected, Form, nothing, names, counts, parts, lines, around, form, Source, Reading, not_opened, fails_after, ends_after, open_source, IsReadingOf, file_of, failures_of, AreLeft, OneLeft, HasRead, Writer, first_lines, count_more, SearchGives, rows_after, IsPlain, LineRowsOf, CountsSource, BreaksSource, StopsSource, SearchesSource}
-use Rattle.re_syntax.proofs.lemmas.Decisions.{Any-none}
-use Rattle.re_syntax.proofs.lemmas.LinesLaws.{all_none, lines_of-terminated}
-use Rattle.re_search.specs.Meters.{Steps}
-use Rattle.grep_core.specs.declared.status.SearchFault.TheVariants.{Write, Memory}
-use Rattle.grep_core.proofs.lemmas.Verdicts.{decided_yes, decided_no}
-use Rattle.grep_core.proofs.lemmas.CostLaws.{unsearched_lines}
-use Rattle.grep_core.proofs.lemmas.WriterLaws.{TakesAll-nothing}
-use Rattle.grep_io.proofs.lemmas.WindowLemmas.{none_in_nothing}
-use Rattle.grep_core.proofs.lemmas.Readings.{IsReadingOf-exists}
-use Rattle.grep_core.proofs.lemmas.FileOutput.{rows_none, output_all, rows_begun, plain_rows}
-use Rattle.grep_core.proofs.lemmas.GroupLaws.{after_nothing}
+use Rattle.{grep_core.{proofs.{Prelude.{◌≡◌, ℕ, zero, suc, ◌≤◌, ◌⊎◌, Bool, true, false, List, [], ◌∷◌, length, take, Option, Result, Ok, Err, IfSome, refl, sym, ap, ◌∙◌, inl, inr, arith, false≢true, Consumes-nil, Text, Expression, Options, FileEnd, Missing, FileFound, SearchFault, one_more, LineReader, File, Selected, Form, nothing, names, counts, parts, lines, around, form, Source, Reading, not_opened, fails_after, ends_after, open_source, IsReadingOf, file_of, failures_of, AreLeft, OneLeft, HasRead, Writer, first_lines, count_more, SearchGives, rows_after, IsPlain, LineRowsOf, CountsSource, BreaksSource, StopsSource, SearchesSource}, lemmas.{Verdicts.{decided_yes, decided_no}, CostLaws.unsearched_lines, WriterLaws.TakesAll-nothing, Readings.IsReadingOf-exists, FileOutput.{rows_none, output_all, rows_begun, plain_rows}, GroupLaws.after_nothing}}, specs.declared.status.SearchFault.TheVariants.{Write, Memory}}, re_syntax.proofs.lemmas.{Decisions.Any-none, LinesLaws.{all_none, lines_of-terminated}}, re_search.specs.Meters.Steps, grep_io.proofs.lemmas.WindowLemmas.none_in_nothing}
 
 -- a source that was opened and then read may have done what was read
 pub opened : (source : Source) (r : Reading) → IfSome source.opens (λ b. b ≡ true) → IsReadingOf (open_source source.name source.bytes) r → IsReadingOf source r

@@ -1,8 +1,5 @@
 -- The parts of a line that were written, one more part at a time.
-use Rattle.grep_core.proofs.Prelude.{◌≡◌, ℕ, ◌≤◌, Bool, List, [], ◌∷◌, ◌++◌, length, map, slice_range, refl, sym, ap, ◌∙◌, append_assoc, append-nil, map-append, Text, Expression, IsFound, IsPart, ArePartsFrom, AreParts, Options, one_more, parts, form, head_of, Writer, TakesAll, TakesFront, file_so_far, RowsOfSelected, WritesSelected, BreaksSelected}
-use Rattle.re_syntax.proofs.lemmas.PartsLaws.{IsPart-unique}
-use Rattle.re_syntax.proofs.lemmas.PartsExist.{AreParts-exist}
-use Rattle.grep_core.proofs.lemmas.WriterLaws.{TakesAll-nothing, TakesAll-more, TakesFront-more, TakesFront-longer}
+use Rattle.{grep_core.proofs.{Prelude.{◌≡◌, ℕ, ◌≤◌, Bool, List, [], ◌∷◌, ◌++◌, length, map, slice_range, refl, sym, ap, ◌∙◌, append_assoc, append-nil, map-append, Text, Expression, IsFound, IsPart, ArePartsFrom, AreParts, Options, one_more, parts, form, head_of, Writer, TakesAll, TakesFront, file_so_far, RowsOfSelected, WritesSelected, BreaksSelected}, lemmas.WriterLaws.{TakesAll-nothing, TakesAll-more, TakesFront-more, TakesFront-longer}}, re_syntax.proofs.lemmas.{PartsLaws.IsPart-unique, PartsExist.AreParts-exist}}
 
 module _ (es : List Expression) (options : Options) (many : Bool) (name : Text) (number : ℕ) (line : Text) where
   -- the row of a part

@@ -1,13 +1,5 @@
 -- Lines that are passed at once.
-use Rattle.grep_core.proofs.Prelude.{◌≡◌, ℕ, ◌+◌, ◌-◌, ◌*◌, Bool, true, false, List, [], ◌++◌, All, Option, length, take, refl, sym, ap, ◌∙◌, arith, append_assoc, length-append, if◌then◌else◌, take-append_seam, Text, terminated, lines_of, HasNoNewline, Expression, IsBlock, HoldsOfMany, Options, SearchesLines, Matched, Selected, Numbered, AreAhead, HasHanded, PassesNext, IsNextOf}
-use Rattle.re_syntax.proofs.lemmas.LinesLaws.{lines_of-terminated, terminated-append}
-use Rattle.re_search.specs.Meters.{Steps}
-use Rattle.re_search.specs.Searches.{AddsAtMost}
-use Rattle.re_search.proofs.lemmas.NextLines.{block_lines}
-use Rattle.re_search.proofs.lemmas.CountedBlocks.{counts_same}
-use Rattle.grep_core.proofs.lemmas.CostLaws.{searched_bytes}
-use Rattle.grep_core.proofs.lemmas.CountedLines.{many_others}
-use Rattle.grep_io.proofs.lemmas.PassedLemmas.{HasHanded-pass}
+use Rattle.{grep_core.proofs.{Prelude.{◌≡◌, ℕ, ◌+◌, ◌-◌, ◌*◌, Bool, true, false, List, [], ◌++◌, All, Option, length, take, refl, sym, ap, ◌∙◌, arith, append_assoc, length-append, if◌then◌else◌, take-append_seam, Text, terminated, lines_of, HasNoNewline, Expression, IsBlock, HoldsOfMany, Options, SearchesLines, Matched, Selected, Numbered, AreAhead, HasHanded, PassesNext, IsNextOf}, lemmas.{CostLaws.searched_bytes, CountedLines.many_others}}, re_syntax.proofs.lemmas.LinesLaws.{lines_of-terminated, terminated-append}, re_search.{specs.{Meters.Steps, Searches.AddsAtMost}, proofs.lemmas.{NextLines.block_lines, CountedBlocks.counts_same}}, grep_io.proofs.lemmas.PassedLemmas.HasHanded-pass}
 
 -- its lines are passed
 pub passed_block : {R : Type 0} {remaining : R → Option Text} {failures : R → ℕ} {reader : R} {handed : List Text} {old : Numbered R} (new : Numbered R) {block : Text} {count : ℕ} → AreAhead old block count → PassesNext remaining failures old new (lines_of (take (length block) old.lines.ahead))

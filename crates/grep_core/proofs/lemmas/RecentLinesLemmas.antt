@@ -1,6 +1,5 @@
 -- The last lines that are held, in a queue of memory for lines.
-use Rattle.grep_core.proofs.Prelude.{◌≡◌, ℕ, ◌+◌, ◌-◌, ◌<◌, ◌≤◌, min, List, [], ◌∷◌, ◌++◌, length, map, drop, refl, sym, ap, ◌∙◌, arith, length-drop, drop-drop, map-append, length-map, Text, last_of}
-use Rattle.grep_core.proofs.lemmas.WaitingRows.{last_of-more, length-last_of}
+use Rattle.grep_core.proofs.{Prelude.{◌≡◌, ℕ, ◌+◌, ◌-◌, ◌<◌, ◌≤◌, min, List, [], ◌∷◌, ◌++◌, length, map, drop, refl, sym, ap, ◌∙◌, arith, length-drop, drop-drop, map-append, length-map, Text, last_of}, lemmas.WaitingRows.{last_of-more, length-last_of}}
 
 -- the first is none of the last ones
 last_of-drop : {A : Type 0} (n : ℕ) (xs : List A) → n < length xs → last_of n (drop 1 xs) ≡ last_of n xs

@@ -1,21 +1,6 @@
 -- A run over sources, one more source at a time, and how it ends.
-use Rattle.grep_core.proofs.Prelude.{◌≡◌, ℕ, zero, suc, ◌+◌, nat_lt, ◌<◌, ◌≤◌, Bool, true, false, ◌||◌, ◌&&◌, IsTrue, Decides, List, [], ◌∷◌, ◌++◌, length, take, drop, get_or, Option, None, Ok, Err, Any, refl, sym, ap, subst, ◌∙◌, inl, inr, arith, append-nil, append_assoc, take-suc, take-append_seam, get_or-append_seam, false≢true, cond-true, length-append, length-take-le, take_all, Text, Expression, Options, Status, RunFault, MessageWrite, FileEnd, one_more, IfHolds, File, missing, HasSelected, Form, nothing, names, counts, parts, lines, around, form, Out, shows_names, FaultMet, Stops, Reported, Messages, AnySelected, StatusOf, Source, Reading, IsReadingOf, file_of, failures_of, AreLeft, HasRead, Writer, Devices, TakesAll, TakesFront, TakesPast, files_of, AreReadings, FailuresMet, LeftMet, begun, file_at, count_more, Story, Finishes, BreaksOff, StopsAfter, RunGives, source_at, SearchesLines, SearchesFiles, GroupedAs, rows_after, is_fault, status_by, SourceGives, CountsSource, FinishesSource}
-use Rattle.re_syntax.proofs.lemmas.Decisions.{Any-none, Any-first}
+use Rattle.{grep_core.{proofs.{Prelude.{◌≡◌, ℕ, zero, suc, ◌+◌, nat_lt, ◌<◌, ◌≤◌, Bool, true, false, ◌||◌, ◌&&◌, IsTrue, Decides, List, [], ◌∷◌, ◌++◌, length, take, drop, get_or, Option, None, Ok, Err, Any, refl, sym, ap, subst, ◌∙◌, inl, inr, arith, append-nil, append_assoc, take-suc, take-append_seam, get_or-append_seam, false≢true, cond-true, length-append, length-take-le, take_all, Text, Expression, Options, Status, RunFault, MessageWrite, FileEnd, one_more, IfHolds, File, missing, HasSelected, Form, nothing, names, counts, parts, lines, around, form, Out, shows_names, FaultMet, Stops, Reported, Messages, AnySelected, StatusOf, Source, Reading, IsReadingOf, file_of, failures_of, AreLeft, HasRead, Writer, Devices, TakesAll, TakesFront, TakesPast, files_of, AreReadings, FailuresMet, LeftMet, begun, file_at, count_more, Story, Finishes, BreaksOff, StopsAfter, RunGives, source_at, SearchesLines, SearchesFiles, GroupedAs, rows_after, is_fault, status_by, SourceGives, CountsSource, FinishesSource}, lemmas.{CostLaws.searched_up_to, Decided.dec_stops, Verdicts.decided_no, MoreFiles.{GroupedAs-append, GroupedAs-front, grouped_out}, GroupLaws.{after_nothing, after_longer, after_two}, MessageLaws.{Reported-nothing, Reported-append, Reached-all, Reached-stopped, Messages-reached, Messages-front}, PassLemmas.or_decides, Readings.AreReadings-exist, SourceLaws.{AreReadings-append, files_of-append, length-files_of, count_more-add, FailuresMet-append, FailuresMet-stopped, FailuresMet-one, FailuresMet-longer, LeftMet-append, LeftMet-stopped, LeftMet-one, LeftMet-longer}, StatusLaws.{StatusOf-stopped, StatusOf-error, StatusOf-selected, StatusOf-none}, WriterLaws.{TakesAll-nothing, TakesAll-more, TakesFront-all, TakesFront-longer, TakesPast-all, TakesPast-more}}}, specs.declared.status.RunFault.TheVariants.{Write, Memory}}, re_syntax.proofs.lemmas.{Decisions.{Any-none, Any-first}, SomeOfJoined.{Any-left, Any-right, Any-append-cases, Any-single, none_more}}, re_meter.proofs.lemmas.Adding.adds_none}
 use Rattle.grep_core.specs.declared.status.Status.TheVariants.{Selected as selected}
-use Rattle.grep_core.specs.declared.status.RunFault.TheVariants.{Write, Memory}
-use Rattle.re_syntax.proofs.lemmas.SomeOfJoined.{Any-left, Any-right, Any-append-cases, Any-single, none_more}
-use Rattle.re_meter.proofs.lemmas.Adding.{adds_none}
-use Rattle.grep_core.proofs.lemmas.CostLaws.{searched_up_to}
-use Rattle.grep_core.proofs.lemmas.Decided.{dec_stops}
-use Rattle.grep_core.proofs.lemmas.Verdicts.{decided_no}
-use Rattle.grep_core.proofs.lemmas.MoreFiles.{GroupedAs-append, GroupedAs-front, grouped_out}
-use Rattle.grep_core.proofs.lemmas.GroupLaws.{after_nothing, after_longer, after_two}
-use Rattle.grep_core.proofs.lemmas.MessageLaws.{Reported-nothing, Reported-append, Reached-all, Reached-stopped, Messages-reached, Messages-front}
-use Rattle.grep_core.proofs.lemmas.PassLemmas.{or_decides}
-use Rattle.grep_core.proofs.lemmas.Readings.{AreReadings-exist}
-use Rattle.grep_core.proofs.lemmas.SourceLaws.{AreReadings-append, files_of-append, length-files_of, count_more-add, FailuresMet-append, FailuresMet-stopped, FailuresMet-one, FailuresMet-longer, LeftMet-append, LeftMet-stopped, LeftMet-one, LeftMet-longer}
-use Rattle.grep_core.proofs.lemmas.StatusLaws.{StatusOf-stopped, StatusOf-error, StatusOf-selected, StatusOf-none}
-use Rattle.grep_core.proofs.lemmas.WriterLaws.{TakesAll-nothing, TakesAll-more, TakesFront-all, TakesFront-longer, TakesPast-all, TakesPast-more}
 
 -- ---- verdicts
 

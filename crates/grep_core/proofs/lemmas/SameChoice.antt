@@ -1,9 +1,6 @@
 -- Expressions that hold on the same stretches give the same output, messages and status, and fewer
 -- of them cost no more.
-use Rattle.grep_core.proofs.Prelude.{◌++◌, ◌≡◌, ℕ, zero, suc, ◌+◌, ◌≤◌, ◌↔◌, Bool, true, false, List, [], ◌∷◌, inl, inr, length, Any, MatchBool, Option, Result, Ok, Err, arith, Text, Expression, alt, Holds, Matches, IsFound, IsPart, ArePartsFrom, Context, Options, Status, RunFault, MessageWrite, IsShown, BeginsGroup, Groups, IfHolds, EachGives, File, Ending, whole, missing, broken, Matched, Selected, HasSelected, FaultMetBy, FaultMet, Stops, Reached, Message, Messages, AnySelected, StatusOf, Form, nothing, names, counts, parts, lines, around, form, shown_name, shown_number, GroupsOf, SelectedLines, CountOf, RowsOf, PartsOfLine, PartRowsOf, OutAs, Source, Reading, file_of, files_of, Writer, WritesAll, Devices, FailuresMet, LeftMet, Story, BreaksOff, RunGives, IsSameChoice, ServesForOthers, part_searches, line_cost, lines_cost, files_cost, sum_by-cons, mul-le-mul_left, mul-le-mul_right}
-use Rattle.re_syntax.proofs.lemmas.Decisions.{Any-first, Any-later, Any-cases, Any-none}
-use Rattle.grep_core.specs.declared.status.RunFault.TheVariants.{Write, Memory}
-use Rattle.grep_core.proofs.lemmas.CostLaws.{cost_within}
+use Rattle.{grep_core.{proofs.{Prelude.{◌++◌, ◌≡◌, ℕ, zero, suc, ◌+◌, ◌≤◌, ◌↔◌, Bool, true, false, List, [], ◌∷◌, inl, inr, length, Any, MatchBool, Option, Result, Ok, Err, arith, Text, Expression, alt, Holds, Matches, IsFound, IsPart, ArePartsFrom, Context, Options, Status, RunFault, MessageWrite, IsShown, BeginsGroup, Groups, IfHolds, EachGives, File, Ending, whole, missing, broken, Matched, Selected, HasSelected, FaultMetBy, FaultMet, Stops, Reached, Message, Messages, AnySelected, StatusOf, Form, nothing, names, counts, parts, lines, around, form, shown_name, shown_number, GroupsOf, SelectedLines, CountOf, RowsOf, PartsOfLine, PartRowsOf, OutAs, Source, Reading, file_of, files_of, Writer, WritesAll, Devices, FailuresMet, LeftMet, Story, BreaksOff, RunGives, IsSameChoice, ServesForOthers, part_searches, line_cost, lines_cost, files_cost, sum_by-cons, mul-le-mul_left, mul-le-mul_right}, lemmas.CostLaws.cost_within}, specs.declared.status.RunFault.TheVariants.{Write, Memory}}, re_syntax.proofs.lemmas.Decisions.{Any-first, Any-later, Any-cases, Any-none}}
 
 -- ---- what holds of some element
 

@@ -1,10 +1,5 @@
 -- The lines of a block up to the first that is matched, and the rows of several lines.
-use Rattle.grep_core.proofs.Prelude.{AreUnselected, Bor, MatchOption, Option, None, Some, ◌≡◌, ◌⊎◌, ℕ, nat_eq, ◌+◌, ◌-◌, ◌*◌, ◌<◌, ◌≤◌, ◌&&◌, ◌||◌, IsTrue, not, inr, Bool, true, false, Decides, append-nil, List, [], ◌∷◌, ◌++◌, All, length, take, drop, slice_range, refl, sym, ap, ◌∙◌, subst, arith, append_assoc, inl, length-append, if◌then◌else◌, is_some, Text, Expression, newline, terminated, lines_of, HasNoNewline, Span, IsBlock, IsNext, Sought, IsSought, Options, Selected, colon, head, lines, form, shown_number, written, IsBare, rows_selected, RowsOfSelected, RowsOfLine, RowsOfLines, name_shown, IsDivided, SearchedBlock, false≢true, cases_lt, take-append_seam, drop-append_seam, nil_from_length, All-cons, All-nil, All-head, All-tail}
-use Rattle.re_syntax.proofs.lemmas.LinesLaws.{lines_of-terminated, terminated-append}
-use Rattle.re_search.proofs.lemmas.NextLines.{block_lines, free_lines}
-use Rattle.re_search.specs.Meters.{Steps}
-use Rattle.re_search.specs.Searches.{AddsAtMost}
-use Rattle.grep_core.proofs.lemmas.Verdicts.{decided_yes, decided_no}
+use Rattle.{grep_core.proofs.{Prelude.{AreUnselected, Bor, MatchOption, Option, None, Some, ◌≡◌, ◌⊎◌, ℕ, nat_eq, ◌+◌, ◌-◌, ◌*◌, ◌<◌, ◌≤◌, ◌&&◌, ◌||◌, IsTrue, not, inr, Bool, true, false, Decides, append-nil, List, [], ◌∷◌, ◌++◌, All, length, take, drop, slice_range, refl, sym, ap, ◌∙◌, subst, arith, append_assoc, inl, length-append, if◌then◌else◌, is_some, Text, Expression, newline, terminated, lines_of, HasNoNewline, Span, IsBlock, IsNext, Sought, IsSought, Options, Selected, colon, head, lines, form, shown_number, written, IsBare, rows_selected, RowsOfSelected, RowsOfLine, RowsOfLines, name_shown, IsDivided, SearchedBlock, false≢true, cases_lt, take-append_seam, drop-append_seam, nil_from_length, All-cons, All-nil, All-head, All-tail}, lemmas.Verdicts.{decided_yes, decided_no}}, re_syntax.proofs.lemmas.LinesLaws.{lines_of-terminated, terminated-append}, re_search.{proofs.lemmas.NextLines.{block_lines, free_lines}, specs.{Meters.Steps, Searches.AddsAtMost}}}
 
 -- ---- where the lines lie
 

@@ -1,7 +1,5 @@
 -- The files of more sources, and how often the devices failed in them.
-use Rattle.grep_core.proofs.Prelude.{◌≡◌, ℕ, zero, suc, ◌+◌, List, [], ◌∷◌, ◌++◌, inl, inr, Option, refl, sym, ap, ◌∙◌, length, Any, arith, append-nil, append_assoc, Expression, Options, one_more, IfHolds, FaultMet, Stops, Source, Reading, file_of, failures_of, AreLeft, files_of, AreReadings, FailuresMet, LeftMet, count_more, Returns, Text}
-use Rattle.re_syntax.proofs.lemmas.Decisions.{Any-first, Any-later}
-use Rattle.grep_core.proofs.lemmas.Decided.{dec_stops}
+use Rattle.{grep_core.proofs.{Prelude.{◌≡◌, ℕ, zero, suc, ◌+◌, List, [], ◌∷◌, ◌++◌, inl, inr, Option, refl, sym, ap, ◌∙◌, length, Any, arith, append-nil, append_assoc, Expression, Options, one_more, IfHolds, FaultMet, Stops, Source, Reading, file_of, failures_of, AreLeft, files_of, AreReadings, FailuresMet, LeftMet, count_more, Returns, Text}, lemmas.Decided.dec_stops}, re_syntax.proofs.lemmas.Decisions.{Any-first, Any-later}}
 
 -- readings of some sources, and of others after them
 pub AreReadings-append : (xs ys : List Source) (rs ss : List Reading) → AreReadings xs rs → AreReadings ys ss → AreReadings (xs ++ ys) (rs ++ ss)

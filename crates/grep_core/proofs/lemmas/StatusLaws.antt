@@ -1,8 +1,6 @@
 -- The status, by whether a line was selected and whether a fault was met.
-use Rattle.grep_core.proofs.Prelude.{IsTrue, List, ◌∷◌, ◌++◌, inl, inr, refl, Any, Expression, Options, NoneSelected, Error, File, HasSelected, FaultMet, AnySelected, StatusOf}
-use Rattle.re_syntax.proofs.lemmas.Decisions.{dec_IsTrue, Any-first}
+use Rattle.{grep_core.proofs.Prelude.{IsTrue, List, ◌∷◌, ◌++◌, inl, inr, refl, Any, Expression, Options, NoneSelected, Error, File, HasSelected, FaultMet, AnySelected, StatusOf}, re_syntax.proofs.lemmas.{Decisions.{dec_IsTrue, Any-first}, SomeOfJoined.Any-right}}
 use Rattle.grep_core.specs.declared.status.Status.TheVariants.{Selected as selected}
-use Rattle.re_syntax.proofs.lemmas.SomeOfJoined.{Any-right}
 
 module _ (es : List Expression) (options : Options) where
   -- under `-q` a selected line decides

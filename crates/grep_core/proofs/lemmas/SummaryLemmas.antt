@@ -1,11 +1,6 @@
 -- One source is done: its summary and its message, after the rows of its lines.
-use Rattle.grep_core.proofs.Prelude.{◌≡◌, ℕ, Bool, true, false, Decides, IsTrue, List, [], ◌∷◌, ◌++◌, MatchBool, nat_le, length, refl, sym, ap, ◌∙◌, inl, inr, Option, Result, Ok, Err, false≢true, cases_Bool, cond-true, cond-false, Text, Expression, Options, FileEnd, Missing, Whole, Broken, Left, FileFound, RunFault, MessageWrite, SearchFault, one_more, EachGives, File, Ending, form, message, FaultMet, Message, Reported, Source, Reading, not_opened, fails_after, ends_after, most_lines, up_to_limit, file_of, Devices, Writer, TakesAll, TakesFront, rows_after, SearchGives, is_fault, ending_of, summary_as, reported_of, SearchesSource, FinishesSource, BreaksSource, BreaksMessage, EndsSource, SourceGives}
-use Rattle.re_search.specs.Meters.{Steps}
-use Rattle.grep_core.specs.declared.status.RunFault.TheVariants.{Write, Memory}
+use Rattle.{grep_core.{proofs.{Prelude.{◌≡◌, ℕ, Bool, true, false, Decides, IsTrue, List, [], ◌∷◌, ◌++◌, MatchBool, nat_le, length, refl, sym, ap, ◌∙◌, inl, inr, Option, Result, Ok, Err, false≢true, cases_Bool, cond-true, cond-false, Text, Expression, Options, FileEnd, Missing, Whole, Broken, Left, FileFound, RunFault, MessageWrite, SearchFault, one_more, EachGives, File, Ending, form, message, FaultMet, Message, Reported, Source, Reading, not_opened, fails_after, ends_after, most_lines, up_to_limit, file_of, Devices, Writer, TakesAll, TakesFront, rows_after, SearchGives, is_fault, ending_of, summary_as, reported_of, SearchesSource, FinishesSource, BreaksSource, BreaksMessage, EndsSource, SourceGives}, lemmas.{ChooseLaws.EachGives-one, GroupLaws.after_summary, WriterLaws.{TakesAll-more, TakesFront-more}}}, specs.declared.status.RunFault.TheVariants.{Write, Memory}}, re_search.specs.Meters.Steps}
 use Rattle.grep_core.specs.declared.status.SearchFault.TheVariants as search_fault
-use Rattle.grep_core.proofs.lemmas.ChooseLaws.{EachGives-one}
-use Rattle.grep_core.proofs.lemmas.GroupLaws.{after_summary}
-use Rattle.grep_core.proofs.lemmas.WriterLaws.{TakesAll-more, TakesFront-more}
 
 limit_named : (name : Text) (ls : List Text) (ending : Ending) → (up_to_limit name ls ending).name ≡ name
 limit_named name ls _ =

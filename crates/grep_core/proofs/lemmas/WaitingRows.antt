@@ -1,9 +1,6 @@
 -- What is written at a line, where lines around selected ones are shown, and which lines wait after
 -- it.
-use Rattle.grep_core.proofs.Prelude.{◌≡◌, ℕ, zero, suc, ◌+◌, ◌-◌, ◌<◌, ◌≤◌, nat_lt, min, Bool, true, false, not, List, [], ◌∷◌, ◌++◌, Option, Result, Ok, Err, IfOk, length, take, drop, get_or, refl, sym, ap, ◌∙◌, append-nil, append_assoc, arith, take-append-drop, if◌then◌else◌, is_err, Text, Options, Progress, SearchFault, Writer, LastLines, BreaksShown, ShowGives, IsErrAnd, hyphen, output_line, written, GoesOut, StopsWithin, Writes, next_shown, after_line, with_waiting, last_of, row_with, rows_around, false≢true, ltb-true, ltb-false, length-drop, length_push, drop-drop, drop-append-le, drop_all, take_more}
-use Rattle.grep_core.specs.declared.status.SearchFault.TheVariants.{Write}
-use Rattle.grep_core.proofs.lemmas.RowLemmas.{goes_on, stops_early, stops_later, writes_last}
-use Rattle.grep_core.proofs.lemmas.WriterLaws.{written-append}
+use Rattle.grep_core.{proofs.{Prelude.{◌≡◌, ℕ, zero, suc, ◌+◌, ◌-◌, ◌<◌, ◌≤◌, nat_lt, min, Bool, true, false, not, List, [], ◌∷◌, ◌++◌, Option, Result, Ok, Err, IfOk, length, take, drop, get_or, refl, sym, ap, ◌∙◌, append-nil, append_assoc, arith, take-append-drop, if◌then◌else◌, is_err, Text, Options, Progress, SearchFault, Writer, LastLines, BreaksShown, ShowGives, IsErrAnd, hyphen, output_line, written, GoesOut, StopsWithin, Writes, next_shown, after_line, with_waiting, last_of, row_with, rows_around, false≢true, ltb-true, ltb-false, length-drop, length_push, drop-drop, drop-append-le, drop_all, take_more}, lemmas.{RowLemmas.{goes_on, stops_early, stops_later, writes_last}, WriterLaws.written-append}}, specs.declared.status.SearchFault.TheVariants.Write}
 
 -- what holds at an Ok
 pub if_kept : {T E P : Type 0} (r : Result T E) {refused : Bool} → refused ≡ is_err r → refused ≡ false → IfOk r (λ _. P) → P

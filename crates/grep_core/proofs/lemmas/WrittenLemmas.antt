@@ -1,6 +1,5 @@
 -- Bytes that were written, as output lines after a margin.
-use Rattle.grep_core.proofs.Prelude.{ℕ, [], ◌∷◌, ◌++◌, List, Option, Result, append_assoc, append-nil, Text, newline, output_line, written, writer, TakesAll, TakesFront, GoesOut, StopsWithin, Writes}
-use Rattle.grep_core.proofs.lemmas.RowLemmas.{goes_nowhere, stops_early, writes_last}
+use Rattle.grep_core.proofs.{Prelude.{ℕ, [], ◌∷◌, ◌++◌, List, Option, Result, append_assoc, append-nil, Text, newline, output_line, written, writer, TakesAll, TakesFront, GoesOut, StopsWithin, Writes}, lemmas.RowLemmas.{goes_nowhere, stops_early, writes_last}}
 
 module _ {W : Type 0} (contents : W → Option Text) (failures : W → ℕ) where
   -- no line was written

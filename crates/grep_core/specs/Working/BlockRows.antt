@@ -1,15 +1,12 @@
 -- What is written for several lines of a file, one after the other.
 use Rattle.std.specs.Prelude.{◌≡◌, ℕ, ◌+◌, ◌≤◌, Bool, IsTrue, ◌↔◌, List, [], ◌∷◌, ◌++◌, All, length}
 use Rattle.std.specs.Prelude.{if◌then◌else◌}
-use Rattle.re_syntax.specs.{Bytes.Text, Lines.HasNoNewline, Lines.terminated, Expression.Expression}
-use Rattle.re_search.specs.Meters.{Steps, AddsAtMost}
-use Rattle.grep_core.specs.Cost.{lines_cost}
-use Rattle.grep_core.specs.declared.status.SearchFault.TheVariants.{Write, Memory}
-use Rattle.grep_core.specs.declared.options.Options.{Options}
+use Rattle.re_syntax.specs.{Lines.{HasNoNewline, terminated}, Expression.Expression, Bytes.Text}
+use Rattle.{re_search.specs.Meters.{Steps, AddsAtMost}, grep_core.specs.Cost.lines_cost}
 use Rattle.grep_core.specs.declared.search.searched_block.SearchedLines.{SearchedLines}
-use Rattle.grep_core.specs.declared.status.SearchFault.{SearchFault}
-use Rattle.grep_core.specs.{Files.Selected, Run.Writer, Run.TakesAll, Run.TakesFront}
-use Rattle.grep_core.specs.{Working.OneLine.RowsOfLine, Working.SearchedBlocks.IsNextOf}
+use Rattle.grep_core.specs.declared.status.SearchFault.{TheVariants.{Write, Memory}, SearchFault}
+use Rattle.grep_core.specs.{declared.options.Options.Options, Run.{TakesAll, TakesFront, Writer}}
+use Rattle.grep_core.specs.{Files.Selected, Working.{SearchedBlocks.IsNextOf, OneLine.RowsOfLine}}
 use Rattle.grep_io.specs.{Counted.one_more, Working.Numbered.Numbered}
 
 -- no more work was done than the search of these lines costs

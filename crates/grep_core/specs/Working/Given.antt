@@ -1,12 +1,10 @@
 -- What a search of the lines of a source returns.
 use Rattle.std.specs.Prelude.{ℕ, Bool, List, Option, Result, Ok, Err}
-use Rattle.re_syntax.specs.{Bytes.Text, Expression.Expression}
-use Rattle.re_search.specs.Meters.{Steps}
-use Rattle.grep_io.specs.Reading.{Source}
-use Rattle.grep_core.specs.declared.status.SearchFault.TheVariants.{Write, Memory}
-use Rattle.grep_core.specs.Working.Searched.{SearchesSource, BreaksSource, StopsSource}
-use Rattle.grep_core.specs.{declared.options.Options.Options, declared.status.FileFound.FileFound}
-use Rattle.grep_core.specs.{declared.status.SearchFault.SearchFault, Run.Writer}
+use Rattle.{re_syntax.specs.{Bytes.Text, Expression.Expression}, re_search.specs.Meters.Steps}
+use Rattle.{grep_io.specs.Reading.Source, grep_core.specs.Run.Writer}
+use Rattle.grep_core.specs.Working.Searched.{BreaksSource, SearchesSource, StopsSource}
+use Rattle.grep_core.specs.declared.status.SearchFault.{TheVariants.{Write, Memory}, SearchFault}
+use Rattle.grep_core.specs.declared.{status.FileFound.FileFound, options.Options.Options}
 
 module _ (es : List Expression) (options : Options) (many shown : Bool) (source : Source)
     (given : List (Option Text) → Type 0) (failed_before failed : ℕ) (old new : Writer)

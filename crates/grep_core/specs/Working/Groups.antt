@@ -3,7 +3,7 @@
 use Rattle.std.specs.Prelude.{Bool, List, drop, if◌then◌else◌}
 use Rattle.re_syntax.specs.{Bytes.Text, Expression.Expression}
 use Rattle.grep_core.specs.{declared.options.Options.Options, Choose.EachGives, Files.File}
-use Rattle.grep_core.specs.{Output.Form, Output.around, Output.OutAs, Output.GroupsOf}
+use Rattle.grep_core.specs.Output.{Form, around, OutAs, GroupsOf}
 
 module _ (es : List Expression) (options : Options) (many : Bool) where
   abbrev pub GroupedAs : Form → List File → List Text → Type 0

@@ -1,7 +1,6 @@
 -- The last lines of a file that are not shown; no more are held than may be shown.
 use Rattle.std.specs.Prelude.{ℕ, List, ◌++◌}
-use Rattle.re_syntax.specs.Bytes.{Text}
-use Rattle.grep_core.specs.Working.Progress.{last_of}
+use Rattle.{re_syntax.specs.Bytes.Text, grep_core.specs.Working.Progress.last_of}
 
 -- the lines, the oldest first
 pub record LastLines : Type 0 where

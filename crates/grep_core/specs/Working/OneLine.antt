@@ -1,15 +1,13 @@
 -- What is written for one line of a file, and for a file's first lines.
-use Rattle.std.specs.Prelude.{◌≡◌, ℕ, ◌+◌, ◌*◌, Bool, false, IsTrue, ◌↔◌, List, [], ◌∷◌, ◌++◌, ⊤}
+use Rattle.std.specs.Prelude.{false, IsTrue, ◌∷◌, List, ◌++◌, ◌↔◌, ◌*◌, ⊤, ◌≡◌, ◌+◌, Bool, [], ℕ}
 use Rattle.re_syntax.specs.{Bytes.Text, Expression.Expression}
-use Rattle.grep_core.specs.declared.status.SearchFault.TheVariants.{Write, Memory}
+use Rattle.grep_core.specs.declared.status.SearchFault.{SearchFault, TheVariants.{Write, Memory}}
+use Rattle.grep_core.specs.{declared.options.Options.Options, Working.Requests.name_shown}
 use Rattle.grep_core.specs.Output.{Form, parts, lines, around, form, head_of, shown_number, RowsOf}
-use Rattle.grep_core.specs.Cost.{part_searches, search_cost}
-use Rattle.grep_core.specs.Output.{PartsOfLine, PartRowsOf, GroupsOf}
-use Rattle.grep_core.specs.declared.options.Options.{Options}
-use Rattle.grep_core.specs.{declared.status.SearchFault.SearchFault, Choose.IfHolds, Files.File}
-use Rattle.grep_core.specs.{Files.Selected, Row.colon, Row.head, Run.Writer, Run.TakesAll}
-use Rattle.grep_core.specs.{Run.TakesFront, Working.Requests.name_shown}
-use Rattle.grep_io.specs.{Counted.one_more, Working.Handed.file_so_far}
+use Rattle.grep_core.specs.{Output.{PartsOfLine, PartRowsOf, GroupsOf}, Choose.IfHolds}
+use Rattle.grep_core.specs.{Cost.{search_cost, part_searches}, Run.{Writer, TakesAll, TakesFront}}
+use Rattle.grep_core.specs.{Files.{File, Selected}, Row.{colon, head}}
+use Rattle.grep_io.specs.{Working.Handed.file_so_far, Counted.one_more}
 
 -- no lines are shown around selected ones
 abbrev pub IsPlain : Form → Type 0

@@ -1,10 +1,8 @@
 -- Lines of a reader that are passed without being handed out.
 use Rattle.std.specs.Prelude.{◌≡◌, ◌⊎◌, List, [], All, length}
-use Rattle.re_syntax.specs.{Bytes.Text, Expression.Expression}
-use Rattle.grep_core.specs.declared.options.Options.{Options}
-use Rattle.grep_core.specs.{declared.output.around.Progress.Progress, Files.Selected}
-use Rattle.grep_core.specs.{Working.LastLines.LastLines, Working.LastLines.with_lines}
-use Rattle.grep_core.specs.Working.Progress.{with_waiting}
+use Rattle.{re_syntax.specs.{Bytes.Text, Expression.Expression}, grep_core.specs.Files.Selected}
+use Rattle.grep_core.specs.declared.{options.Options.Options, output.around.Progress.Progress}
+use Rattle.grep_core.specs.Working.{Progress.with_waiting, LastLines.{LastLines, with_lines}}
 
 abbrev pub AreUnselected : List Expression → Options → List Text → Type 0
 AreUnselected es options lines = All (λ line. ¬ Selected es options line) lines

@@ -1,13 +1,10 @@
 -- What is shown at each line of a file in turn, where lines around selected ones are shown.
 use Rattle.std.specs.Prelude.{ℕ, ◌+◌, ◌-◌, nat_lt, min, Bool, true, false, ◌&&◌, ◌||◌, List, []}
-use Rattle.std.specs.Prelude.{◌∷◌, ◌++◌, length, map, drop, if◌then◌else◌}
-use Rattle.std.specs.List.{enumerate_from}
-use Rattle.re_syntax.specs.Bytes.{Text}
-use Rattle.grep_core.specs.declared.options.Options.{Options}
-use Rattle.grep_core.specs.declared.output.around.Progress.{Progress}
-use Rattle.grep_core.specs.{declared.output.around.Shown.Shown, declared.options.Context.Context}
-use Rattle.grep_core.specs.{Around.group_separator, Row.colon, Row.hyphen, Row.head}
-use Rattle.grep_core.specs.{Output.shown_number, Working.Requests.name_shown}
+use Rattle.std.specs.{Prelude.{◌∷◌, ◌++◌, length, map, drop, if◌then◌else◌}, List.enumerate_from}
+use Rattle.{re_syntax.specs.Bytes.Text, grep_core.specs.Working.Requests.name_shown}
+use Rattle.grep_core.specs.{Output.shown_number, Row.{head, colon, hyphen}, Around.group_separator}
+use Rattle.grep_core.specs.declared.options.{Context.Context, Options.Options}
+use Rattle.grep_core.specs.declared.output.around.{Progress.Progress, Shown.Shown}
 
 -- nothing of the file is shown yet
 abbrev pub progress_from : Context → Bool → Progress

@@ -1,11 +1,9 @@
 -- What is asked of one file.
-use Rattle.std.specs.Prelude.{Bool, not, Option, None, Some, if◌then◌else◌}
-use Rattle.re_syntax.specs.Bytes.{Text}
+use Rattle.std.specs.Prelude.{if◌then◌else◌, Bool, Option, not, None, Some}
+use Rattle.{re_syntax.specs.Bytes.Text, grep_core.specs.declared.options.Options.Options}
 use Rattle.grep_core.specs.declared.options.Form.TheVariants.{Nothing, Names, Counts, Parts, Lines}
-use Rattle.grep_core.specs.declared.options.Form.TheVariants.{Around}
+use Rattle.grep_core.specs.declared.options.Form.{TheVariants.Around, Form as AskedForm}
 use Rattle.grep_core.specs.Output.{Form, nothing, names, counts, parts, lines, around}
-use Rattle.grep_core.specs.declared.options.Options.{Options}
-use Rattle.grep_core.specs.declared.options.Form.{Form as AskedForm}
 
 abbrev pub form_of : AskedForm → Form
 form_of Nothing = nothing

@@ -1,9 +1,9 @@
 -- Expressions that can replace others: they hold on the same stretches, as the one choice of
 -- several expressions does for these.
 use Rattle.std.specs.Prelude.{◌≡◌, ℕ, ◌≤◌, ◌↔◌, List, Option, length, Any, Result}
-use Rattle.re_syntax.specs.{Bytes.Text, Expression.Expression, Holds.Holds}
-use Rattle.grep_core.specs.{declared.options.Options.Options, declared.status.RunFault.RunFault}
-use Rattle.grep_core.specs.{declared.status.Status.Status, Run.Devices, Run.RunGives}
+use Rattle.re_syntax.specs.{Bytes.Text, Holds.Holds, Expression.Expression}
+use Rattle.grep_core.specs.declared.status.{RunFault.RunFault, Status.Status}
+use Rattle.grep_core.specs.{declared.options.Options.Options, Run.{Devices, RunGives}}
 use Rattle.grep_io.specs.Reading.{Source}
 
 -- some expression of the first list holds on a stretch where some of the second does

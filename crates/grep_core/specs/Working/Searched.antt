@@ -1,26 +1,21 @@
 -- What a search of one source does.
-use Rattle.std.specs.Prelude.{◌≡◌, ℕ, nat_lt, ◌≤◌, Bool, true, false, ◌||◌, IsTrue, ◌↔◌, List, []}
-use Rattle.std.specs.Prelude.{◌∷◌, ◌++◌, length, take, Option, Result, Ok, Err, if◌then◌else◌}
+use Rattle.std.specs.Prelude.{IsTrue, Option, Result, ◌↔◌, ◌||◌, ◌≡◌, if◌then◌else◌, nat_lt, ◌≤◌}
+use Rattle.std.specs.Prelude.{Ok, List, [], ◌∷◌, Bool, false, true, length, ℕ, Err, take, ◌++◌}
 use Rattle.std.specs.Fmt.{decimal}
-use Rattle.re_syntax.specs.{Bytes.Text, Expression.Expression}
-use Rattle.re_search.specs.Meters.{Steps}
-use Rattle.grep_core.specs.declared.status.FileEnd.TheVariants.{Missing, Whole, Broken, Left}
+use Rattle.{re_syntax.specs.{Expression.Expression, Bytes.Text}, re_search.specs.Meters.Steps}
+use Rattle.grep_core.specs.Run.{Writer, Devices, TakesAll, TakesFront, begun, count_more}
+use Rattle.grep_core.specs.{Files.{missing, broken, HasSelected, Ending, whole}, Choose.IfHolds}
+use Rattle.grep_core.specs.{Row.{colon, prefix}, Messages.{message, FaultMet, Reported}}
+use Rattle.grep_core.specs.Working.{BlockRows.SearchesLines, Groups.{rows_after, GroupedAs}}
+use Rattle.grep_core.specs.{Working.Requests.name_shown, Output.{Form, names, counts, form}}
+use Rattle.grep_core.specs.declared.status.FileEnd.TheVariants.{Broken, Left, Missing, Whole}
+use Rattle.grep_core.specs.declared.status.{FileEnd.FileEnd, SearchFault.SearchFault}
 use Rattle.grep_core.specs.declared.status.RunFault.TheVariants.{Write, MessageWrite, Memory}
+use Rattle.grep_core.specs.declared.status.{RunFault.RunFault, Status.Status}
 use Rattle.grep_core.specs.declared.status.Status.TheVariants.{Selected, NoneSelected, Error}
-use Rattle.grep_core.specs.{declared.options.Options.Options, declared.status.FileEnd.FileEnd}
-use Rattle.grep_core.specs.{declared.status.FileFound.FileFound, declared.status.RunFault.RunFault}
-use Rattle.grep_core.specs.{declared.status.SearchFault.SearchFault, declared.status.Status.Status}
-use Rattle.grep_core.specs.{Choose.IfHolds, Row.colon, Row.prefix, Files.Ending, Files.whole}
-use Rattle.grep_core.specs.{Files.missing, Files.broken, Files.HasSelected, Output.Form}
-use Rattle.grep_core.specs.{Output.names, Output.counts, Output.form, Messages.message}
-use Rattle.grep_core.specs.{Messages.FaultMet, Messages.Reported, Run.Writer, Run.Devices}
-use Rattle.grep_core.specs.{Run.TakesAll, Run.TakesFront, Run.begun, Run.count_more}
-use Rattle.grep_core.specs.{Working.Groups.GroupedAs, Working.Groups.rows_after}
-use Rattle.grep_core.specs.Working.Requests.{name_shown}
-use Rattle.grep_core.specs.Working.BlockRows.{SearchesLines}
+use Rattle.grep_core.specs.declared.{status.FileFound.FileFound, options.Options.Options}
 use Rattle.grep_io.specs.Reading.{Source, Reading, IsReadingOf, file_of, failures_of, AreLeft}
-use Rattle.grep_io.specs.Reading.{HasRead}
-use Rattle.grep_io.specs.Counted.{one_more}
+use Rattle.grep_io.specs.{Reading.HasRead, Counted.one_more}
 use Rattle.grep_core.specs.declared.status.SearchFault.TheVariants as search_fault
 
 -- a file is left at its first selected line

@@ -1,12 +1,11 @@
 -- The lines that are held in one piece, as far as they were searched at once.
-use Rattle.std.specs.Prelude.{◌≡◌, ℕ, ◌+◌, ◌≤◌, List, [], ◌∷◌, ◌++◌, All, MatchOption, length}
-use Rattle.std.specs.Prelude.{Option, Result, IfOk}
-use Rattle.re_syntax.specs.{Bytes.Text, Lines.HasNoNewline, Lines.lines_of, Lines.terminated}
-use Rattle.re_search.specs.Working.Sought.{Sought, IsSought}
-use Rattle.grep_io.specs.{declared.input.lines.Stage.TheVariants.Ended, Reading.most_lines}
-use Rattle.grep_io.specs.{Written.Writes, Working.Numbered.Numbered}
+use Rattle.std.specs.Prelude.{ℕ, All, length, ◌≡◌, ◌++◌, [], MatchOption, Result, IfOk, List}
+use Rattle.std.specs.Prelude.{Option, ◌+◌, ◌∷◌, ◌≤◌}
+use Rattle.re_syntax.specs.{Lines.{HasNoNewline, lines_of, terminated}, Bytes.Text}
+use Rattle.re_search.specs.Working.Sought.{IsSought, Sought}
+use Rattle.grep_io.specs.{declared.input.lines.Stage.TheVariants.Ended, Working.Numbered.Numbered}
+use Rattle.{grep_io.specs.{Reading.most_lines, Written.Writes}, grep_core.specs.Choose.Chosen}
 use Rattle.grep_core.specs.declared.search.searched_block.SearchedBlock.{SearchedBlock}
-use Rattle.grep_core.specs.Choose.{Chosen}
 
 -- the stretch is all these lines: those before the first that is matched, and that line, if there
 -- is one

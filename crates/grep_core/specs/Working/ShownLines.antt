@@ -1,12 +1,10 @@
 -- What is written at a line where lines around selected ones are shown, and what is kept of it.
 use Rattle.std.specs.Prelude.{◌≡◌, ℕ, Bool, if◌then◌else◌, [], ◌∷◌, ◌++◌, Result, Ok, Err}
 use Rattle.re_syntax.specs.Bytes.{Text}
-use Rattle.grep_core.specs.declared.status.SearchFault.TheVariants.{Write, Memory}
+use Rattle.grep_core.specs.declared.status.SearchFault.{TheVariants.{Write, Memory}, SearchFault}
+use Rattle.grep_core.specs.declared.{options.Options.Options, output.around.Progress.Progress}
 use Rattle.grep_core.specs.Working.Progress.{next_shown, after_line, last_of, rows_at}
-use Rattle.grep_core.specs.declared.options.Options.{Options}
-use Rattle.grep_core.specs.declared.output.around.Progress.{Progress}
-use Rattle.grep_core.specs.{declared.status.SearchFault.SearchFault, Run.Writer, Run.TakesAll}
-use Rattle.grep_core.specs.{Run.TakesFront, Working.LastLines.LastLines}
+use Rattle.grep_core.specs.{Working.LastLines.LastLines, Run.{Writer, TakesAll, TakesFront}}
 use Rattle.grep_io.specs.Counted.{one_more}
 
 module _ (options : Options) (many : Bool) (name : Text) (selected : Bool) (number : ℕ)

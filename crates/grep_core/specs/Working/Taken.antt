@@ -1,13 +1,11 @@
 -- What a call for the next line of a search does.
 use Rattle.std.specs.Prelude.{◌≡◌, ℕ, List, [], ◌∷◌, ◌++◌, Option, None, Some, Result, Ok, Err}
-use Rattle.re_syntax.specs.Bytes.{Text}
+use Rattle.{re_syntax.specs.Bytes.Text, grep_io.specs.Written.{GoesOut, StopsWithin}}
+use Rattle.grep_io.specs.{Reading.{IsOneLineAndFew, HasRead, open_source}, File.{whole, broken}}
 use Rattle.grep_io.specs.Working.Numbered.{Numbered, HasHanded, StandsAs}
-use Rattle.grep_io.specs.{File.whole, File.broken, Reading.open_source, Reading.HasRead}
-use Rattle.grep_io.specs.{Reading.IsOneLineAndFew, Written.GoesOut, Written.StopsWithin}
-use Rattle.grep_core.specs.declared.status.FileEnd.TheVariants.{Missing, Whole, Broken, Left}
-use Rattle.grep_core.specs.declared.status.SearchFault.TheVariants.{Write, Memory}
+use Rattle.grep_core.specs.declared.status.SearchFault.{SearchFault, TheVariants.{Write, Memory}}
+use Rattle.grep_core.specs.declared.status.FileEnd.TheVariants.{Left, Whole, Broken, Missing}
 use Rattle.grep_core.specs.declared.status.FileEnd.{FileEnd}
-use Rattle.grep_core.specs.declared.status.SearchFault.{SearchFault}
 
 module _ {R W : Type 0} (remaining : R → Option Text) (failures : R → ℕ)
     (contents : W → Option Text) (write_failures : W → ℕ) (reader : R) (handed : List Text)

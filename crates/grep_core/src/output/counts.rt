@@ -1,9 +1,6 @@
 // Counts and names of files, written to any counted writer.
-ghost use Rattle.std.specs.Prelude.{[], ◌∷◌, ◌++◌};
-ghost use Rattle.std.specs.Fmt.{decimal};
-ghost use Rattle.std.specs.Option.{option_copied};
-ghost use Rattle.grep_core.specs.Row.{colon, prefix, output_line};
-ghost use Rattle.grep_io.specs.Written.{Writes};
+ghost use Rattle.std.specs.{Prelude.{[], ◌∷◌, ◌++◌}, Fmt.decimal, Option.option_copied};
+ghost use Rattle.{grep_core.specs.Row.{colon, prefix, output_line}, grep_io.specs.Written.Writes};
 ghost use Rattle.re_syntax.specs.Lines.{newline};
 
 use crate::output::rows::{write_decimal, write_line_after, write_prefix};

@@ -1,7 +1,6 @@
 //! Messages about files, on standard error (XCU grep, STDERR).
 ghost use Rattle.std.specs.Prelude.{[]};
-ghost use Rattle.grep_core.specs.Messages.{cannot_open, read_error};
-ghost use Rattle.grep_core.specs.Row.{output_line};
+ghost use Rattle.grep_core.specs.{Messages.{cannot_open, read_error}, Row.output_line};
 ghost use Rattle.grep_io.specs.Written.{Writes};
 
 use crate::output::rows::write_row;

@@ -1,11 +1,8 @@
 //! What is asked of one file.
 ghost use Rattle.std.specs.Prelude.{◌≡◌, ◌≤◌, IsTrue, ◌++◌, length, slice_range};
 ghost use Rattle.std.specs.Option.{option_copied};
-ghost use Rattle.grep_core.specs.Output.{shown_number};
-ghost use Rattle.grep_core.specs.Row.{colon, head, output_line};
-ghost use Rattle.grep_core.specs.Working.OneLine.{IsBare};
-ghost use Rattle.grep_core.specs.Working.Progress.{row_by};
-ghost use Rattle.grep_core.specs.Working.Requests.{name_shown};
+ghost use Rattle.grep_core.specs.{Output.shown_number, Row.{colon, head, output_line}};
+ghost use Rattle.grep_core.specs.Working.{OneLine.IsBare, Progress.row_by, Requests.name_shown};
 ghost use Rattle.grep_io.specs.Written.{Writes};
 
 use crate::options::{Form, Options};

@@ -1,12 +1,9 @@
 // Output lines, written part by part to any counted writer.
-ghost use Rattle.std.specs.Prelude.{[], ◌∷◌, ◌++◌, if◌then◌else◌};
-ghost use Rattle.std.specs.Fmt.{decimal};
+ghost use Rattle.std.specs.{Prelude.{◌∷◌, if◌then◌else◌, [], ◌++◌}, Fmt.decimal};
 ghost use Rattle.std.specs.Option.{option_copied};
-ghost use Rattle.grep_core.specs.Around.{group_separator};
-ghost use Rattle.grep_core.specs.Output.{written};
-ghost use Rattle.grep_core.specs.Row.{prefix, number_part, head, output_line};
-ghost use Rattle.grep_io.specs.Written.{Writes};
-ghost use Rattle.re_syntax.specs.Lines.{newline};
+ghost use Rattle.grep_core.specs.Row.{output_line, number_part, head, prefix};
+ghost use Rattle.grep_core.specs.{Around.group_separator, Output.written};
+ghost use Rattle.{grep_io.specs.Written.Writes, re_syntax.specs.Lines.newline};
 
 use grep_io::{CountedWrite, WriteFault, push_all};
 use itoa::Buffer;

@@ -1,11 +1,9 @@
 //! What is written of a file after the rows of its lines, and how a run ends: for one pass over
 //! sources, and for files that are kept.
 ghost use Rattle.std.specs.Prelude.{◌≡◌};
-ghost use Rattle.grep_core.specs.Messages.{cannot_open, read_error};
-ghost use Rattle.grep_core.specs.Output.{form, written};
-ghost use Rattle.grep_core.specs.Row.{output_line};
-ghost use Rattle.grep_core.specs.Working.Searched.{summary_as, reported_of, status_by};
-ghost use Rattle.grep_io.specs.Written.{Writes};
+ghost use Rattle.grep_core.specs.Working.Searched.{status_by, summary_as, reported_of};
+ghost use Rattle.grep_core.specs.{Messages.{read_error, cannot_open}, Row.output_line};
+ghost use Rattle.{grep_core.specs.Output.{written, form}, grep_io.specs.Written.Writes};
 
 use crate::options::Form;
 use crate::output::counts::{write_count, write_name};

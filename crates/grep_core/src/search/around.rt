@@ -1,19 +1,12 @@
 //! The search of one source, with lines around the selected ones.
 ghost use Rattle.std.specs.Prelude.{◌≡◌, ◌⊎◌, ◌-◌, ◌≤◌, [], ◌∷◌, ◌++◌, length, Err, IfOk};
 ghost use Rattle.std.specs.Prelude.{if◌then◌else◌};
-ghost use Rattle.re_syntax.specs.Lines.{lines_of};
-ghost use Rattle.re_search.specs.Working.Matchers.{AreAlike, AreSame, expressions_of};
-ghost use Rattle.re_search.specs.Working.Blocks.{IsBlock};
-ghost use Rattle.grep_core.specs.Output.{form, around, written};
-ghost use Rattle.grep_io.specs.Reading.{open_source};
-ghost use Rattle.grep_io.specs.Working.LineReader.{OneLeft};
-ghost use Rattle.grep_core.specs.Run.{writer};
-ghost use Rattle.grep_io.specs.Written.{Writes};
-ghost use Rattle.grep_core.specs.Working.Passed.{Waits};
-ghost use Rattle.grep_core.specs.Working.Progress.{rows_around, rows_at, last_of};
-ghost use Rattle.grep_core.specs.Working.Progress.{progress_from};
-ghost use Rattle.grep_core.specs.Working.ShownLines.{ShowGives};
-ghost use Rattle.grep_core.specs.Working.Given.{SearchGives};
+ghost use Rattle.{re_syntax.specs.Lines.lines_of, re_search.specs.Working.Blocks.IsBlock};
+ghost use Rattle.re_search.specs.Working.Matchers.{expressions_of, AreAlike, AreSame};
+ghost use Rattle.grep_core.specs.{Output.{around, written, form}, Run.writer};
+ghost use Rattle.grep_core.specs.Working.Progress.{rows_around, rows_at, last_of, progress_from};
+ghost use Rattle.grep_core.specs.Working.{Passed.Waits, ShownLines.ShowGives, Given.SearchGives};
+ghost use Rattle.grep_io.specs.{Working.LineReader.OneLeft, Written.Writes, Reading.open_source};
 
 use crate::options::Context;
 use crate::output::around::{Progress, Shown};

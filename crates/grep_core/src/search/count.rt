@@ -1,11 +1,8 @@
 //! The search of one source, whose selected lines are only counted.
 ghost use Rattle.std.specs.Prelude.{◌≡◌, ◌-◌, ◌≤◌, [], Err, false, if◌then◌else◌};
 ghost use Rattle.re_search.specs.Working.Matchers.{AreAlike, AreSame, expressions_of};
-ghost use Rattle.grep_core.specs.Output.{counts, form};
-ghost use Rattle.grep_io.specs.Reading.{open_source};
-ghost use Rattle.grep_io.specs.Working.LineReader.{OneLeft};
-ghost use Rattle.grep_core.specs.Run.{writer};
-ghost use Rattle.grep_core.specs.Working.Given.{SearchGives};
+ghost use Rattle.grep_core.specs.{Output.{counts, form}, Run.writer, Working.Given.SearchGives};
+ghost use Rattle.grep_io.specs.{Reading.open_source, Working.LineReader.OneLeft};
 
 use crate::options::Options;
 use crate::output::request::FileRequest;

@@ -1,16 +1,10 @@
 //! The search of one source.
-ghost use Rattle.std.specs.Prelude.{◌≡◌, ◌+◌, ◌-◌, ◌^◌, ◌<◌, [], length, Err};
-ghost use Rattle.std.specs.Prelude.{false, if◌then◌else◌};
-ghost use Rattle.re_search.specs.Working.Matchers.{AreAlike, AreSame, expressions_of};
-ghost use Rattle.grep_core.specs.Output.{form, written};
-ghost use Rattle.grep_io.specs.Reading.{open_source};
-ghost use Rattle.grep_io.specs.Working.LineReader.{OneLeft};
-ghost use Rattle.grep_io.specs.Written.{Writes};
-ghost use Rattle.grep_core.specs.Run.{writer, devices};
-ghost use Rattle.grep_core.specs.Sources.{source_at, Returns};
-ghost use Rattle.grep_core.specs.Working.OneLine.{IsPlain};
-ghost use Rattle.grep_core.specs.Working.Given.{SearchGives};
+ghost use Rattle.std.specs.Prelude.{[], ◌^◌, ◌-◌, false, ◌+◌, Err, length, ◌<◌, if◌then◌else◌, ◌≡◌};
+ghost use Rattle.re_search.specs.Working.Matchers.{expressions_of, AreSame, AreAlike};
+ghost use Rattle.grep_core.specs.{Sources.{source_at, Returns}, Output.{written, form}, Run.writer};
+ghost use Rattle.grep_core.specs.{Run.devices, Working.{OneLine.IsPlain, Given.SearchGives}};
 ghost use Rattle.grep_core.specs.Working.Searched.{summary_as, EndsSource, SourceGives};
+ghost use Rattle.grep_io.specs.{Reading.open_source, Working.LineReader.OneLeft, Written.Writes};
 
 use crate::output::request::FileRequest;
 use crate::output::summary::{report_fault, write_summary};

@@ -1,18 +1,12 @@
 //! The search of the lines that are held in one piece, and the rows that are written for them.
 ghost use Rattle.std.specs.Prelude.{◌≡◌, ◌*◌, ◌+◌, ◌++◌, ◌^◌, ◌<◌, ◌≤◌, ◌⊎◌, List, length, false};
 ghost use Rattle.std.specs.Prelude.{true, IfErr, IfOk, IsTrue, slice_range};
-ghost use Rattle.re_syntax.specs.Bytes.{Text};
-ghost use Rattle.re_syntax.specs.Lines.{terminated};
-ghost use Rattle.re_search.specs.Searches.{AddsAtMost};
-ghost use Rattle.re_search.specs.Meters.{Steps};
-ghost use Rattle.re_search.specs.Working.Blocks.{IsBlock};
-ghost use Rattle.re_search.specs.Working.Matchers.{AreAlike, AreSame, expressions_of};
-ghost use Rattle.re_search.specs.Working.Sought.{sought_of};
-ghost use Rattle.grep_core.specs.Working.BlockRows.{SearchesLines};
-ghost use Rattle.grep_core.specs.Run.{writer};
-ghost use Rattle.grep_core.specs.Working.OneLine.{IsBare};
-ghost use Rattle.grep_core.specs.Working.SearchedBlocks.{IsDivided, IsNextOf, WritesMatched};
-ghost use Rattle.grep_core.specs.Working.BlockRows.{TakesLines, StopsLines, TakesHeld, StopsHeld};
+ghost use Rattle.{re_syntax.specs.{Bytes.Text, Lines.terminated}, re_search.specs.Meters.Steps};
+ghost use Rattle.re_search.specs.{Searches.AddsAtMost, Working.{Blocks.IsBlock, Matchers.AreSame}};
+ghost use Rattle.re_search.specs.Working.{Matchers.{expressions_of, AreAlike}, Sought.sought_of};
+ghost use Rattle.grep_core.specs.Working.SearchedBlocks.{WritesMatched, IsNextOf, IsDivided};
+ghost use Rattle.grep_core.specs.Working.{OneLine.IsBare, BlockRows.{SearchesLines, TakesLines}};
+ghost use Rattle.grep_core.specs.{Working.BlockRows.{StopsLines, TakesHeld, StopsHeld}, Run.writer};
 ghost use Rattle.grep_io.specs.Written.{GoesOut, StopsWithin};
 
 use crate::output::request::FileRequest;

@@ -1,13 +1,10 @@
 //! One line: whether it is selected, and what is written for it.
 ghost use Rattle.std.specs.Prelude.{◌≡◌, ◌<◌, ◌≤◌, length, IfErr, IfOk, OnErr};
+ghost use Rattle.re_search.specs.Working.Matchers.{expressions_of, AreSame, AreAlike};
 ghost use Rattle.re_search.specs.Searches.{AddsAtMost};
-ghost use Rattle.re_search.specs.Working.Matchers.{AreAlike, AreSame, expressions_of};
-ghost use Rattle.grep_core.specs.Output.{form, parts};
-ghost use Rattle.grep_core.specs.Run.{writer};
-ghost use Rattle.grep_core.specs.Cost.{line_cost, search_cost};
-ghost use Rattle.grep_core.specs.Working.OneLine.{parts_cost};
-ghost use Rattle.grep_core.specs.Working.OneLine.{WritesSelected, BreaksSelected, TakesLine};
-ghost use Rattle.grep_core.specs.Working.OneLine.{StopsLine};
+ghost use Rattle.grep_core.specs.Working.OneLine.{WritesSelected, TakesLine, parts_cost, StopsLine};
+ghost use Rattle.grep_core.specs.{Working.OneLine.BreaksSelected, Output.{form, parts}};
+ghost use Rattle.grep_core.specs.{Cost.{line_cost, search_cost}, Run.writer};
 
 use crate::options::Form;
 use crate::output::request::FileRequest;

@@ -1,9 +1,7 @@
 //! The next line of a search, and sending buffered output before a read that may wait.
 ghost use Rattle.std.specs.Prelude.{List, []};
-ghost use Rattle.re_syntax.specs.Bytes.{Text};
-ghost use Rattle.grep_io.specs.Working.Numbered.{HasHanded};
-ghost use Rattle.grep_io.specs.Written.{Writes};
-ghost use Rattle.grep_core.specs.Working.Taken.{NextTaken};
+ghost use Rattle.{re_syntax.specs.Bytes.Text, grep_io.specs.Working.Numbered.HasHanded};
+ghost use Rattle.{grep_io.specs.Written.Writes, grep_core.specs.Working.Taken.NextTaken};
 
 use crate::status::{FileEnd, SearchFault};
 use grep_io::{CountedRead, CountedWrite, Lines, ReadFault, WriteFault};

@@ -3,8 +3,7 @@ ghost use Rattle.std.specs.Prelude.{◌≡◌, ◌+◌, ◌^◌, ◌<◌, ◌≤
 ghost use Rattle.std.specs.Prelude.{IfOk, OnErr};
 ghost use Rattle.re_syntax.specs.Lines.{lines_of, terminated};
 ghost use Rattle.re_search.specs.Working.Blocks.{IsBlock};
-ghost use Rattle.grep_core.specs.Working.LastLines.{with_lines};
-ghost use Rattle.grep_core.specs.Working.Progress.{last_of};
+ghost use Rattle.grep_core.specs.Working.{LastLines.with_lines, Progress.last_of};
 
 use grep_io::lines_end;
 use re_syntax::split_file;

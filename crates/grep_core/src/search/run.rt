@@ -1,8 +1,7 @@
 //! The one pass over all sources.
 ghost use Rattle.std.specs.Prelude.{◌≡◌};
 ghost use Rattle.re_search.specs.Working.Matchers.{AreAlike, AreSame, expressions_of};
-ghost use Rattle.grep_core.specs.Run.{writer, RunGives, devices};
-ghost use Rattle.grep_core.specs.Sources.{Returns};
+ghost use Rattle.grep_core.specs.{Run.{writer, RunGives, devices}, Sources.Returns};
 
 use crate::output::summary::status_of;
 use crate::search::file::search_source;

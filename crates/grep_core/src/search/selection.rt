@@ -1,8 +1,7 @@
 //! Whether a line is selected by several matchers.
-ghost use Rattle.std.specs.Prelude.{◌↔◌, IsTrue, length};
-ghost use Rattle.re_search.specs.Searches.{AddsAtMost};
-ghost use Rattle.re_search.specs.Working.Matchers.{AreAlike, AreSame, expressions_of};
-ghost use Rattle.grep_core.specs.Cost.{search_cost};
+ghost use Rattle.std.specs.Prelude.{length, ◌↔◌, IsTrue};
+ghost use Rattle.re_search.specs.Working.Matchers.{AreSame, expressions_of, AreAlike};
+ghost use Rattle.{re_search.specs.Searches.AddsAtMost, grep_core.specs.Cost.search_cost};
 ghost use Rattle.grep_core.specs.Files.{Selected};
 
 use crate::options::Options;

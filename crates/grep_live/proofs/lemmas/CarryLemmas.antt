@@ -1,8 +1,5 @@
 -- What each edit leaves: marks that fit, and views that follow.
-use Rattle.grep_live.proofs.Prelude.{◌≡◌, ℕ, zero, suc, ◌+◌, ◌<◌, ◌≤◌, Bool, List, [], ◌∷◌, ◌++◌, length, map, get_or, Result, Ok, Err, refl, sym, ap, subst, ◌∙◌, inl, inr, arith, cases_lt, Option, slice_set, remove, splice, Syntax, Text, list_of, Expression, Flag, IgnoreCase, OnlyMatching, InvertMatch, LineRegexp, Context, IfHolds, File, Inputs, AreMeant, Selected, file_at, EditFault, NoSuchFile, FileIsMissing, OutOfRange, LineHasNewline, NoSuchPattern, Pattern, TooManyPatterns, Memory, Edit, AddFile, AddMissing, DropFile, Splice, AddPatterns, DropPattern, ChangePattern, SetFlag, SetSyntax, SetContext, Applies, EditGives, Reads, with_option, with_files, with_patterns, with_context, whole_file, missing_file, spliced, ListedParts, Marked, Splices, AllThree, Hit, HitOf, View, moved, hits_at, Watched, new_mark, whole_mark, mark_at, lost, changes_hits, if◌then◌else◌, MarksAfter, FollowsFile, Follows, view_after, EditsCarry, IsFit, AreFit}
-use Rattle.grep_session.proofs.lemmas.{AllPatternsRead.with_same, FitLemmas.fit_added, FitLemmas.fit_dropped, FitLemmas.fit_lose, FitLemmas.fit_spliced}
-use Rattle.grep_live.proofs.lemmas.{HitLemmas.HitBy, HitLemmas.moved_again, HitLemmas.one_moved, MarkLemmas.kept_line, MarkLemmas.none_kept}
-use Rattle.grep_live.proofs.lemmas.ListLemmas.{three-append, three-remove, three-set, three-map, three-weaker}
+use Rattle.{grep_live.proofs.{Prelude.{◌≡◌, ℕ, zero, suc, ◌+◌, ◌<◌, ◌≤◌, Bool, List, [], ◌∷◌, ◌++◌, length, map, get_or, Result, Ok, Err, refl, sym, ap, subst, ◌∙◌, inl, inr, arith, cases_lt, Option, slice_set, remove, splice, Syntax, Text, list_of, Expression, Flag, IgnoreCase, OnlyMatching, InvertMatch, LineRegexp, Context, IfHolds, File, Inputs, AreMeant, Selected, file_at, EditFault, NoSuchFile, FileIsMissing, OutOfRange, LineHasNewline, NoSuchPattern, Pattern, TooManyPatterns, Memory, Edit, AddFile, AddMissing, DropFile, Splice, AddPatterns, DropPattern, ChangePattern, SetFlag, SetSyntax, SetContext, Applies, EditGives, Reads, with_option, with_files, with_patterns, with_context, whole_file, missing_file, spliced, ListedParts, Marked, Splices, AllThree, Hit, HitOf, View, moved, hits_at, Watched, new_mark, whole_mark, mark_at, lost, changes_hits, if◌then◌else◌, MarksAfter, FollowsFile, Follows, view_after, EditsCarry, IsFit, AreFit}, lemmas.{HitLemmas.{HitBy, moved_again, one_moved}, MarkLemmas.{kept_line, none_kept}, ListLemmas.{three-append, three-remove, three-set, three-map, three-weaker}}}, grep_session.proofs.lemmas.{AllPatternsRead.with_same, FitLemmas.{fit_added, fit_dropped, fit_lose, fit_spliced}}}
 
 -- ---- outcomes
 

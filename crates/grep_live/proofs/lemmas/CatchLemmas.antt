@@ -1,8 +1,5 @@
 -- What is reported makes each view that follows the present hits, and it follows then.
-use Rattle.grep_live.proofs.Prelude.{◌≡◌, ℕ, ◌+◌, ◌-◌, ◌<◌, ◌≤◌, Bool, true, false, if◌then◌else◌, nat_eq, ◌&&◌, List, [], ◌∷◌, length, map, take, drop, get_or, Option, Result, Ok, Err, ◌⊎◌, inl, inr, refl, sym, ap, subst, ◌∙◌, arith, cases_lt, nat_tests, slice_range, MatchResult, Text, Expression, Status, Options, File, Inputs, Selected, written, Writes, GrepGives, IsStatusOfInputs, AllChanges, ListedParts, Marked, Stretch, Fits, Keeps, AllThree, Hit, View, HitOf, HitsFrom, Hits, AreHits, Watched, whole_mark, Change, AreChanges, ChangesFile, is_idle, AreWithin, moved, hits_at, spliced_hits, after, after_each, all_after, FollowsFile, Follows, changes_rows, all_known, WritesChanges, IsFit, AreFit, Mean, drop-drop, get_or-take, get_or-drop, length-take, length-take-le, length-drop}
-use Rattle.grep_core.proofs.lemmas.LawsHold.{means_one}
-use Rattle.grep_live.proofs.lemmas.HitLemmas.{within_wider, by_within, line_hits, hits_by_line, at_same, spliced_within, spliced_before, spliced_among, spliced_after}
-use Rattle.grep_live.proofs.lemmas.ListingLemmas.{HitsFrom-exist}
+use Rattle.{grep_live.proofs.{Prelude.{◌≡◌, ℕ, ◌+◌, ◌-◌, ◌<◌, ◌≤◌, Bool, true, false, if◌then◌else◌, nat_eq, ◌&&◌, List, [], ◌∷◌, length, map, take, drop, get_or, Option, Result, Ok, Err, ◌⊎◌, inl, inr, refl, sym, ap, subst, ◌∙◌, arith, cases_lt, nat_tests, slice_range, MatchResult, Text, Expression, Status, Options, File, Inputs, Selected, written, Writes, GrepGives, IsStatusOfInputs, AllChanges, ListedParts, Marked, Stretch, Fits, Keeps, AllThree, Hit, View, HitOf, HitsFrom, Hits, AreHits, Watched, whole_mark, Change, AreChanges, ChangesFile, is_idle, AreWithin, moved, hits_at, spliced_hits, after, after_each, all_after, FollowsFile, Follows, changes_rows, all_known, WritesChanges, IsFit, AreFit, Mean, drop-drop, get_or-take, get_or-drop, length-take, length-take-le, length-drop}, lemmas.{HitLemmas.{within_wider, by_within, line_hits, hits_by_line, at_same, spliced_within, spliced_before, spliced_among, spliced_after}, ListingLemmas.HitsFrom-exist}}, grep_core.proofs.lemmas.LawsHold.means_one}
 
 idle_is : (removed added : ℕ) → (nat_eq removed 0 && nat_eq added 0) ≡ true → (removed ≡ 0) × (added ≡ 0)
 idle_is removed added e =

@@ -1,6 +1,5 @@
 -- What is counted and written of the lines of a file, by the hits that are left.
-use Rattle.grep_live.proofs.Prelude.{Bool, ◌≡◌, ℕ, ◌+◌, ◌-◌, ◌<◌, ◌≤◌, true, false, List, [], ◌∷◌, ◌++◌, length, map, drop, get_or, Option, ap, subst, ◌∙◌, arith, nat_eq, ◌&&◌, flat_map, take, Text, Expression, Inputs, file_at, written, output_line, GoesOut, StopsWithin, Marked, Stretch, Fits, IsFit, AllThree, Hit, HitsFrom, Change, AreChanges, ChangesFile, hit_row, change_row, change_rows, changes_rows, Mean, HitsBetween, IsFirst, drop_all, drop-drop}
-use Rattle.grep_session.proofs.lemmas.Writing.{drop-next, WrittenUpTo, none_written, written_on, all_written, broken_off, one_went, one_stopped}
+use Rattle.{grep_live.proofs.Prelude.{Bool, ◌≡◌, ℕ, ◌+◌, ◌-◌, ◌<◌, ◌≤◌, true, false, List, [], ◌∷◌, ◌++◌, length, map, drop, get_or, Option, ap, subst, ◌∙◌, arith, nat_eq, ◌&&◌, flat_map, take, Text, Expression, Inputs, file_at, written, output_line, GoesOut, StopsWithin, Marked, Stretch, Fits, IsFit, AllThree, Hit, HitsFrom, Change, AreChanges, ChangesFile, hit_row, change_row, change_rows, changes_rows, Mean, HitsBetween, IsFirst, drop_all, drop-drop}, grep_session.proofs.lemmas.Writing.{drop-next, WrittenUpTo, none_written, written_on, all_written, broken_off, one_went, one_stopped}}
 
 module _ (texts : Bool) (inputs : Inputs) (k from to : ℕ) {W : Type 0} (contents : W → Option Text) (failures : W → ℕ) (margin : Text) where
   -- some were written, and these are left

@@ -1,7 +1,5 @@
 -- The hits of lines, one line after the other: there are some, and no others.
-use Rattle.grep_live.proofs.Prelude.{◌≡◌, ℕ, zero, suc, ◌+◌, ◌-◌, ◌<◌, ◌≤◌, Bool, true, false, List, [], ◌∷◌, ◌++◌, length, map, take, drop, get_or, Option, Some, MatchBool, MatchOption, refl, sym, ap, subst, ◌∙◌, ◌⊎◌, inl, inr, arith, append_assoc, slice_range, enumerate_from, Text, Expression, AreParts, Span, Options, Inputs, Selected, file_at, ListedParts, span_places, Hit, HitOf, HitsFrom, HitsBetween, IsFirst, drop-cons, take-add, cases_lt, drop-drop, length-take-le, length-drop}
-use Rattle.re_syntax.proofs.lemmas.{PartsExist.AreParts-exist, PartsLaws.ArePartsFrom-unique}
-use Rattle.grep_core.proofs.lemmas.{ChooseLaws.EachGives-exist, Decided.dec_selected}
+use Rattle.{grep_live.proofs.Prelude.{◌≡◌, ℕ, zero, suc, ◌+◌, ◌-◌, ◌<◌, ◌≤◌, Bool, true, false, List, [], ◌∷◌, ◌++◌, length, map, take, drop, get_or, Option, Some, MatchBool, MatchOption, refl, sym, ap, subst, ◌∙◌, ◌⊎◌, inl, inr, arith, append_assoc, slice_range, enumerate_from, Text, Expression, AreParts, Span, Options, Inputs, Selected, file_at, ListedParts, span_places, Hit, HitOf, HitsFrom, HitsBetween, IsFirst, drop-cons, take-add, cases_lt, drop-drop, length-take-le, length-drop}, re_syntax.proofs.lemmas.{PartsExist.AreParts-exist, PartsLaws.ArePartsFrom-unique}, grep_core.proofs.lemmas.{ChooseLaws.EachGives-exist, Decided.dec_selected}}
 
 -- lines from a place on are the one there and those after it
 slice_next : (lines : List Text) (place to : ℕ) → place < to → to ≤ length lines → slice_range lines place to ≡ get_or lines place [] ∷ slice_range lines (place + 1) to

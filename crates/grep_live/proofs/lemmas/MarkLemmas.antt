@@ -1,6 +1,5 @@
 -- Lines that edits keep.
-use Rattle.grep_live.proofs.Prelude.{◌≡◌, ℕ, ◌+◌, ◌<◌, ◌≤◌, List, [], ◌∷◌, ◌++◌, length, take, drop, get_or, sym, ap, ◌∙◌, inl, inr, arith, append_assoc, get_or_append_left, get_or-take, get_or-drop, get_or-append-add, length-take-le, length-append, splice, Text, Keeps, Moves}
-use Rattle.grep_session.proofs.lemmas.FitLemmas.{length-splice}
+use Rattle.{grep_live.proofs.Prelude.{◌≡◌, ℕ, ◌+◌, ◌<◌, ◌≤◌, List, [], ◌∷◌, ◌++◌, length, take, drop, get_or, sym, ap, ◌∙◌, inl, inr, arith, append_assoc, get_or_append_left, get_or-take, get_or-drop, get_or-append-add, length-take-le, length-append, splice, Text, Keeps, Moves}, grep_session.proofs.lemmas.FitLemmas.length-splice}
 
 -- a line that stays where others are replaced, at its place
 pub kept_line : (lines come : List Text) (start count old new : ℕ) → start + count ≤ length lines → Moves start count (length come) old new → new < length (splice lines start (start + count) come) →

@@ -1,7 +1,5 @@
 -- The number of selected lines, which is the number of hits.
-use Rattle.grep_live.proofs.Prelude.{◌≡◌, ℕ, zero, suc, ◌+◌, ◌-◌, ◌<◌, ◌≤◌, List, [], ◌∷◌, ◌++◌, length, take, drop, refl, ap, ◌∙◌, ◌⊎◌, inl, inr, arith, slice_range, Text, Expression, HoldsOfMany, Options, Inputs, Selected, file_at, Hit, HitOf, HitsFrom, Mean, HitsBetween, SelectedBefore, IsPlaceAfter, take-add, length-append}
-use Rattle.grep_core.proofs.lemmas.Decided.{dec_selected}
-use Rattle.grep_live.proofs.lemmas.ListingLemmas.{HitsFrom-exist}
+use Rattle.{grep_live.proofs.{Prelude.{◌≡◌, ℕ, zero, suc, ◌+◌, ◌-◌, ◌<◌, ◌≤◌, List, [], ◌∷◌, ◌++◌, length, take, drop, refl, ap, ◌∙◌, ◌⊎◌, inl, inr, arith, slice_range, Text, Expression, HoldsOfMany, Options, Inputs, Selected, file_at, Hit, HitOf, HitsFrom, Mean, HitsBetween, SelectedBefore, IsPlaceAfter, take-add, length-append}, lemmas.ListingLemmas.HitsFrom-exist}, grep_core.proofs.lemmas.Decided.dec_selected}
 
 module _ (es : List Expression) (options : Options) where
   one : (line : Text) → Dec (Selected es options line) → ℕ

@@ -1,10 +1,5 @@
 -- Only what changed is reported.
-use Rattle.grep_live.proofs.Prelude.{◌≡◌, ℕ, zero, suc, ◌+◌, ◌-◌, ◌<◌, ◌≤◌, Bool, true, false, List, [], ◌∷◌, ◌++◌, length, map, take, drop, get_or, Result, Ok, Err, ◌⊎◌, refl, sym, ap, subst, ◌∙◌, inl, inr, arith, set, cases_eq, cases_lt, append-nil, length-append, length-map, length-set, length-take, get_or-take, get_or-set_same, get_or-set_other, get_or_append_left, slice_set, nat_eq, ◌&&◌, if◌then◌else◌, flat_map, IfOk, remove, splice, Text, Expression, Flag, Options, File, Inputs, file_at, EditFault, Edit, AddFile, AddMissing, DropFile, Splice, AddPatterns, DropPattern, ChangePattern, SetFlag, SetSyntax, SetContext, Applies, EditGives, whole_file, missing_file, spliced, option_of, Attempt, Marked, Stretch, Fits, IsAfter, IsBefore, Keeps, Moves, Splices, AllThree, Hit, Watched, whole_mark, new_mark, mark_at, changes_hits, IsFit, AreFit, MarksAfter, MarksGiven, Change, AreChanges, ChangesFile, AreWithin, hit_row, change_row, change_rows, changes_rows, all_known, changes_at, AreBetween, OneSplice, LeavesAll, LeavesEnds, EachLeavesEnds, OnlyTouched}
-use Rattle.std.specs.Bool.{⊤}
-use Rattle.std.proofs.lemmas.List.{get_or-map}
-use Rattle.grep_session.proofs.lemmas.FitLemmas.{fit_at, known_fit}
-use Rattle.grep_live.proofs.lemmas.{ListLemmas.three-at, HitLemmas.within_wider, CatchLemmas.come_within, TwiceLemmas.one_silent, TwiceLemmas.all_silent}
-use Rattle.grep_live.proofs.lemmas.CarryLemmas.{added_file, added_missing, changed_pattern, context_set, edits_carry, file_dropped, option_set, refused_same, splice_accepted, syntax_set}
+use Rattle.{grep_live.proofs.{Prelude.{◌≡◌, ℕ, zero, suc, ◌+◌, ◌-◌, ◌<◌, ◌≤◌, Bool, true, false, List, [], ◌∷◌, ◌++◌, length, map, take, drop, get_or, Result, Ok, Err, ◌⊎◌, refl, sym, ap, subst, ◌∙◌, inl, inr, arith, set, cases_eq, cases_lt, append-nil, length-append, length-map, length-set, length-take, get_or-take, get_or-set_same, get_or-set_other, get_or_append_left, slice_set, nat_eq, ◌&&◌, if◌then◌else◌, flat_map, IfOk, remove, splice, Text, Expression, Flag, Options, File, Inputs, file_at, EditFault, Edit, AddFile, AddMissing, DropFile, Splice, AddPatterns, DropPattern, ChangePattern, SetFlag, SetSyntax, SetContext, Applies, EditGives, whole_file, missing_file, spliced, option_of, Attempt, Marked, Stretch, Fits, IsAfter, IsBefore, Keeps, Moves, Splices, AllThree, Hit, Watched, whole_mark, new_mark, mark_at, changes_hits, IsFit, AreFit, MarksAfter, MarksGiven, Change, AreChanges, ChangesFile, AreWithin, hit_row, change_row, change_rows, changes_rows, all_known, changes_at, AreBetween, OneSplice, LeavesAll, LeavesEnds, EachLeavesEnds, OnlyTouched}, lemmas.{ListLemmas.three-at, HitLemmas.within_wider, CatchLemmas.come_within, TwiceLemmas.{one_silent, all_silent}, CarryLemmas.{added_file, added_missing, changed_pattern, context_set, edits_carry, file_dropped, option_set, refused_same, splice_accepted, syntax_set}}}, std.{specs.Bool.⊤, proofs.lemmas.List.get_or-map}, grep_session.proofs.lemmas.FitLemmas.{fit_at, known_fit}}
 
 -- ---- hits in the order of their places
 

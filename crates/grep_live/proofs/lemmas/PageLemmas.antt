@@ -1,8 +1,5 @@
 -- A page of hits, by those that are left.
-use Rattle.grep_live.proofs.Prelude.{Bool, ◌≡◌, ℕ, zero, suc, ◌+◌, ◌-◌, ◌^◌, ◌<◌, ◌≤◌, List, [], ◌∷◌, ◌++◌, length, map, take, drop, get_or, min, Option, Result, Ok, Err, IfOk, refl, sym, ap, subst, ◌∙◌, arith, map-append, length-map, length-append, take_all, drop_all, Text, Expression, File, Inputs, Status, written, output_line, file_at, GoesOut, StopsWithin, Writes, IsStatusOfInputs, Hit, View, HitsFrom, AreHits, total_row, page_row, page_rows, all_hits, WritesPage, Mean, HitsBetween, IsFirst, IsPlaceAfter}
-use Rattle.grep_session.proofs.lemmas.Writing.{drop-next, WrittenUpTo, none_written, written_on, all_written, broken_off, one_went, one_stopped}
-use Rattle.grep_live.proofs.lemmas.{ListingLemmas.HitsFrom-exist, ListingLemmas.with_parts, NumberLemmas.counted_before}
-use Rattle.grep_session.proofs.lemmas.FitLemmas.{zip-at, zip-length}
+use Rattle.{grep_live.proofs.{Prelude.{Bool, ◌≡◌, ℕ, zero, suc, ◌+◌, ◌-◌, ◌^◌, ◌<◌, ◌≤◌, List, [], ◌∷◌, ◌++◌, length, map, take, drop, get_or, min, Option, Result, Ok, Err, IfOk, refl, sym, ap, subst, ◌∙◌, arith, map-append, length-map, length-append, take_all, drop_all, Text, Expression, File, Inputs, Status, written, output_line, file_at, GoesOut, StopsWithin, Writes, IsStatusOfInputs, Hit, View, HitsFrom, AreHits, total_row, page_row, page_rows, all_hits, WritesPage, Mean, HitsBetween, IsFirst, IsPlaceAfter}, lemmas.{ListingLemmas.{HitsFrom-exist, with_parts}, NumberLemmas.counted_before}}, grep_session.proofs.lemmas.{Writing.{drop-next, WrittenUpTo, none_written, written_on, all_written, broken_off, one_went, one_stopped}, FitLemmas.{zip-at, zip-length}}}
 
 -- ---- a part of a list
 

@@ -1,6 +1,5 @@
 -- Bytes that are written for each element of a list.
-use Rattle.grep_live.proofs.Prelude.{◌≡◌, ℕ, ◌+◌, ◌<◌, ◌≤◌, List, [], ◌∷◌, ◌++◌, length, take, drop, get_or, Option, sym, ap, ◌∙◌, append-nil, append_assoc, take-append-drop, flat_map, Text, newline, output_line, GoesOut, StopsWithin, flat_map-append, take_more, take_all}
-use Rattle.grep_core.proofs.lemmas.RowLemmas.{goes_nowhere, goes_on, stops_early, stops_later}
+use Rattle.{grep_live.proofs.Prelude.{◌≡◌, ℕ, ◌+◌, ◌<◌, ◌≤◌, List, [], ◌∷◌, ◌++◌, length, take, drop, get_or, Option, sym, ap, ◌∙◌, append-nil, append_assoc, take-append-drop, flat_map, Text, newline, output_line, GoesOut, StopsWithin, flat_map-append, take_more, take_all}, grep_core.proofs.lemmas.RowLemmas.{goes_nowhere, goes_on, stops_early, stops_later}}
 
 module _ {W : Type 0} (contents : W → Option Text) (failures : W → ℕ) {A : Type 0} (f : A → Text) (xs : List A) where
   -- what is written for the first of them

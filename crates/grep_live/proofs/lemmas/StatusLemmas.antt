@@ -1,6 +1,5 @@
 -- Whether a line of some file is selected, by the first hit of each file.
-use Rattle.grep_live.proofs.Prelude.{◌≡◌, ℕ, ◌+◌, ◌<◌, ◌≤◌, true, false, List, [], length, get_or, ◌∙◌, ◌⊎◌, inl, inr, arith, cases_lt, Decides, Expression, Inputs, Selected, HasSelected, AnySelected, file_at, Mean, get_or_default}
-use Rattle.grep_core.proofs.lemmas.Verdicts.{decided_yes, decided_no}
+use Rattle.{grep_live.proofs.Prelude.{◌≡◌, ℕ, ◌+◌, ◌<◌, ◌≤◌, true, false, List, [], length, get_or, ◌∙◌, ◌⊎◌, inl, inr, arith, cases_lt, Decides, Expression, Inputs, Selected, HasSelected, AnySelected, file_at, Mean, get_or_default}, grep_core.proofs.lemmas.Verdicts.{decided_yes, decided_no}}
 
 -- none of the first files has a hit
 abbrev pub FirstBare : Inputs → ℕ → Type 0

@@ -1,7 +1,5 @@
 -- A line that edits leave is not reported.
-use Rattle.grep_live.proofs.Prelude.{◌≡◌, ℕ, zero, suc, ◌+◌, ◌<◌, ◌≤◌, List, [], ◌∷◌, ◌++◌, length, take, drop, get_or, Result, Ok, Err, ◌⊎◌, refl, sym, ap, subst, ◌∙◌, inl, inr, arith, set, length-append, length-drop, length-map, length-set, length-take, get_or-set_same, get_or-set_other, get_or_append_left, slice_set, MatchResult, IfHolds, remove, Text, Expression, Options, File, Inputs, file_at, EditFault, Edit, AddFile, AddMissing, DropFile, Splice, AddPatterns, ChangePattern, DropPattern, SetFlag, SetSyntax, SetContext, Applies, EditGives, whole_file, missing_file, spliced, Attempt, accepted, with_accepted, Marked, Stretch, Keeps, Moves, Splices, most_stretches, Watched, whole_mark, new_mark, mark_at, MarksAfter, MarksGiven, Change, AreChanges, ChangesFile, all_known, changes_at, LeavesAll, Stays, EachStays, LeaveLine, splices, UntouchedLines}
-use Rattle.grep_live.proofs.lemmas.{ListLemmas.three-at, OnlyLemmas.all_left, OnlyLemmas.kept_before, OnlyLemmas.known_at}
-use Rattle.grep_live.proofs.lemmas.CarryLemmas.{added_file, added_missing, file_dropped, refused_same, splice_accepted}
+use Rattle.grep_live.proofs.{Prelude.{◌≡◌, ℕ, zero, suc, ◌+◌, ◌<◌, ◌≤◌, List, [], ◌∷◌, ◌++◌, length, take, drop, get_or, Result, Ok, Err, ◌⊎◌, refl, sym, ap, subst, ◌∙◌, inl, inr, arith, set, length-append, length-drop, length-map, length-set, length-take, get_or-set_same, get_or-set_other, get_or_append_left, slice_set, MatchResult, IfHolds, remove, Text, Expression, Options, File, Inputs, file_at, EditFault, Edit, AddFile, AddMissing, DropFile, Splice, AddPatterns, ChangePattern, DropPattern, SetFlag, SetSyntax, SetContext, Applies, EditGives, whole_file, missing_file, spliced, Attempt, accepted, with_accepted, Marked, Stretch, Keeps, Moves, Splices, most_stretches, Watched, whole_mark, new_mark, mark_at, MarksAfter, MarksGiven, Change, AreChanges, ChangesFile, all_known, changes_at, LeavesAll, Stays, EachStays, LeaveLine, splices, UntouchedLines}, lemmas.{ListLemmas.three-at, OnlyLemmas.{all_left, kept_before, known_at}, CarryLemmas.{added_file, added_missing, file_dropped, refused_same, splice_accepted}}}
 
 -- ---- the changes of a file leave the lines that its mark keeps
 

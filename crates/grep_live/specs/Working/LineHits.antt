@@ -1,9 +1,8 @@
 -- The hits of some lines of a file of a session.
 use Rattle.std.specs.Prelude.{◌≡◌, ℕ, ◌+◌, ◌<◌, List, ◌∷◌, slice_range, take}
 use Rattle.re_syntax.specs.{Bytes.Text, Expression.Expression}
-use Rattle.re_search.specs.Working.Blocks.{HoldsOfMany}
-use Rattle.grep_core.specs.{Files.Inputs, Files.Selected, Run.file_at}
-use Rattle.grep_live.specs.Hits.{Hit, HitsFrom}
+use Rattle.{re_search.specs.Working.Blocks.HoldsOfMany, grep_core.specs.Files.{Inputs, Selected}}
+use Rattle.{grep_core.specs.Run.file_at, grep_live.specs.Hits.{Hit, HitsFrom}}
 
 module _ (es : List Expression) (inputs : Inputs) (k : ℕ) where
   -- the hits among the lines of file k from place `from` to place `to`

@@ -1,6 +1,5 @@
 -- All patterns were read again.
-use Rattle.grep_session.proofs.Prelude.{get_or, ◌≡◌, Bool, true, false, IsTrue, MatchBool, List, [], map, Option, None, Some, IfSome, Result, Ok, Err, All, inl, inr, refl, sym, ap, Text, AreParts, Matcher, KeptFile, KeptLine, Syntax, Expression, IsReadable, Flag, Count, Options, Inputs, EditFault, NoSuchFile, FileIsMissing, OutOfRange, LineHasNewline, NoSuchPattern, Pattern, TooManyPatterns, Memory, ReadsAgain, read_as, SetFlag, SetSyntax, Applies, EditGives, option_of, with_option, IsKept, IsFileKept, kept_lines, span_places, AreMatchers, RefusesFirst, false≢true}
-use Rattle.std.specs.Bool.{⊤}
+use Rattle.{grep_session.proofs.Prelude.{get_or, ◌≡◌, Bool, true, false, IsTrue, MatchBool, List, [], map, Option, None, Some, IfSome, Result, Ok, Err, All, inl, inr, refl, sym, ap, Text, AreParts, Matcher, KeptFile, KeptLine, Syntax, Expression, IsReadable, Flag, Count, Options, Inputs, EditFault, NoSuchFile, FileIsMissing, OutOfRange, LineHasNewline, NoSuchPattern, Pattern, TooManyPatterns, Memory, ReadsAgain, read_as, SetFlag, SetSyntax, Applies, EditGives, option_of, with_option, IsKept, IsFileKept, kept_lines, span_places, AreMatchers, RefusesFirst, false≢true}, std.specs.Bool.⊤}
 
 -- some pattern was refused, or memory ran out
 pub refuses_again : (T : Type 0) (syntax : Syntax) (options : Options) (old : Inputs) (fault : EditFault) → RefusesFirst syntax options.ignore_case old.patterns fault → ReadsAgain {T = T} syntax options old old (Err fault)

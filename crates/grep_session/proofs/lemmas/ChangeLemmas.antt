@@ -1,11 +1,5 @@
 -- What is found in a line after a change of the patterns.
-use Rattle.grep_session.proofs.Prelude.{◌≡◌, ℕ, ◌+◌, ◌-◌, ◌<◌, ◌≤◌, ◌⊎◌, Bool, true, false, ◌||◌, List, [], ◌++◌, inl, inr, length, map, All, append-nil, anew, IsNew, MatchBool, Decides, refl, sym, ap, ◌∙◌, arith, nat_eq, Text, Expression, Matches, AreParts, Options, Matched, KeptLine, Change, Span, ArePartsAgain, has_new_parts, has_number, has_own, left_numbers, HasChanged, HasNewParts, AreMatching, AddsMatching, ArePartsKept, IsKept, span_places, false≢true, subst}
-use Rattle.std.{specs.Bool.⊤, proofs.lemmas.List.Folds.list_any-append}
-use Rattle.std.proofs.lemmas.Bool.Decides.{Decides-at, Decides-like, Decides-or}
-use Rattle.re_syntax.proofs.lemmas.SomeOfJoined.{Any-append-cases, Any-left, Any-right}
-use Rattle.grep_core.proofs.lemmas.Verdicts.{decided_no, decided_yes}
-use Rattle.grep_session.proofs.lemmas.NumberLemmas.{At, at_either, at_first, at_rest, left_number, none_match, own_decides}
-use Rattle.grep_session.proofs.lemmas.SurvivingLemmas.{found_matches, parts_survive}
+use Rattle.{grep_session.proofs.{Prelude.{◌≡◌, ℕ, ◌+◌, ◌-◌, ◌<◌, ◌≤◌, ◌⊎◌, Bool, true, false, ◌||◌, List, [], ◌++◌, inl, inr, length, map, All, append-nil, anew, IsNew, MatchBool, Decides, refl, sym, ap, ◌∙◌, arith, nat_eq, Text, Expression, Matches, AreParts, Options, Matched, KeptLine, Change, Span, ArePartsAgain, has_new_parts, has_number, has_own, left_numbers, HasChanged, HasNewParts, AreMatching, AddsMatching, ArePartsKept, IsKept, span_places, false≢true, subst}, lemmas.{NumberLemmas.{At, at_either, at_first, at_rest, left_number, none_match, own_decides}, SurvivingLemmas.{found_matches, parts_survive}}}, std.{specs.Bool.⊤, proofs.lemmas.{List.Folds.list_any-append, Bool.Decides.{Decides-at, Decides-like, Decides-or}}}, re_syntax.proofs.lemmas.SomeOfJoined.{Any-append-cases, Any-left, Any-right}, grep_core.proofs.lemmas.Verdicts.{decided_no, decided_yes}}
 
 -- ---- the parts of a line, kept or searched anew
 

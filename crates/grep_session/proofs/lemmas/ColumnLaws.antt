@@ -1,11 +1,5 @@
 -- What is found in the lines of a chunk after a change, from what is found in each line.
-use Rattle.grep_session.proofs.Prelude.{◌≡◌, ℕ, ◌+◌, ◌-◌, ◌*◌, ◌<◌, ◌≤◌, ◌==◌, Bool, true, false, not, ◌||◌, Any, MatchBool, Decides, take, drop, Matches, StaysSame, Chosen, IsSought, IsParted, is_parted, is_sought, had_gone, has_own, came, marked_cost, pairs_cost, parting, if◌then◌else◌, List, [], ◌∷◌, ◌++◌, All, inl, inr, length, map, get_or, refl, sym, ap, subst, ◌∙◌, arith, append_assoc, length-append, append-nil, false≢true, nat_eq, nat_tests, length-map, nil_from_length, get_or_default, take-append_seam, drop-append_seam, All-append, All-tail, Text, Expression, Span, AddsAtMost, Steps, Options, FoundIn, finds_at, is_paired, numbers_at, Matched, AreBelow, KeptLine, no_line, line_text, seen, Change, HasChanged, SearchesEach, AreAllParts, AreMatches, has_new_parts, left_numbers, AddsMatching, IsKept, HasNewParts}
-use Rattle.std.{specs.Bool.⊤, proofs.Math.ListN.get_or-map, proofs.lemmas.Bool.cases_Bool, proofs.lemmas.Bool.Decides.Decides-and}
-use Rattle.re_meter.proofs.lemmas.Adding.{adds_both, adds_within}
-use Rattle.grep_core.proofs.lemmas.Verdicts.{decided_yes}
-use Rattle.line_chunks.proofs.lemmas.{PairLaws.lt_yes, SeenLaws.length-seen, SeenLaws.line_seen}
-use Rattle.grep_session.proofs.lemmas.{NumberLemmas.some_decides, MarkedLemmas.marked_lines, MarkedLemmas.pairs_times, StepLemmas.not_searched}
-use Rattle.grep_session.proofs.lemmas.ChangeLemmas.{line_right, numbers_right, parts_decides, went_decides}
+use Rattle.{grep_session.proofs.{Prelude.{◌≡◌, ℕ, ◌+◌, ◌-◌, ◌*◌, ◌<◌, ◌≤◌, ◌==◌, Bool, true, false, not, ◌||◌, Any, MatchBool, Decides, take, drop, Matches, StaysSame, Chosen, IsSought, IsParted, is_parted, is_sought, had_gone, has_own, came, marked_cost, pairs_cost, parting, if◌then◌else◌, List, [], ◌∷◌, ◌++◌, All, inl, inr, length, map, get_or, refl, sym, ap, subst, ◌∙◌, arith, append_assoc, length-append, append-nil, false≢true, nat_eq, nat_tests, length-map, nil_from_length, get_or_default, take-append_seam, drop-append_seam, All-append, All-tail, Text, Expression, Span, AddsAtMost, Steps, Options, FoundIn, finds_at, is_paired, numbers_at, Matched, AreBelow, KeptLine, no_line, line_text, seen, Change, HasChanged, SearchesEach, AreAllParts, AreMatches, has_new_parts, left_numbers, AddsMatching, IsKept, HasNewParts}, lemmas.{NumberLemmas.some_decides, MarkedLemmas.{marked_lines, pairs_times}, StepLemmas.not_searched, ChangeLemmas.{line_right, numbers_right, parts_decides, went_decides}}}, std.{specs.Bool.⊤, proofs.{Math.ListN.get_or-map, lemmas.Bool.{cases_Bool, Decides.Decides-and}}}, re_meter.proofs.lemmas.Adding.{adds_both, adds_within}, grep_core.proofs.lemmas.Verdicts.decided_yes, line_chunks.proofs.lemmas.{PairLaws.lt_yes, SeenLaws.{length-seen, line_seen}}}
 
 -- what holds of each text with what was found in it holds of all lines
 all_seen : (P : KeptLine → Type 0) (texts : List Text) (found : FoundIn) → ((k : ℕ) → k < length texts → P (record { text = get_or texts k []; found = finds_at found k })) → All P (seen texts found)

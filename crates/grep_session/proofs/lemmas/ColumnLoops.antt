@@ -1,9 +1,5 @@
 -- The lines of a chunk that an expression matches, noted one after the other.
-use Rattle.grep_session.proofs.Prelude.{◌≡◌, ℕ, take, drop, length-take, length-drop, ◌+◌, ◌<◌, ◌≤◌, Any, Bool, false, List, [], ◌∷◌, ◌++◌, inl, inr, length, get_or, refl, sym, ap, subst, ◌∙◌, arith, append-nil, append_assoc, if◌then◌else◌, Some, ◌⊎◌, Text, Expression, Matches, numbers_at, AreBelow, AddsColumn, IsNextLine, AddsMatching, cases_lt, All-push, All-nil, All-append}
-use Rattle.std.proofs.Math.Seq.{drop-append-le}
-use Rattle.re_syntax.proofs.lemmas.{Decisions.Any-first, SomeOfJoined.Any-left, SomeOfJoined.Any-right}
-use Rattle.line_chunks.proofs.lemmas.PairLaws.{eq_yes, eq_no, numbers_at-append}
-use Rattle.grep_session.proofs.lemmas.NumberLemmas.{adds_one_matching, passes_one_matching, adds_none_matching, adds_more_matching}
+use Rattle.{grep_session.proofs.{Prelude.{◌≡◌, ℕ, take, drop, length-take, length-drop, ◌+◌, ◌<◌, ◌≤◌, Any, Bool, false, List, [], ◌∷◌, ◌++◌, inl, inr, length, get_or, refl, sym, ap, subst, ◌∙◌, arith, append-nil, append_assoc, if◌then◌else◌, Some, ◌⊎◌, Text, Expression, Matches, numbers_at, AreBelow, AddsColumn, IsNextLine, AddsMatching, cases_lt, All-push, All-nil, All-append}, lemmas.NumberLemmas.{adds_one_matching, passes_one_matching, adds_none_matching, adds_more_matching}}, std.proofs.Math.Seq.drop-append-le, re_syntax.proofs.lemmas.{Decisions.Any-first, SomeOfJoined.{Any-left, Any-right}}, line_chunks.proofs.lemmas.PairLaws.{eq_yes, eq_no, numbers_at-append}}
 
 -- one pair more at its line, and at another
 pub one_here : (k n : ℕ) (xs : List (ℕ × ℕ)) → numbers_at k (xs ++ (k, n) ∷ []) ≡ numbers_at k xs ++ n ∷ []

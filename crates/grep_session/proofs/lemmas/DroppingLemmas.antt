@@ -1,7 +1,5 @@
 -- A pattern is removed, and the numbers of those that match a line stay right.
-use Rattle.grep_session.proofs.Prelude.{inl, get_or, get_or_default, false≢true, Option, Some, IfSome, ◌≡◌, ℕ, zero, suc, ◌<◌, All, false, List, [], ◌∷◌, length, map, take, drop, refl, sym, ap, ◌∙◌, arith, set, option_map, AllWithin, AllZip, remove, whole, Options, KeptLine, all_of, line_text, line_without, Text, Expression, IsKept, file_with, All-append, All-take, All-drop, All-map, All-weaker, get_or-set_other, map-append}
-use Rattle.re_syntax.specs.Expression.{empty}
-use Rattle.grep_session.proofs.lemmas.{ChangeLemmas.numbers_right, NumberLemmas.adds_none_matching, SplicedLists.list_changed, SplicedLists.removed}
+use Rattle.{grep_session.proofs.{Prelude.{inl, get_or, get_or_default, false≢true, Option, Some, IfSome, ◌≡◌, ℕ, zero, suc, ◌<◌, All, false, List, [], ◌∷◌, length, map, take, drop, refl, sym, ap, ◌∙◌, arith, set, option_map, AllWithin, AllZip, remove, whole, Options, KeptLine, all_of, line_text, line_without, Text, Expression, IsKept, file_with, All-append, All-take, All-drop, All-map, All-weaker, get_or-set_other, map-append}, lemmas.{ChangeLemmas.numbers_right, NumberLemmas.adds_none_matching, SplicedLists.{list_changed, removed}}}, re_syntax.specs.Expression.empty}
 
 -- ---- lines and files without an expression
 

@@ -1,6 +1,5 @@
 -- The law of the definitions: an edit has one outcome for its inputs, and one cost.
-use Rattle.grep_session.proofs.Prelude.{◌≡◌, ℕ, ◌+◌, ◌<◌, Bool, List, [], ◌∷◌, length, Result, Ok, Err, get_or, length-take, refl, sym, ap, ◌∙◌, arith, PatternFault, Syntax, Text, Matches, list_of, Inputs, Matched, EditFault, NoSuchFile, FileIsMissing, OutOfRange, LineHasNewline, NoSuchPattern, Pattern, TooManyPatterns, Memory, Edit, AddFile, AddMissing, DropFile, Splice, AddPatterns, ChangePattern, DropPattern, SetFlag, SetSyntax, SetContext, Applies, Reads, IsFirstRefused, AreAlike, EditsAreDetermined, Touched, Touches, Costs, CostsAs, CostsAccepted, pairs_cost, parting, parts_alone, all_lines, get_or-take}
-use Rattle.grep_core.proofs.lemmas.{ChooseLaws.same_value, ChooseLaws.IfHolds-both, ChooseLaws.Chosen-determined, LawsHold.means_one, LawsHold.IsMeant-determined}
+use Rattle.{grep_session.proofs.Prelude.{◌≡◌, ℕ, ◌+◌, ◌<◌, Bool, List, [], ◌∷◌, length, Result, Ok, Err, get_or, length-take, refl, sym, ap, ◌∙◌, arith, PatternFault, Syntax, Text, Matches, list_of, Inputs, Matched, EditFault, NoSuchFile, FileIsMissing, OutOfRange, LineHasNewline, NoSuchPattern, Pattern, TooManyPatterns, Memory, Edit, AddFile, AddMissing, DropFile, Splice, AddPatterns, ChangePattern, DropPattern, SetFlag, SetSyntax, SetContext, Applies, Reads, IsFirstRefused, AreAlike, EditsAreDetermined, Touched, Touches, Costs, CostsAs, CostsAccepted, pairs_cost, parting, parts_alone, all_lines, get_or-take}, grep_core.proofs.lemmas.{ChooseLaws.{same_value, IfHolds-both, Chosen-determined}, LawsHold.{means_one, IsMeant-determined}}}
 
 alike_same : {a b o : Result Inputs EditFault} → a ≡ o → b ≡ o → AreAlike a b
 alike_same {o = o} p q = rw (p, q) (alike_itself o)

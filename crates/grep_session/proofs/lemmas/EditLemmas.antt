@@ -1,8 +1,5 @@
 -- How an edit changes a session's inputs, and what is kept.
-use Rattle.grep_session.proofs.Prelude.{◌≡◌, ◌≢◌, ℕ, ◌+◌, ◌<◌, ◌≤◌, List, [], ◌++◌, length, map, take, drop, Option, Some, None, Ok, IfSome, inl, inr, refl, sym, ap, subst, ◌∙◌, All, get_or, slice_set, arith, set, map-set_same, map-set, length-map, All-append, All-take, All-drop, All-set, splice, option_map, Syntax, Text, Expression, HasNoNewline, Matcher, matched_expression, wants_whole, Steps, Options, File, Inputs, whole, missing, file_at, most_patterns, KeptFile, Inside, AreSame, anew, SearchesEach, IsSession, inputs_of, AreFit, KeptLine, line_text, AddFile, Splice, Applies, spliced, with_files, IsKept, IsFileKept, kept_file, kept_lines, file_with, AreMatchers, HasPlace, TakesSteps, NeedsNoMemory, KeepAtMost, lost}
-use Rattle.std.proofs.lemmas.List.{get_or-map}
-use Rattle.grep_core.proofs.lemmas.CostLaws.{same_length}
-use Rattle.grep_session.proofs.lemmas.{FitLemmas.fit_as, FitLemmas.fit_lose, RoomLemmas.keep_same, StepLemmas.takes_lines, SessionLemmas.map-splice}
+use Rattle.{grep_session.proofs.{Prelude.{◌≡◌, ◌≢◌, ℕ, ◌+◌, ◌<◌, ◌≤◌, List, [], ◌++◌, length, map, take, drop, Option, Some, None, Ok, IfSome, inl, inr, refl, sym, ap, subst, ◌∙◌, All, get_or, slice_set, arith, set, map-set_same, map-set, length-map, All-append, All-take, All-drop, All-set, splice, option_map, Syntax, Text, Expression, HasNoNewline, Matcher, matched_expression, wants_whole, Steps, Options, File, Inputs, whole, missing, file_at, most_patterns, KeptFile, Inside, AreSame, anew, SearchesEach, IsSession, inputs_of, AreFit, KeptLine, line_text, AddFile, Splice, Applies, spliced, with_files, IsKept, IsFileKept, kept_file, kept_lines, file_with, AreMatchers, HasPlace, TakesSteps, NeedsNoMemory, KeepAtMost, lost}, lemmas.{FitLemmas.{fit_as, fit_lose}, RoomLemmas.keep_same, StepLemmas.takes_lines, SessionLemmas.map-splice}}, std.proofs.lemmas.List.get_or-map, grep_core.proofs.lemmas.CostLaws.same_length}
 
 -- ---- matchers
 

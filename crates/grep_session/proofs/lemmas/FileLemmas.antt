@@ -1,9 +1,6 @@
 -- What is written for a file after the rows of its lines, for files one after the other, and about
 -- them.
-use Rattle.grep_session.proofs.Prelude.{◌≡◌, ℕ, ◌+◌, ◌<◌, ◌≤◌, Bool, true, false, ◌&&◌, Decides, List, [], ◌∷◌, ◌++◌, length, map, drop, get_or, shows_names, All, MatchBool, Option, None, Some, IfSome, Result, Ok, Err, IfOk, IsErr, inl, inr, refl, sym, ap, subst, ◌∙◌, arith, append-nil, append_assoc, if◌then◌else◌, enumerate_from, false≢true, drop_all, length-map, Text, Chosen, EachGives, File, Selected, Status, StatusOf, Form, nothing, names, counts, parts, lines, around, form, Out, written, GroupedAs, rows_after, LineRowsOf, SelectedLines, file_so_far, FileEnd, Missing, Whole, ending_of, summary_as, reported_of, message, Stops, Reached, Message, Messages, GoesOut, StopsWithin, Writes, HoldsOfMany, KeptLine, line_text, KeptFile, file_with, kept_file, end_of, has_selected, IsKept, IsFileKept, selected_count, WritesGroups, Reports, ReportsMessages}
-use Rattle.grep_core.proofs.lemmas.{Exist.Messages-exist, FileOutput.output_all, FileOutput.rows_none, GroupLaws.after_nothing, RowLemmas.goes_nowhere, MoreFiles.GroupedAs-append, MoreFiles.GroupedAs-exist, MoreFiles.grouped_out}
-use Rattle.grep_session.proofs.lemmas.{CountLemmas.many_selected, KeptLaws.one_message, KeptLaws.stops_reported, Writing.drop-item, Writing.if_ok, Writing.writes_after, Writing.writes_err, Writing.stops_before}
-use Rattle.grep_session.proofs.lemmas.GroupsWritten.{Reporting, Leads, leads_on, leads_to, groups_none, groups_more, groups_front, groups_are}
+use Rattle.{grep_session.proofs.{Prelude.{◌≡◌, ℕ, ◌+◌, ◌<◌, ◌≤◌, Bool, true, false, ◌&&◌, Decides, List, [], ◌∷◌, ◌++◌, length, map, drop, get_or, shows_names, All, MatchBool, Option, None, Some, IfSome, Result, Ok, Err, IfOk, IsErr, inl, inr, refl, sym, ap, subst, ◌∙◌, arith, append-nil, append_assoc, if◌then◌else◌, enumerate_from, false≢true, drop_all, length-map, Text, Chosen, EachGives, File, Selected, Status, StatusOf, Form, nothing, names, counts, parts, lines, around, form, Out, written, GroupedAs, rows_after, LineRowsOf, SelectedLines, file_so_far, FileEnd, Missing, Whole, ending_of, summary_as, reported_of, message, Stops, Reached, Message, Messages, GoesOut, StopsWithin, Writes, HoldsOfMany, KeptLine, line_text, KeptFile, file_with, kept_file, end_of, has_selected, IsKept, IsFileKept, selected_count, WritesGroups, Reports, ReportsMessages}, lemmas.{CountLemmas.many_selected, KeptLaws.{one_message, stops_reported}, Writing.{drop-item, if_ok, writes_after, writes_err, stops_before}, GroupsWritten.{Reporting, Leads, leads_on, leads_to, groups_none, groups_more, groups_front, groups_are}}}, grep_core.proofs.lemmas.{Exist.Messages-exist, FileOutput.{output_all, rows_none}, GroupLaws.after_nothing, RowLemmas.goes_nowhere, MoreFiles.{GroupedAs-append, GroupedAs-exist, grouped_out}}}
 
 -- the lines that have a property, by how many they are
 chosen_of : (P : Text → Type 0) (k : ℕ) (texts : List Text) (n : ℕ) → HoldsOfMany P texts n → (chosen : List (ℕ × Text)) × Chosen (λ line. P line.1) (enumerate_from k texts) chosen × (length chosen ≡ n)

@@ -1,6 +1,5 @@
 -- The parts of a line, one more at a time.
-use Rattle.grep_session.proofs.Prelude.{◌≡◌, ℕ, ◌+◌, ◌*◌, ◌≤◌, true, List, [], ◌∷◌, ◌++◌, length, map, refl, sym, ap, ◌∙◌, append_assoc, append-nil, map-append, Text, Expression, IsFound, IsPart, ArePartsFrom, AreParts, Span, Steps, AddsAtMost, Options, search_cost, parting, span_places, subst, if◌then◌else◌}
-use Rattle.re_syntax.proofs.lemmas.{PartsLaws.IsPart-unique, PartsExist.AreParts-exist}
+use Rattle.{grep_session.proofs.Prelude.{◌≡◌, ℕ, ◌+◌, ◌*◌, ◌≤◌, true, List, [], ◌∷◌, ◌++◌, length, map, refl, sym, ap, ◌∙◌, append_assoc, append-nil, map-append, Text, Expression, IsFound, IsPart, ArePartsFrom, AreParts, Span, Steps, AddsAtMost, Options, search_cost, parting, span_places, subst, if◌then◌else◌}, re_syntax.proofs.lemmas.{PartsLaws.IsPart-unique, PartsExist.AreParts-exist}}
 
 module _ (es : List Expression) (options : Options) (line : Text) where
   -- the parts before a place are known, and these are the parts from there on

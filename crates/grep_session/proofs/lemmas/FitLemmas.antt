@@ -1,7 +1,5 @@
 -- Marks that fit their files, and the marks that edits leave.
-use Rattle.grep_session.proofs.Prelude.{◌≡◌, ℕ, zero, suc, ◌+◌, ◌-◌, ◌<◌, ◌≤◌, List, [], ◌∷◌, ◌++◌, length, map, take, drop, get_or, Bool, Result, Ok, Err, refl, sym, ap, ◌∙◌, inr, arith, set, length-take-le, length-append, length-drop, length-map, map-append, AllZip, remove, splice, slice_set, Text, File, file_at, KeptFile, kept_file, spliced, Marked, Splices, whole_mark, new_mark, mark_at, lost, known_marks, IsFit, AreFit, SplicesMark, Watched, MarksAfter, MarksGiven, Splice, LosesMarks, changes_hits, true, EditFault, Syntax, Flag, SetSyntax, SetFlag, option_of}
-use Rattle.std.proofs.lemmas.List.{get_or-map, get_or-set_same, length-set}
-use Rattle.grep_session.proofs.lemmas.DroppingLemmas.{AllZip-remove}
+use Rattle.{grep_session.proofs.{Prelude.{◌≡◌, ℕ, zero, suc, ◌+◌, ◌-◌, ◌<◌, ◌≤◌, List, [], ◌∷◌, ◌++◌, length, map, take, drop, get_or, Bool, Result, Ok, Err, refl, sym, ap, ◌∙◌, inr, arith, set, length-take-le, length-append, length-drop, length-map, map-append, AllZip, remove, splice, slice_set, Text, File, file_at, KeptFile, kept_file, spliced, Marked, Splices, whole_mark, new_mark, mark_at, lost, known_marks, IsFit, AreFit, SplicesMark, Watched, MarksAfter, MarksGiven, Splice, LosesMarks, changes_hits, true, EditFault, Syntax, Flag, SetSyntax, SetFlag, option_of}, lemmas.DroppingLemmas.AllZip-remove}, std.proofs.lemmas.List.{get_or-map, get_or-set_same, length-set}}
 
 -- ---- two lists of which a relation holds place by place
 

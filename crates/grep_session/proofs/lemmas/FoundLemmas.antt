@@ -1,7 +1,5 @@
 -- What was found replaces what is kept, one chunk and one file at a time.
-use Rattle.grep_session.proofs.Prelude.{◌≡◌, ℕ, zero, suc, ◌<◌, List, [], ◌∷◌, ◌++◌, length, map, take, drop, get_or, ◌+◌, add-one, Option, None, Some, IfSome, All, drop-cons, refl, sym, ap, ◌∙◌, arith, append_assoc, AllZip, option_map, unwrap_or, Text, Expression, Options, KeptLine, all_of, line_text, FitColumns, FitsColumn, with_column, with_columns, FoundIn, Change, KeptFile, HasChanged, AddsColumns, IsColumn, chunks_of, chunks_of_files, IsKept, IsFileKept, kept_file, file_with, set, take-append_seam, drop-append_seam, take-suc, map-append, append-nil, get_or-drop, drop-set-lt, flat_map-append, All-nil, All-cons, All-append, All-take, All-drop, All-tail}
-use Rattle.grep_core.proofs.lemmas.MatcherLemmas.{AllZip-append}
-use Rattle.line_chunks.proofs.lemmas.{Joins.joined_parts, Joins.joined_push, SeenLaws.texts-seen}
+use Rattle.{grep_session.proofs.Prelude.{◌≡◌, ℕ, zero, suc, ◌<◌, List, [], ◌∷◌, ◌++◌, length, map, take, drop, get_or, ◌+◌, add-one, Option, None, Some, IfSome, All, drop-cons, refl, sym, ap, ◌∙◌, arith, append_assoc, AllZip, option_map, unwrap_or, Text, Expression, Options, KeptLine, all_of, line_text, FitColumns, FitsColumn, with_column, with_columns, FoundIn, Change, KeptFile, HasChanged, AddsColumns, IsColumn, chunks_of, chunks_of_files, IsKept, IsFileKept, kept_file, file_with, set, take-append_seam, drop-append_seam, take-suc, map-append, append-nil, get_or-drop, drop-set-lt, flat_map-append, All-nil, All-cons, All-append, All-take, All-drop, All-tail}, grep_core.proofs.lemmas.MatcherLemmas.AllZip-append, line_chunks.proofs.lemmas.{Joins.{joined_parts, joined_push}, SeenLaws.texts-seen}}
 
 -- ---- what holds of all elements
 

@@ -1,7 +1,5 @@
 -- Groups of lines that are written one after the other.
-use Rattle.grep_session.proofs.Prelude.{◌≡◌, ℕ, Bool, List, [], ◌++◌, Option, Result, Ok, Err, IfOk, IsErr, sym, ap, ◌∙◌, append_assoc, append-nil, false≢true, Text, Expression, Options, Form, rows_after, WritesGroups, subst, written, GoesOut}
-use Rattle.grep_core.proofs.lemmas.{GroupLaws.after_nothing, GroupLaws.after_longer, RowLemmas.goes_nowhere}
-use Rattle.grep_session.proofs.lemmas.Writing.{writes_after, stops_before}
+use Rattle.{grep_session.proofs.{Prelude.{◌≡◌, ℕ, Bool, List, [], ◌++◌, Option, Result, Ok, Err, IfOk, IsErr, sym, ap, ◌∙◌, append_assoc, append-nil, false≢true, Text, Expression, Options, Form, rows_after, WritesGroups, subst, written, GoesOut}, lemmas.Writing.{writes_after, stops_before}}, grep_core.proofs.lemmas.{GroupLaws.{after_nothing, after_longer}, RowLemmas.goes_nowhere}}
 
 -- what a report is of, and where it is written
 pub record Reporting (W : Type 0) : Type 0 where

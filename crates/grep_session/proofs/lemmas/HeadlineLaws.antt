@@ -1,7 +1,5 @@
 -- A session's report, messages and status, from scratch; the accepted edits decide them.
-use Rattle.grep_session.proofs.Prelude.{◌≡◌, ℕ, Bool, List, [], ◌∷◌, ◌++◌, Option, Result, Ok, Err, refl, sym, ◌∙◌, Decides, Text, Expression, Status, Inputs, AreMeant, AnySelected, Messages, StatusOf, Out, EditFault, NoSuchFile, FileIsMissing, OutOfRange, LineHasNewline, NoSuchPattern, Pattern, TooManyPatterns, Memory, Edit, EditGives, no_inputs, GrepGives, ReportsInputs, ReportsAllInputs, IsStatusOfInputs, Attempt, ComesTo, with_accepted, accepted, Makes, AcceptedEditsDecide, Reports, ReportsMessages}
-use Rattle.grep_core.proofs.lemmas.{Determined.Out-determined, Determined.Messages-determined, Determined.StatusOf-determined, Exist.Out-exist, Exist.Messages-exist, Exist.StatusOf-exist, LawsHold.means_one}
-use Rattle.grep_session.proofs.lemmas.EditLaws.{Applies-once}
+use Rattle.{grep_session.proofs.{Prelude.{◌≡◌, ℕ, Bool, List, [], ◌∷◌, ◌++◌, Option, Result, Ok, Err, refl, sym, ◌∙◌, Decides, Text, Expression, Status, Inputs, AreMeant, AnySelected, Messages, StatusOf, Out, EditFault, NoSuchFile, FileIsMissing, OutOfRange, LineHasNewline, NoSuchPattern, Pattern, TooManyPatterns, Memory, Edit, EditGives, no_inputs, GrepGives, ReportsInputs, ReportsAllInputs, IsStatusOfInputs, Attempt, ComesTo, with_accepted, accepted, Makes, AcceptedEditsDecide, Reports, ReportsMessages}, lemmas.EditLaws.Applies-once}, grep_core.proofs.lemmas.{Determined.{Out-determined, Messages-determined, StatusOf-determined}, Exist.{Out-exist, Messages-exist, StatusOf-exist}, LawsHold.means_one}}
 
 -- ---- the report, the messages and the status
 

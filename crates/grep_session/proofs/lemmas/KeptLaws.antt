@@ -1,10 +1,6 @@
 -- If what is kept is right, the verdicts from it, the messages and the status are those of grep.
-use Rattle.grep_session.proofs.Prelude.{get_or, ◌≡◌, ℕ, Bool, true, false, ◌&&◌, not, IsTrue, ◌↔◌, Decides, List, [], ◌∷◌, map, All, Any, Option, None, Some, MatchBool, IfSome, refl, sym, ◌∙◌, inl, inr, arith, if◌then◌else◌, list_any, Text, Expression, ArePartsFrom, AreParts, Span, Options, Status, Selected, HasSelected, message, FaultMet, Stops, Message, AnySelected, StatusOf, is_fault, ending_of, status_by, KeptLine, line_text, KeptFile, span_places, kept_lines, file_with, kept_file, IsKept, IsFileKept, matches_none, is_selected, has_selected_in, has_selected, end_with, OnLine, PartsFit, FileFits, is_faulty, any_missing, status_by_files, status_given, false≢true, All-head, All-tail, All-nil, All-cons, ap}
-use Rattle.std.specs.Prelude.{⊤}
-use Rattle.re_syntax.proofs.lemmas.Decisions.{Any-none, Any-first, Any-later, Any-cases}
+use Rattle.{grep_session.proofs.{Prelude.{get_or, ◌≡◌, ℕ, Bool, true, false, ◌&&◌, not, IsTrue, ◌↔◌, Decides, List, [], ◌∷◌, map, All, Any, Option, None, Some, MatchBool, IfSome, refl, sym, ◌∙◌, inl, inr, arith, if◌then◌else◌, list_any, Text, Expression, ArePartsFrom, AreParts, Span, Options, Status, Selected, HasSelected, message, FaultMet, Stops, Message, AnySelected, StatusOf, is_fault, ending_of, status_by, KeptLine, line_text, KeptFile, span_places, kept_lines, file_with, kept_file, IsKept, IsFileKept, matches_none, is_selected, has_selected_in, has_selected, end_with, OnLine, PartsFit, FileFits, is_faulty, any_missing, status_by_files, status_given, false≢true, All-head, All-tail, All-nil, All-cons, ap}, lemmas.NumberLemmas.some_decides}, std.specs.Prelude.⊤, re_syntax.proofs.lemmas.Decisions.{Any-none, Any-first, Any-later, Any-cases}, grep_core.proofs.lemmas.{PassLemmas.or_decides, StatusLaws.{StatusOf-quiet, StatusOf-error, StatusOf-selected, StatusOf-none}, Verdicts.{decided_yes, decided_no}}}
 use Rattle.grep_core.specs.declared.status.Status.TheVariants.{Selected as selected}
-use Rattle.grep_core.proofs.lemmas.{PassLemmas.or_decides, StatusLaws.StatusOf-quiet, StatusLaws.StatusOf-error, StatusLaws.StatusOf-selected, StatusLaws.StatusOf-none, Verdicts.decided_yes, Verdicts.decided_no}
-use Rattle.grep_session.proofs.lemmas.NumberLemmas.{some_decides}
 
 -- the status of a run that did not stop
 pub status_in_turn : (quiet some : Bool) (status : Status) → (quiet && some) ≡ false → status ≡ (if quiet && some then selected else status)

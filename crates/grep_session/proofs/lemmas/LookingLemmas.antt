@@ -1,7 +1,5 @@
 -- The hit of a line, where what is kept of it is right.
-use Rattle.grep_session.proofs.Prelude.{◌≡◌, ℕ, ◌<◌, Bool, true, false, List, [], length, map, get_or, None, Some, MatchBool, ◌≤◌, ◌⊎◌, inl, inr, refl, sym, ap, ◌∙◌, arith, if◌then◌else◌, Text, Expression, AreParts, Span, Options, Selected, file_at, KeptLine, line_text, no_line, KeptFile, ListedParts, span_places, kept_lines, kept_file, file_with, IsKept, IsFileKept, listed_spans, is_selected, false≢true, cases_lt, get_or_past, length-map, All-get_or}
-use Rattle.std.{specs.Prelude.⊤, proofs.lemmas.List.get_or-map}
-use Rattle.grep_session.proofs.lemmas.KeptLaws.{selected_reported}
+use Rattle.{grep_session.proofs.{Prelude.{◌≡◌, ℕ, ◌<◌, Bool, true, false, List, [], length, map, get_or, None, Some, MatchBool, ◌≤◌, ◌⊎◌, inl, inr, refl, sym, ap, ◌∙◌, arith, if◌then◌else◌, Text, Expression, AreParts, Span, Options, Selected, file_at, KeptLine, line_text, no_line, KeptFile, ListedParts, span_places, kept_lines, kept_file, file_with, IsKept, IsFileKept, listed_spans, is_selected, false≢true, cases_lt, get_or_past, length-map, All-get_or}, lemmas.KeptLaws.selected_reported}, std.{specs.Prelude.⊤, proofs.lemmas.List.get_or-map}}
 
 module _ (es : List Expression) (options : Options) where
   -- the listed parts are those of the line

@@ -1,9 +1,5 @@
 -- The cost of the lines that are marked, one line after the other.
-use Rattle.grep_session.proofs.Prelude.{◌≡◌, cases_lt, inl, inr, ℕ, zero, suc, ◌+◌, ◌*◌, ◌<◌, ◌≤◌, Bool, true, false, if◌then◌else◌, Decides, List, [], ◌∷◌, ◌++◌, length, length-append, take, take_all, get_or, refl, sym, ap, ◌∙◌, arith, add-one, take-suc, false≢true, Text, newline, terminated, Steps, AddsAtMost, Chosen, search_cost, pairs_cost, marked_cost, subst}
-use Rattle.std.specs.Bool.{⊤}
-use Rattle.re_meter.proofs.lemmas.Adding.{adds_both, adds_within}
-use Rattle.grep_core.proofs.lemmas.ChooseLaws.{Chosen-end, Chosen-passed}
-use Rattle.grep_session.proofs.lemmas.StepLemmas.{chosen_all, pairs_cost-append}
+use Rattle.{grep_session.proofs.{Prelude.{◌≡◌, cases_lt, inl, inr, ℕ, zero, suc, ◌+◌, ◌*◌, ◌<◌, ◌≤◌, Bool, true, false, if◌then◌else◌, Decides, List, [], ◌∷◌, ◌++◌, length, length-append, take, take_all, get_or, refl, sym, ap, ◌∙◌, arith, add-one, take-suc, false≢true, Text, newline, terminated, Steps, AddsAtMost, Chosen, search_cost, pairs_cost, marked_cost, subst}, lemmas.StepLemmas.{chosen_all, pairs_cost-append}}, std.specs.Bool.⊤, re_meter.proofs.lemmas.Adding.{adds_both, adds_within}, grep_core.proofs.lemmas.ChooseLaws.{Chosen-end, Chosen-passed}}
 
 module _ (mark : ℕ → Bool) (many : ℕ) (texts : List Text) where
   -- more lines cost no less

@@ -1,7 +1,5 @@
 -- A pattern's text is in that of another: it matches each line that the other one matches.
-use Rattle.grep_session.proofs.Prelude.{take-append-drop, ◌≡◌, ℕ, ◌+◌, ◌≤◌, Bool, true, false, List, [], ◌∷◌, ◌++◌, length, map, take, drop, Option, None, Some, is_some, Decides, MatchBool, if◌then◌else◌, refl, sym, ap, ◌∙◌, arith, length-append, map-append, drop-append_seam, false≢true, Text, Expression, byte, cat, sequence, Holds, Matches, folded, Syntax, Fixed, IsMeant, Options, FindsNeedle, Narrows, subst}
-use Rattle.re_syntax.proofs.lemmas.{FixedTokens.fixed_spelled, FixedStrings.sequence-cat, FixedStrings.cat-sequence, FoldedLaws.folded-cat, HoldsDecided.Holds-le, SpelledUnique.spells_one}
-use Rattle.re_runs.proofs.lemmas.Occurrences.{occurs-stands, stands-occurs}
+use Rattle.{grep_session.proofs.Prelude.{take-append-drop, ◌≡◌, ℕ, ◌+◌, ◌≤◌, Bool, true, false, List, [], ◌∷◌, ◌++◌, length, map, take, drop, Option, None, Some, is_some, Decides, MatchBool, if◌then◌else◌, refl, sym, ap, ◌∙◌, arith, length-append, map-append, drop-append_seam, false≢true, Text, Expression, byte, cat, sequence, Holds, Matches, folded, Syntax, Fixed, IsMeant, Options, FindsNeedle, Narrows, subst}, re_syntax.proofs.lemmas.{FixedTokens.fixed_spelled, FixedStrings.{sequence-cat, cat-sequence}, FoldedLaws.folded-cat, HoldsDecided.Holds-le, SpelledUnique.spells_one}, re_runs.proofs.lemmas.Occurrences.{occurs-stands, stands-occurs}}
 
 -- ---- sequences
 

@@ -1,6 +1,5 @@
 -- The next line that is shown, by the first selected line that is near enough.
-use Rattle.grep_session.proofs.Prelude.{◌≡◌, ℕ, ◌+◌, ◌-◌, ◌<◌, ◌≤◌, ◌⊎◌, List, All, inl, inr, arith, length, length-map, map, Expression, Context, Options, IsShown, KeptLine, line_text, IsKept, SelectedFrom, NextShown}
-use Rattle.grep_session.proofs.lemmas.CountLemmas.{none_passed, one_found}
+use Rattle.grep_session.proofs.{Prelude.{◌≡◌, ℕ, ◌+◌, ◌-◌, ◌<◌, ◌≤◌, ◌⊎◌, List, All, inl, inr, arith, length, length-map, map, Expression, Context, Options, IsShown, KeptLine, line_text, IsKept, SelectedFrom, NextShown}, lemmas.CountLemmas.{none_passed, one_found}}
 
 -- the first selected line from a place on is that from a later one on, up to itself
 pub selected_on : {options : Options} {lines : List KeptLine} {p q near : ℕ} → p ≤ q → q ≤ near → SelectedFrom options lines p near → SelectedFrom options lines q near

@@ -1,6 +1,5 @@
 -- The next line of a chunk that an expression matches, by its number.
-use Rattle.grep_session.proofs.Prelude.{◌≡◌, ℕ, Bool, Some, ◌+◌, ◌-◌, ◌^◌, ◌<◌, ◌≤◌, List, [], ◌∷◌, ◌++◌, All, length, take, drop, get_or, slice_range, sym, ap, ◌∙◌, arith, length-append, length-drop, append_assoc, take-append_seam, get_or-append_seam, get_or-drop, get_or_append_left, take-append-drop, drop-take, take-take, Text, terminated, Span, IsNext, Expression, Matches, IsNextLine, next_line_cost}
-use Rattle.re_syntax.proofs.lemmas.LinesLaws.{terminated-append}
+use Rattle.{grep_session.proofs.Prelude.{◌≡◌, ℕ, Bool, Some, ◌+◌, ◌-◌, ◌^◌, ◌<◌, ◌≤◌, List, [], ◌∷◌, ◌++◌, All, length, take, drop, get_or, slice_range, sym, ap, ◌∙◌, arith, length-append, length-drop, append_assoc, take-append_seam, get_or-append_seam, get_or-drop, get_or_append_left, take-append-drop, drop-take, take-take, Text, terminated, Span, IsNext, Expression, Matches, IsNextLine, next_line_cost}, re_syntax.proofs.lemmas.LinesLaws.terminated-append}
 
 -- the first elements, and the next
 first_of_rest : (xs : List Text) (y : Text) (ys : List Text) → take (length xs + 1) (xs ++ y ∷ ys) ≡ xs ++ y ∷ []

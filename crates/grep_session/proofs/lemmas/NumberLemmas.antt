@@ -1,11 +1,5 @@
 -- The numbers of the expressions that match a line.
-use Rattle.grep_session.proofs.Prelude.{◌≡◌, ℕ, ◌+◌, ◌-◌, ◌<◌, ◌≤◌, ◌==◌, ◌⊎◌, ◌&&◌, Bool, true, false, not, ◌||◌, List, [], ◌∷◌, ◌++◌, inl, inr, length, map, filter, Any, Decides, get_or, nat_eq, nat_le, nat_tests, cases_lt, refl, sym, ap, ◌∙◌, arith, append_assoc, append-nil, length-append, get_or_default, false≢true, list_any, Text, Expression, Matches, AreMatching, AddsMatching, has_number, has_own, is_other, left_numbers, lowered}
-use Rattle.std.proofs.{Math.ListN.get_or-append, Math.Seq.get_or-append_right, lemmas.Bool.cases_Bool, lemmas.Bool.cases_eq}
-use Rattle.std.proofs.lemmas.Bool.Decides.{Decides-at, Decides-like, Decides-or}
-use Rattle.std.proofs.lemmas.List.Folds.{Any-from_list_any, list_any-append, list_any_at}
-use Rattle.re_syntax.specs.Expression.{empty}
-use Rattle.line_chunks.proofs.lemmas.PairLaws.{eq_no, eq_yes, le_no, le_yes, lt_no, lt_yes}
-use Rattle.grep_core.proofs.lemmas.Verdicts.{decided_no, decided_yes}
+use Rattle.{grep_session.proofs.Prelude.{◌≡◌, ℕ, ◌+◌, ◌-◌, ◌<◌, ◌≤◌, ◌==◌, ◌⊎◌, ◌&&◌, Bool, true, false, not, ◌||◌, List, [], ◌∷◌, ◌++◌, inl, inr, length, map, filter, Any, Decides, get_or, nat_eq, nat_le, nat_tests, cases_lt, refl, sym, ap, ◌∙◌, arith, append_assoc, append-nil, length-append, get_or_default, false≢true, list_any, Text, Expression, Matches, AreMatching, AddsMatching, has_number, has_own, is_other, left_numbers, lowered}, std.proofs.{Math.{ListN.get_or-append, Seq.get_or-append_right}, lemmas.{Bool.{cases_Bool, cases_eq, Decides.{Decides-at, Decides-like, Decides-or}}, List.Folds.{Any-from_list_any, list_any-append, list_any_at}}}, re_syntax.specs.Expression.empty, line_chunks.proofs.lemmas.PairLaws.{eq_no, eq_yes, le_no, le_yes, lt_no, lt_yes}, grep_core.proofs.lemmas.Verdicts.{decided_no, decided_yes}}
 
 -- some number passes a test
 any_number : (P : ℕ → Bool) (ns : List ℕ) → Decides (list_any P ns) ((n : ℕ) × (has_number n ns ≡ true) × (P n ≡ true))

@@ -1,6 +1,5 @@
 -- The parts of the lines of a chunk, one line after the other.
-use Rattle.grep_session.proofs.Prelude.{◌≡◌, ℕ, ◌+◌, ◌<◌, Bool, true, ◌&&◌, List, [], inl, inr, get_or, sym, arith, cases_lt, Expression, Span, Options, KeptLine, line_text, map, no_line, search_cost, if◌then◌else◌, Steps, AddsAtMost, ArePartsAgain, subst}
-use Rattle.std.proofs.Math.ListN.{get_or-map}
+use Rattle.{grep_session.proofs.Prelude.{◌≡◌, ℕ, ◌+◌, ◌<◌, Bool, true, ◌&&◌, List, [], inl, inr, get_or, sym, arith, cases_lt, Expression, Span, Options, KeptLine, line_text, map, no_line, search_cost, if◌then◌else◌, Steps, AddsAtMost, ArePartsAgain, subst}, std.proofs.Math.ListN.get_or-map}
 
 -- ---- one line
 

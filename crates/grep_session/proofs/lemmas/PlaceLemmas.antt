@@ -1,9 +1,5 @@
 -- The rows of the lines of a file that are shown, one shown line after the other.
-use Rattle.grep_session.proofs.Prelude.{◌≡◌, ℕ, zero, suc, ◌+◌, ◌-◌, nat_lt, ◌<◌, ◌≤◌, ◌⊎◌, Bool, true, false, ◌&&◌, IsTrue, Decides, List, [], ◌∷◌, ◌++◌, length, map, drop, get_or, slice_range, Option, None, Some, Result, Ok, Err, IfOk, IsErr, inl, inr, refl, sym, ap, ◌∙◌, arith, append_assoc, append-nil, if◌then◌else◌, enumerate_from, lt-ltb, le-ltb, cases_lt, false≢true, get_or_at, drop_all, length_push, length-append, Text, Expression, Span, Context, Options, EachGives, IfHolds, Selected, group_separator, IsShown, BeginsGroup, IsRow, Form, nothing, names, counts, parts, lines, around, lines_with, form, shown_number, written, name_shown, row_by, rows_after, file_so_far, IsPlain, LineRowsOf, RowsOfSelected, GoesOut, StopsWithin, Writes, KeptLine, line_text, span_places, IsKept, is_selected, context_as, place_rows, part_rows, NextShown, WritesGroups, subst}
-use Rattle.std.proofs.lemmas.Option.{same_Some}
-use Rattle.grep_core.proofs.lemmas.{AroundLaws.dec_shown, AroundLaws.Shows-exist, ChooseLaws.EachGives-exist, Exist.PartsOfLine-exist, FileOutput.rows_line, FileOutput.rows_none, ShownLemmas.IfHolds-same, ShownLemmas.begins_from, ShownLemmas.begins_at}
-use Rattle.grep_session.proofs.lemmas.{KeptLaws.parts_asked, KeptLaws.selected_reported, Writing.drop-next, Writing.if_ok, Writing.writes_err}
-use Rattle.grep_session.proofs.lemmas.GroupsWritten.{Reporting, Leads, leads_on, leads_to, groups_none, groups_more, groups_front, groups_are}
+use Rattle.{grep_session.proofs.{Prelude.{◌≡◌, ℕ, zero, suc, ◌+◌, ◌-◌, nat_lt, ◌<◌, ◌≤◌, ◌⊎◌, Bool, true, false, ◌&&◌, IsTrue, Decides, List, [], ◌∷◌, ◌++◌, length, map, drop, get_or, slice_range, Option, None, Some, Result, Ok, Err, IfOk, IsErr, inl, inr, refl, sym, ap, ◌∙◌, arith, append_assoc, append-nil, if◌then◌else◌, enumerate_from, lt-ltb, le-ltb, cases_lt, false≢true, get_or_at, drop_all, length_push, length-append, Text, Expression, Span, Context, Options, EachGives, IfHolds, Selected, group_separator, IsShown, BeginsGroup, IsRow, Form, nothing, names, counts, parts, lines, around, lines_with, form, shown_number, written, name_shown, row_by, rows_after, file_so_far, IsPlain, LineRowsOf, RowsOfSelected, GoesOut, StopsWithin, Writes, KeptLine, line_text, span_places, IsKept, is_selected, context_as, place_rows, part_rows, NextShown, WritesGroups, subst}, lemmas.{KeptLaws.{parts_asked, selected_reported}, Writing.{drop-next, if_ok, writes_err}, GroupsWritten.{Reporting, Leads, leads_on, leads_to, groups_none, groups_more, groups_front, groups_are}}}, std.proofs.lemmas.Option.same_Some, grep_core.proofs.lemmas.{AroundLaws.{dec_shown, Shows-exist}, ChooseLaws.EachGives-exist, Exist.PartsOfLine-exist, FileOutput.{rows_line, rows_none}, ShownLemmas.{IfHolds-same, begins_from, begins_at}}}
 
 -- under `-o` alone parts are asked for
 asks_parts : (options : Options) → form options ≡ parts → IsTrue options.only_matching

@@ -1,6 +1,5 @@
 -- How much the matchers of a session may keep, as some come and go.
-use Rattle.grep_session.proofs.Prelude.{◌≡◌, ℕ, ◌≤◌, ◌<◌, List, [], ◌∷◌, ◌++◌, length, map, get_or, sym, ap, ◌∙◌, arith, map-append, length-map, All-append, All-nil, All-push, Matcher, room_of, KeepAtMost}
-use Rattle.std.proofs.lemmas.List.{get_or-map}
+use Rattle.{grep_session.proofs.Prelude.{◌≡◌, ℕ, ◌≤◌, ◌<◌, List, [], ◌∷◌, ◌++◌, length, map, get_or, sym, ap, ◌∙◌, arith, map-append, length-map, All-append, All-nil, All-push, Matcher, room_of, KeepAtMost}, std.proofs.lemmas.List.get_or-map}
 
 -- matchers that may keep as much as others keep at most as much
 pub keep_same : (most : ℕ) (old new : List Matcher) → map room_of new ≡ map room_of old → KeepAtMost most old → KeepAtMost most new

@@ -1,6 +1,5 @@
 -- How lists of a session's inputs change.
-use Rattle.grep_session.proofs.Prelude.{◌≡◌, ℕ, suc, ◌+◌, ◌<◌, List, [], ◌∷◌, ◌++◌, length, map, take, drop, sym, ap, ◌∙◌, All, get_or, add-one, arith, take-suc, Watched, All-push, map-append, length-map, remove, splice, drop-map}
-use Rattle.std.{proofs.lemmas.List.get_or-map, specs.List.take-map}
+use Rattle.{grep_session.proofs.Prelude.{◌≡◌, ℕ, suc, ◌+◌, ◌<◌, List, [], ◌∷◌, ◌++◌, length, map, take, drop, sym, ap, ◌∙◌, All, get_or, add-one, arith, take-suc, Watched, All-push, map-append, length-map, remove, splice, drop-map}, std.{proofs.lemmas.List.get_or-map, specs.List.take-map}}
 
 -- the inputs that contracts see
 pub inputs_are : {a b : Watched} → a ≡ b → a.inputs ≡ b.inputs

@@ -1,7 +1,5 @@
 -- Some patterns of a session went, and others came in their place: the matchers after that, and after they are put back.
-use Rattle.grep_session.proofs.Prelude.{◌≡◌, ℕ, ◌+◌, ◌≤◌, List, [], ◌∷◌, ◌++◌, All, All-append, All-nil, AllZip, inl, inr, length, map, refl, sym, ap, ◌∙◌, arith, map-append, length-append, length-map, Syntax, Text, IsMeant, Matcher, IsReadable, matched_expression, room_of, wants_whole, Options, Inputs, AreMeant, Expression, Edit, EditFault, EditGives, Applies, Reads, RefusesFirst, Result, Err, AreSame, IsSession, inputs_of, Inside, most_patterns, AreMatchers, KeepAtMost, IsFileKept, kept_file, lost, Bool, subst}
-use Rattle.grep_core.proofs.lemmas.MatcherLemmas.{AllZip-append}
-use Rattle.grep_session.proofs.lemmas.{EditLemmas.searched_session, FoundLemmas.all_first, FoundLemmas.all_rest, SplicedLists.IsSpliced, SplicedLists.map_parts, SplicedLists.same_parts}
+use Rattle.{grep_session.proofs.{Prelude.{◌≡◌, ℕ, ◌+◌, ◌≤◌, List, [], ◌∷◌, ◌++◌, All, All-append, All-nil, AllZip, inl, inr, length, map, refl, sym, ap, ◌∙◌, arith, map-append, length-append, length-map, Syntax, Text, IsMeant, Matcher, IsReadable, matched_expression, room_of, wants_whole, Options, Inputs, AreMeant, Expression, Edit, EditFault, EditGives, Applies, Reads, RefusesFirst, Result, Err, AreSame, IsSession, inputs_of, Inside, most_patterns, AreMatchers, KeepAtMost, IsFileKept, kept_file, lost, Bool, subst}, lemmas.{EditLemmas.searched_session, FoundLemmas.{all_first, all_rest}, SplicedLists.{IsSpliced, map_parts, same_parts}}}, grep_core.proofs.lemmas.MatcherLemmas.AllZip-append}
 
 -- f of the elements is as before, after those that went were put back
 back_same : {X Y : Type 0} (f : X → Y) {first many count : ℕ} {xs all now new : List X} (m : IsSpliced first many count xs all) (b : IsSpliced first count many now new) → b.come ≡ m.gone → map f now ≡ map f all → map f new ≡ map f xs

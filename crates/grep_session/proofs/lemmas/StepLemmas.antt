@@ -1,9 +1,5 @@
 -- The cost of lines, and the steps that a search of them takes.
-use Rattle.grep_session.proofs.Prelude.{◌≡◌, ℕ, ◌+◌, Bool, true, false, MatchBool, List, [], ◌∷◌, ◌++◌, inl, inr, length, map, Ok, refl, sym, ap, ◌∙◌, arith, length-map, Text, Expression, Matcher, matched_expression, Steps, Options, Chosen, IfHolds, Matches, Inputs, AreMeant, AreMatchers, Change, anew, Edit, Applies, Matched, TakesSteps, Touched, Touches, pairs_cost, parting, parts_alone, searched_by, IsSought, IsParted, HasNewParts, SearchesEach}
-use Rattle.std.specs.Bool.{⊤}
-use Rattle.re_syntax.proofs.lemmas.{Decisions.Any-first, Decisions.dec_both, SomeOfJoined.Any-single}
-use Rattle.re_meter.proofs.lemmas.Adding.{adds_none, adds_both}
-use Rattle.grep_core.proofs.lemmas.{ChooseLaws.Chosen-exist, ChooseLaws.EachGives-append, Decided.dec_matched}
+use Rattle.{grep_session.proofs.Prelude.{◌≡◌, ℕ, ◌+◌, Bool, true, false, MatchBool, List, [], ◌∷◌, ◌++◌, inl, inr, length, map, Ok, refl, sym, ap, ◌∙◌, arith, length-map, Text, Expression, Matcher, matched_expression, Steps, Options, Chosen, IfHolds, Matches, Inputs, AreMeant, AreMatchers, Change, anew, Edit, Applies, Matched, TakesSteps, Touched, Touches, pairs_cost, parting, parts_alone, searched_by, IsSought, IsParted, HasNewParts, SearchesEach}, std.specs.Bool.⊤, re_syntax.proofs.lemmas.{Decisions.{Any-first, dec_both}, SomeOfJoined.Any-single}, re_meter.proofs.lemmas.Adding.{adds_none, adds_both}, grep_core.proofs.lemmas.{ChooseLaws.{Chosen-exist, EachGives-append}, Decided.dec_matched}}
 
 -- ---- lines
 

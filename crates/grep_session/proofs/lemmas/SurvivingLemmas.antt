@@ -1,6 +1,5 @@
 -- The parts of a line stay the same when patterns that do not match it go, and others come.
-use Rattle.grep_session.proofs.Prelude.{◌≡◌, ℕ, ◌+◌, ◌-◌, ◌<◌, ◌≤◌, ◌⊎◌, Bool, true, false, List, [], ◌∷◌, ◌++◌, inl, inr, length, Any, get_or, cases_lt, sym, ap, ◌∙◌, arith, length-append, OnTrue, Text, Expression, Holds, Matches, IsFound, ArePartsFrom}
-use Rattle.std.proofs.Math.{ListN.get_or-append, Seq.get_or-append_right}
+use Rattle.{grep_session.proofs.Prelude.{◌≡◌, ℕ, ◌+◌, ◌-◌, ◌<◌, ◌≤◌, ◌⊎◌, Bool, true, false, List, [], ◌∷◌, ◌++◌, inl, inr, length, Any, get_or, cases_lt, sym, ap, ◌∙◌, arith, length-append, OnTrue, Text, Expression, Holds, Matches, IsFound, ArePartsFrom}, std.proofs.Math.{ListN.get_or-append, Seq.get_or-append_right}}
 
 -- the expression is one of these
 abbrev pub In : Expression → List Expression → Type 0

@@ -1,7 +1,5 @@
 -- Lines that are written one after another, by the lines that are left.
-use Rattle.grep_session.proofs.Prelude.{◌≡◌, ℕ, ◌+◌, ◌<◌, List, [], ◌∷◌, ◌++◌, length, drop, get_or, map, Option, Result, Ok, Err, IfOk, refl, ap, ◌∙◌, add-one, append_assoc, append-nil, IsErr, Text, output_line, written, GoesOut, StopsWithin, Writes, drop-cons, false≢true}
-use Rattle.grep_core.proofs.lemmas.RowLemmas.{goes_nowhere, goes_on, stops_early, stops_later, writes_last}
-use Rattle.grep_core.proofs.lemmas.WriterLaws.{written-append}
+use Rattle.{grep_session.proofs.Prelude.{◌≡◌, ℕ, ◌+◌, ◌<◌, List, [], ◌∷◌, ◌++◌, length, drop, get_or, map, Option, Result, Ok, Err, IfOk, refl, ap, ◌∙◌, add-one, append_assoc, append-nil, IsErr, Text, output_line, written, GoesOut, StopsWithin, Writes, drop-cons, false≢true}, grep_core.proofs.lemmas.{RowLemmas.{goes_nowhere, goes_on, stops_early, stops_later, writes_last}, WriterLaws.written-append}}
 
 -- the elements from a place on are the element there and those after it
 pub drop-next : {A : Type 0} (xs : List A) (i : ℕ) (d : A) → i < length xs → drop i xs ≡ get_or xs i d ∷ drop (i + 1) xs

@@ -1,10 +1,9 @@
 -- Reading all patterns again, with another syntax or other options.
 use Rattle.std.specs.Prelude.{◌≡◌, Result, Ok, Err, All}
-use Rattle.re_syntax.specs.declared.syntax.Syntax.{Syntax}
-use Rattle.re_search.specs.Reading.{IsReadable}
+use Rattle.{re_syntax.specs.declared.syntax.Syntax.Syntax, re_search.specs.Reading.IsReadable}
 use Rattle.grep_core.specs.{declared.options.Options.Options, Files.Inputs}
-use Rattle.grep_session.specs.declared.fault.EditFault.{EditFault}
-use Rattle.grep_session.specs.{declared.fault.EditFault.TheVariants.Memory, Edits.Reads}
+use Rattle.grep_session.specs.declared.fault.EditFault.{EditFault, TheVariants.Memory}
+use Rattle.grep_session.specs.Edits.{Reads}
 
 -- the inputs with another syntax and other options
 abbrev pub read_as : Syntax → Options → Inputs → Inputs

@@ -1,10 +1,10 @@
 -- What becomes of what is kept when patterns change, and how many steps that takes.
-use Rattle.std.specs.Prelude.{◌≡◌, ℕ, ◌+◌, ◌≤◌, ◌⊎◌, ⊤, Bool, false, true, List, [], ◌++◌, length}
-use Rattle.std.specs.Prelude.{MatchBool}
-use Rattle.re_syntax.specs.{Bytes.Text, Expression.Expression}
-use Rattle.grep_core.specs.{Meters.Steps, Meters.AddsAtMost, declared.options.Options.Options}
-use Rattle.grep_core.specs.{Choose.Chosen, Files.Matched}
-use Rattle.grep_session.specs.{declared.change.Change.Change, Touched.pairs_cost, Touched.parting}
+use Rattle.std.specs.Prelude.{⊤, MatchBool, false, true, length, ◌≤◌, ◌⊎◌, [], ◌+◌, ◌≡◌, List, ℕ}
+use Rattle.std.specs.Prelude.{Bool, ◌++◌}
+use Rattle.re_syntax.specs.{Expression.Expression, Bytes.Text}
+use Rattle.grep_core.specs.{declared.options.Options.Options, Choose.Chosen, Files.Matched}
+use Rattle.grep_core.specs.Meters.{Steps, AddsAtMost}
+use Rattle.grep_session.specs.{declared.change.Change.Change, Touched.{pairs_cost, parting}}
 
 -- from number `first` on so many patterns went, and so many came
 abbrev pub exchanged : ℕ → ℕ → ℕ → Bool → Change

@@ -1,16 +1,14 @@
 -- What is found in the lines of a chunk after a change of the patterns, and put in a column.
 use Rattle.std.specs.Prelude.{◌≡◌, ℕ, zero, suc, ◌<◌, Bool, true, false, List, [], ◌++◌, All}
 use Rattle.std.specs.Prelude.{length, drop, take, get_or, slice_range, ◌+◌, ◌-◌, ◌≤◌, ◌&&◌, ◌||◌}
-use Rattle.std.specs.Prelude.{Option, Some, None, if◌then◌else◌}
-use Rattle.std.specs.List.{AllZip, Any}
+use Rattle.std.specs.{Prelude.{Option, Some, None, if◌then◌else◌}, List.{AllZip, Any}}
 use Rattle.re_syntax.specs.{Bytes.Text, Expression.Expression, Holds.Matches, Lines.terminated}
 use Rattle.re_trees.specs.declared.span.Span.{Span}
 use Rattle.grep_core.specs.{declared.options.Options.Options, Cost.search_cost}
 use Rattle.line_chunks.specs.Working.Finds.{FoundIn, AreBelow, has_own, is_paired, left_numbers}
-use Rattle.line_chunks.specs.Working.Finds.{numbers_at}
-use Rattle.line_chunks.specs.Working.Chunks.{KeptLine, no_line, FitsColumn}
+use Rattle.line_chunks.specs.Working.{Finds.numbers_at, Chunks.{KeptLine, no_line, FitsColumn}}
 use Rattle.grep_session.specs.Working.Kept.{AddsMatching, ArePartsKept, IsColumn, IsKept}
-use Rattle.grep_session.specs.{declared.change.Change.Change, Working.Changed.HasChanged}
+use Rattle.grep_session.specs.{Working.Changed.HasChanged, declared.change.Change.Change}
 
 -- ---- the numbers of a line
 

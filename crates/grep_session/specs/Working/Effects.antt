@@ -1,12 +1,10 @@
 -- How an option affects what is kept.
 use Rattle.std.specs.Prelude.{◌≡◌, Bool, true, false, IsTrue, length}
-use Rattle.grep_core.specs.declared.options.Flag.{Flag}
-use Rattle.grep_core.specs.declared.options.Flag.TheVariants.{OnlyMatching}
-use Rattle.grep_core.specs.{declared.options.Options.Options, Files.Inputs, Options.with_option}
+use Rattle.grep_core.specs.declared.options.{Flag.{Flag, TheVariants.OnlyMatching}, Options.Options}
+use Rattle.grep_core.specs.{Files.Inputs, Options.with_option}
 use Rattle.grep_session.specs.declared.options.Effect.TheVariants.{Verdicts, Parts, Hits, Output}
 use Rattle.grep_session.specs.{declared.options.Effect.Effect, Marks.changes_hits}
-use Rattle.grep_session.specs.{Touched.touched_by_flag, Touched.searched_by, Touched.all_lines}
-use Rattle.grep_session.specs.Touched.{is_of_output}
+use Rattle.grep_session.specs.Touched.{touched_by_flag, searched_by, all_lines, is_of_output}
 
 -- a new value of the option may change which lines are matched
 pub record ChangesVerdicts (flag : Flag) : Type 0 where

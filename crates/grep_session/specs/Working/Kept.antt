@@ -1,12 +1,10 @@
 -- What a session keeps of its patterns and files, and the inputs that it represents.
 use Rattle.std.specs.Prelude.{◌≡◌, ℕ, ◌+◌, ◌-◌, ◌<◌, ◌≤◌, Bool, List, [], ◌++◌, length, map, get_or}
 use Rattle.std.specs.Prelude.{Option, None, Some, IfSome, MatchBool, All, ⊤, nat_eq, if◌then◌else◌}
-use Rattle.std.specs.{Bool.Decides, List.flat_map, List.list_any, Option.option_map}
-use Rattle.std.specs.Option.{unwrap_or}
+use Rattle.std.specs.{Bool.Decides, List.{flat_map, list_any}, Option.{option_map, unwrap_or}}
 use Rattle.re_syntax.specs.{Bytes.Text, Expression.Expression, Holds.Matches, Parts.AreParts}
 use Rattle.re_trees.specs.declared.span.Span.{Span}
-use Rattle.grep_core.specs.{declared.options.Options.Options, Files.File, Files.whole}
-use Rattle.grep_core.specs.Files.{missing}
+use Rattle.grep_core.specs.{declared.options.Options.Options, Files.{File, whole, missing}}
 use Rattle.line_chunks.specs.Working.Chunks.{KeptLine, FitsColumn, all_of, line_text, with_column}
 use Rattle.line_chunks.specs.Working.Finds.{FoundIn, no_finds}
 use Rattle.grep_session.specs.declared.kept.KeptFile.{KeptFile}

@@ -1,13 +1,12 @@
 -- Why edits are refused: for a pattern, for a place, or for a line.
 use Rattle.std.specs.Prelude.{◌≡◌, ◌≢◌, ℕ, ◌⊎◌, Bool, List, [], Result, Ok, Err, All}
-use Rattle.re_syntax.specs.declared.fault.FaultKind.{FaultKind}
-use Rattle.re_syntax.specs.declared.fault.FaultKind.TheVariants.{Memory as OutOfMemory}
-use Rattle.re_syntax.specs.{declared.fault.PatternFault.PatternFault, declared.syntax.Syntax.Syntax}
-use Rattle.re_syntax.specs.{Bytes.Text, Lines.HasNoNewline}
-use Rattle.grep_core.specs.{Files.File, Files.Inputs, Matchers.IsFirstRefused}
-use Rattle.grep_session.specs.declared.fault.EditFault.TheVariants.{LineHasNewline, Memory, Pattern}
-use Rattle.grep_session.specs.{declared.fault.EditFault.EditFault, Edits.Splice, Edits.Applies}
-use Rattle.grep_session.specs.Edits.{HasPlace}
+use Rattle.re_syntax.specs.{Lines.HasNoNewline, Bytes.Text}
+use Rattle.re_syntax.specs.declared.fault.FaultKind.{TheVariants.Memory as OutOfMemory, FaultKind}
+use Rattle.re_syntax.specs.declared.{fault.PatternFault.PatternFault, syntax.Syntax.Syntax}
+use Rattle.grep_core.specs.{Files.{Inputs, File}, Matchers.IsFirstRefused}
+use Rattle.grep_session.specs.Edits.{Splice, Applies, HasPlace}
+use Rattle.grep_session.specs.declared.fault.EditFault.TheVariants.{Memory, LineHasNewline, Pattern}
+use Rattle.grep_session.specs.declared.fault.EditFault.{EditFault}
 
 -- the fault of an edit for a pattern's fault; out of memory is no fault of the pattern
 abbrev pub reported_by : FaultKind → ℕ → PatternFault → EditFault

@@ -1,19 +1,16 @@
 -- What is written for the kept files, by what is kept.
-use Rattle.std.specs.Prelude.{◌≡◌, ◌==◌, ℕ, ◌+◌, ◌<◌, ◌≤◌, Bool, true, false, ◌&&◌, not, IsTrue}
-use Rattle.std.specs.Prelude.{List, [], ◌∷◌, ◌++◌, All, map, length, slice_range, Option, None}
-use Rattle.std.specs.Prelude.{Some, if◌then◌else◌, Result, IfOk, IfSome, get_or}
-use Rattle.std.specs.List.{list_any}
+use Rattle.std.specs.Prelude.{◌++◌, ◌==◌, All, slice_range, Result, length, ◌+◌, Bool, get_or, true}
+use Rattle.std.specs.Prelude.{not, ◌≤◌, IfSome, map, ◌<◌, ◌∷◌, false, IfOk, Some, Option, ℕ, ◌≡◌}
+use Rattle.std.specs.{Prelude.{if◌then◌else◌, None, ◌&&◌, List, [], IsTrue}, List.list_any}
 use Rattle.re_syntax.specs.{Bytes.Text, Expression.Expression}
 use Rattle.re_trees.specs.declared.span.Span.{Span}
-use Rattle.grep_core.specs.declared.status.FileEnd.TheVariants.{Missing, Whole}
-use Rattle.grep_core.specs.Output.{Form, parts, lines, around, Out, written}
-use Rattle.grep_core.specs.{declared.options.Context.Context, declared.options.Options.Options}
-use Rattle.grep_core.specs.{declared.status.FileEnd.FileEnd, declared.status.Status.Status}
-use Rattle.grep_core.specs.{declared.status.Status.TheVariants.Selected as selected, Around.IsShown}
-use Rattle.grep_core.specs.{Around.group_separator, Files.File, Messages.Messages}
-use Rattle.grep_core.specs.{Messages.StatusOf, Working.Groups.rows_after, Working.Progress.row_by}
-use Rattle.grep_core.specs.{Working.Searched.is_fault, Working.Searched.status_by}
-use Rattle.grep_core.specs.{Working.Requests.selects, Written.Writes}
+use Rattle.grep_core.specs.declared.options.{Context.Context, Options.Options}
+use Rattle.grep_core.specs.declared.status.FileEnd.{TheVariants.{Missing, Whole}, FileEnd}
+use Rattle.grep_core.specs.declared.status.Status.{Status, TheVariants.Selected as selected}
+use Rattle.grep_core.specs.{Output.{Form, written, lines, parts, Out, around}, Around.IsShown}
+use Rattle.grep_core.specs.{Around.group_separator, Files.File, Messages.{Messages, StatusOf}}
+use Rattle.grep_core.specs.Working.{Requests.selects, Progress.row_by, Groups.rows_after}
+use Rattle.grep_core.specs.{Working.Searched.{is_fault, status_by}, Written.Writes}
 use Rattle.line_chunks.specs.Working.Chunks.{KeptLine, line_text}
 use Rattle.grep_session.specs.{declared.kept.KeptFile.KeptFile, Working.Kept.kept_lines}
 

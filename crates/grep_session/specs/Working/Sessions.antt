@@ -1,14 +1,12 @@
 -- A session as contracts see it: the inputs that its edits have left, the marks, and the number of
 -- states.
-use Rattle.std.specs.Prelude.{◌≡◌, ℕ, ◌≤◌, map, length, All, List, Result, MatchResult, slice_set}
+use Rattle.std.specs.Prelude.{Result, ℕ, ◌≡◌, slice_set, All, ◌≤◌, map, length, MatchResult, List}
 use Rattle.re_search.specs.Working.Matchers.{matched_expression}
-use Rattle.grep_core.specs.Files.{Inputs}
-use Rattle.grep_session.specs.declared.session.Session.TheInside.{Inside}
+use Rattle.grep_core.specs.{Working.MatcherLists.{AreMatchers, KeepAtMost}, Files.Inputs}
+use Rattle.grep_session.specs.{declared.session.Session.TheInside.Inside, Marks.{AreFit, mark_at}}
+use Rattle.grep_session.specs.{Marks.Watched, Working.Kept.{IsFileKept, kept_file}}
 use Rattle.re_syntax.specs.Profile.{most_patterns, most_states}
-use Rattle.line_marks.specs.Stretches.{Marked, Splices, lost}
-use Rattle.grep_session.specs.Marks.{Watched, AreFit, mark_at}
-use Rattle.grep_session.specs.Working.Kept.{IsFileKept, kept_file}
-use Rattle.grep_core.specs.Working.MatcherLists.{AreMatchers, KeepAtMost}
+use Rattle.line_marks.specs.Stretches.{Splices, Marked, lost}
 
 abbrev pub inputs_of : Inside → Inputs
 inputs_of s =

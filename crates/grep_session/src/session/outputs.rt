@@ -1,11 +1,9 @@
 //! What grep writes for a session, and its status. No line is searched and nothing is allocated:
 //! all is computed from what is kept.
-ghost use Rattle.std.specs.Prelude.{List};
-ghost use Rattle.std.specs.Bool.{Decides};
-ghost use Rattle.re_syntax.specs.Expression.{Expression};
-ghost use Rattle.grep_core.specs.Files.{Mean};
+ghost use Rattle.std.specs.{Prelude.List, Bool.Decides};
+ghost use Rattle.{re_syntax.specs.Expression.Expression, grep_core.specs.Files.Mean};
 ghost use Rattle.grep_core.specs.Messages.{AnySelected};
-ghost use Rattle.grep_session.specs.Headline.{ReportsInputs, ReportsAllInputs, IsStatusOfInputs};
+ghost use Rattle.grep_session.specs.Headline.{ReportsAllInputs, ReportsInputs, IsStatusOfInputs};
 
 use crate::report::{status, status_given, write_messages, write_report};
 use crate::session::Session;

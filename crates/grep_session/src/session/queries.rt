@@ -1,15 +1,11 @@
 //! What a session holds: its files and their lines, which lines an editor lists, and how many
 //! states are kept. No line is searched and nothing is allocated.
-ghost use Rattle.std.specs.Prelude.{◌≡◌, ◌<◌, ◌≤◌, ◌*◌, ℕ, List, [], length, map, get_or, take};
-ghost use Rattle.std.specs.Prelude.{MatchOption};
-ghost use Rattle.re_syntax.specs.Expression.{Expression};
-ghost use Rattle.re_syntax.specs.Profile.{most_states};
-ghost use Rattle.re_search.specs.Working.Blocks.{HoldsOfMany};
+ghost use Rattle.std.specs.Prelude.{take, ◌*◌, map, MatchOption, ◌≤◌, ◌<◌, length, get_or, List};
+ghost use Rattle.std.specs.Prelude.{[], ℕ, ◌≡◌};
+ghost use Rattle.re_syntax.specs.{Expression.Expression, Profile.most_states};
+ghost use Rattle.{re_search.specs.Working.Blocks.HoldsOfMany, grep_core.specs.Run.file_at};
 ghost use Rattle.grep_core.specs.Files.{Mean, Selected};
-ghost use Rattle.grep_core.specs.Run.{file_at};
-ghost use Rattle.grep_session.specs.Marks.{AreFit};
-ghost use Rattle.grep_session.specs.Working.Kept.{span_places};
-ghost use Rattle.grep_session.specs.Listed.{ListedParts};
+ghost use Rattle.grep_session.specs.{Working.Kept.span_places, Listed.ListedParts, Marks.AreFit};
 
 use crate::caches::{Caches, kept_by};
 use crate::hit::Hit;

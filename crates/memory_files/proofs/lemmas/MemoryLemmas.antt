@@ -1,7 +1,5 @@
 -- What one read of bytes in memory gives.
-use Rattle.memory_files.proofs.Prelude.{◌≡◌, ℕ, zero, suc, ◌+◌, ◌-◌, ◌<◌, ◌≤◌, ◌^◌, min, nat_eq, false, if◌then◌else◌, Any, append-nil, List, [], ◌∷◌, ◌++◌, ◌⊎◌, inl, inr, length, take, drop, Option, Some, refl, sym, ap, ◌∙◌, arith, ne_eqb, length-take, length-append, take-append_seam, Consumes, IsAtEnd, Text, limited, one_more, count_more, Returns, MemoryFiles, MemoryReader, HasReturned, next_count, bytes_left, returned_by, IsSameHistory}
-use Rattle.re_syntax.proofs.lemmas.Decisions.{Any-first}
-use Rattle.re_syntax.proofs.lemmas.SomeOfJoined.{Any-left, Any-right}
+use Rattle.{memory_files.proofs.Prelude.{◌≡◌, ℕ, zero, suc, ◌+◌, ◌-◌, ◌<◌, ◌≤◌, ◌^◌, min, nat_eq, false, if◌then◌else◌, Any, append-nil, List, [], ◌∷◌, ◌++◌, ◌⊎◌, inl, inr, length, take, drop, Option, Some, refl, sym, ap, ◌∙◌, arith, ne_eqb, length-take, length-append, take-append_seam, Consumes, IsAtEnd, Text, limited, one_more, count_more, Returns, MemoryFiles, MemoryReader, HasReturned, next_count, bytes_left, returned_by, IsSameHistory}, re_syntax.proofs.lemmas.{Decisions.Any-first, SomeOfJoined.{Any-left, Any-right}}}
 
 take_nil : (k : ℕ) → take {A = ℕ} k [] ≡ []
 take_nil zero = refl

@@ -1,11 +1,9 @@
 -- Files in memory.
 use Rattle.std.specs.Prelude.{◌≡◌, ℕ, min, nat_eq, List, [], find, Option, Some, is_some}
 use Rattle.std.specs.Prelude.{option_and_then, bytes_eq, if◌then◌else◌}
-use Rattle.re_syntax.specs.Bytes.{Text}
-use Rattle.grep_core.specs.{Working.Limited.limited, Reading.Source}
-use Rattle.memory_files.specs.{declared.files.Content.Content, declared.files.MemoryFile.MemoryFile}
-use Rattle.memory_files.specs.declared.files.MemoryFiles.{MemoryFiles}
-use Rattle.memory_files.specs.declared.files.MemoryReader.{MemoryReader}
+use Rattle.{re_syntax.specs.Bytes.Text, grep_core.specs.{Working.Limited.limited, Reading.Source}}
+use Rattle.memory_files.specs.declared.files.{Content.Content, MemoryFile.MemoryFile}
+use Rattle.memory_files.specs.declared.files.{MemoryFiles.MemoryFiles, MemoryReader.MemoryReader}
 use Rattle.grep_utility.specs.{Folder.Folder, Working.Known.HasReturned}
 
 -- the bytes that reads of the content give

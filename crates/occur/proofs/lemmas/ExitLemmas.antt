@@ -1,6 +1,5 @@
 -- The bytes of a message about the script, written as a row, and that no reply waits.
-use Rattle.occur.proofs.Prelude.{◌≡◌, ℕ, ◌+◌, [], ◌∷◌, ◌++◌, length, Option, None, Some, Result, codes, refl, arith, sym, ap, ◌∙◌, append_assoc, append-nil, subst, colon, head, output_line, Writes, newline, cannot_open}
-use Rattle.grep_cmd.specs.Bytes.{Text}
+use Rattle.{occur.proofs.Prelude.{◌≡◌, ℕ, ◌+◌, [], ◌∷◌, ◌++◌, length, Option, None, Some, Result, codes, refl, arith, sym, ap, ◌∙◌, append_assoc, append-nil, subst, colon, head, output_line, Writes, newline, cannot_open}, grep_cmd.specs.Bytes.Text}
 
 -- `occur: ` is the margin, the script's name the name, and the rest the text
 message_row-is : (name text : Text) → output_line (codes "occur: ") (head colon (Some name) None ++ text) ≡ output_line [] (codes "occur: " ++ name ++ (colon ∷ text))

@@ -1,11 +1,6 @@
 -- What the words choose in the forms of the manual page.
-use Rattle.occur.proofs.Prelude.{◌≡◌, ◌==◌, ◌∙◌, ap, ap₂, sym, cond, ℕ, true, false, List, [], ◌∷◌, Option, Some, None, Result, Ok, Err, IfOk, is_some, length, refl, subst, inl, inr, arith, codes, IsSomeAnd, unwrap_or, digits_value, without_leading_plus, option_map_or, bytes_eq, bundle_fault, check_fault, defaults_fault, entered_fault, flag_word_fault, other_fault, settle_fault, step_fault, turn_fault, IsAmong, Kinds, or_else, value_kinds, long_of, short_of, Shape, built, entered, matches_of, Held, Rule, Step, Waiting, Walk, after_step, first_of, finished, idle, long_or_other, nothing_held, one_of, option, plain_word, positional, settled, short_or_plain, subcommand_or_other, walk_from, word_met, IsUnsignedIn, kind_of, ErrorKind, DisplayHelp, DisplayVersion, Unsigned, AsksFor, IsChosenBy, Reads, ExplainsAmong, form_words, is_no_option, is_operand, occur_app, ScriptRequest, OccurFault}
-use Rattle.clap.specs.Faults.{fault_of}
-use Rattle.clap.specs.Walk.{Text, walked}
-use Rattle.clap.proofs.OnLiterals.{clap_on_literals}
-use Rattle.clap.proofs.ValueTestLemmas.{Accepts-accepts}
+use Rattle.{occur.proofs.{Prelude.{◌≡◌, ◌==◌, ◌∙◌, ap, ap₂, sym, cond, ℕ, true, false, List, [], ◌∷◌, Option, Some, None, Result, Ok, Err, IfOk, is_some, length, refl, subst, inl, inr, arith, codes, IsSomeAnd, unwrap_or, digits_value, without_leading_plus, option_map_or, bytes_eq, bundle_fault, check_fault, defaults_fault, entered_fault, flag_word_fault, other_fault, settle_fault, step_fault, turn_fault, IsAmong, Kinds, or_else, value_kinds, long_of, short_of, Shape, built, entered, matches_of, Held, Rule, Step, Waiting, Walk, after_step, first_of, finished, idle, long_or_other, nothing_held, one_of, option, plain_word, positional, settled, short_or_plain, subcommand_or_other, walk_from, word_met, IsUnsignedIn, kind_of, ErrorKind, DisplayHelp, DisplayVersion, Unsigned, AsksFor, IsChosenBy, Reads, ExplainsAmong, form_words, is_no_option, is_operand, occur_app, ScriptRequest, OccurFault}, lemmas.StatesLemmas.not_so}, clap.{specs.{Faults.fault_of, Walk.{Text, walked}}, proofs.{OnLiterals.clap_on_literals, ValueTestLemmas.Accepts-accepts}}}
 use Rattle.occur.specs.declared.words.OccurFault.TheVariants as fault
-use Rattle.occur.proofs.lemmas.StatesLemmas.{not_so}
 
 no_dashes : (word : Text) → is_operand word ≡ true → bytes_eq word (45 ∷ 45 ∷ []) ≡ false
 no_dashes [] e = refl

@@ -1,10 +1,6 @@
 -- The number of states that a parse finds.
-use Rattle.occur.proofs.Prelude.{◌≡◌, ◌∙◌, ◌<◌, ◌≤◌, ◌^◌, ap, ℕ, zero, suc, Bool, true, false, not, List, [], ◌∷◌, length, map, is_some, Option, Some, None, Ok, Err, Result, refl, sym, subst, inl, inr, arith, codes, true≢false, All, slice_index_or, bytes_eq, ParsesUnsigned, digits_value, without_leading_plus, Bor, find, option_map, ne_eqb, length-map, All-get_or, bytes_eq-Decides, items_of, Entry, EntryPasses, HasIn, IsParsed, PassesArg, WantsDefault, args_of, groups_of, least_values, parser_of, parser_of_value, unwrap_or_range, IsAuto, IsParsedFrom, SameRules, ReadsOne, has_subcommand, matched_of, one_text, app_of, Accepts, IsUnsignedIn, reading_of, Rule, is_empty, is_simple_arg, rule_of, Count, Set, Arg, Command, out-Command, ValueParser, Unsigned, ArgMatches, Found, MatchedArg, HasStates, occur_app, script_rule, states_rule}
-use Rattle.clap.specs.Matches.{found_of}
-use Rattle.clap.specs.Walk.{Text}
+use Rattle.{occur.proofs.Prelude.{◌≡◌, ◌∙◌, ◌<◌, ◌≤◌, ◌^◌, ap, ℕ, zero, suc, Bool, true, false, not, List, [], ◌∷◌, length, map, is_some, Option, Some, None, Ok, Err, Result, refl, sym, subst, inl, inr, arith, codes, true≢false, All, slice_index_or, bytes_eq, ParsesUnsigned, digits_value, without_leading_plus, Bor, find, option_map, ne_eqb, length-map, All-get_or, bytes_eq-Decides, items_of, Entry, EntryPasses, HasIn, IsParsed, PassesArg, WantsDefault, args_of, groups_of, least_values, parser_of, parser_of_value, unwrap_or_range, IsAuto, IsParsedFrom, SameRules, ReadsOne, has_subcommand, matched_of, one_text, app_of, Accepts, IsUnsignedIn, reading_of, Rule, is_empty, is_simple_arg, rule_of, Count, Set, Arg, Command, out-Command, ValueParser, Unsigned, ArgMatches, Found, MatchedArg, HasStates, occur_app, script_rule, states_rule}, clap.{specs.{Matches.found_of, Walk.Text}, proofs.{CallerLemmas.{default_present, entry_by_id, same_rules_by_id}, WalkLemmas.both}}}
 use Rattle.clap.specs.declared.builder.value_parser.Reading.TheVariants as reading
-use Rattle.clap.proofs.CallerLemmas.{default_present, entry_by_id, same_rules_by_id}
-use Rattle.clap.proofs.WalkLemmas.{both}
 
 -- a text within the bounds reads as its number
 pub unsigned_reads : (E : Type 0) (G : List ℕ → Result ℕ E → Type 0) (k low high : ℕ) (t : List ℕ) (r : Option ℕ) → ReadsOne G t r

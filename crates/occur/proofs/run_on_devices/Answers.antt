@@ -1,8 +1,4 @@
-use Rattle.std.proofs.Common.{subst}
-use Rattle.grep_core.specs.Buffer.{all_contents}
-use Rattle.grep_core.specs.Run.{writer}
-use Rattle.grep_cmd.specs.Replies.{GaveLines, ScriptGives, ScriptState}
-use Rattle.occur.proofs.lemmas.ExitLemmas.{all_sent}
+use Rattle.{std.proofs.Common.subst, grep_core.specs.{Buffer.all_contents, Run.writer}, grep_cmd.specs.Replies.{GaveLines, ScriptGives, ScriptState}, occur.proofs.lemmas.ExitLemmas.all_sent}
 use Rattle.occur.proofs.run_on_devices.Goals as goal
 
 pub returns : goal.returns

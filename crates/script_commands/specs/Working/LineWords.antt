@@ -1,8 +1,6 @@
 -- How the words of a command line are read.
-use Rattle.std.specs.Prelude.{List, [], ◌∷◌, Option, Some, None}
-use Rattle.std.specs.Borrow.{Bor}
-use Rattle.re_syntax.specs.Bytes.{Text}
-use Rattle.script_commands.specs.Commands.{words_of}
+use Rattle.std.specs.{Prelude.{List, [], ◌∷◌, Option, Some, None}, Borrow.Bor}
+use Rattle.{re_syntax.specs.Bytes.Text, script_commands.specs.Commands.words_of}
 
 -- the words that are left of a line
 abbrev pub words_of_rest : Option (Bor Text) → List Text

@@ -1,14 +1,12 @@
 -- What a command that was read means.
 use Rattle.std.specs.Prelude.{List}
-use Rattle.re_syntax.specs.{Bytes.Text, Lines.joined}
-use Rattle.grep_session.specs.Edits.{Edit, AddFile, AddMissing, DropFile, Splice, AddPatterns}
-use Rattle.grep_session.specs.Edits.{DropPattern, ChangePattern, SetFlag, SetSyntax, SetContext}
-use Rattle.script_commands.specs.Commands.{Command, edits, counts, shows, lists_changes, lists_page}
-use Rattle.script_commands.specs.Commands.{asks_version, switches_text}
-use Rattle.script_commands.specs.declared.command.LineEdit.{LineEdit}
-use Rattle.script_commands.specs.declared.command.FileEdit.{FileEdit}
-use Rattle.script_commands.specs.declared.command.PatternEdit.{PatternEdit}
-use Rattle.script_commands.specs.declared.command.CountedEdit.{CountedEdit}
+use Rattle.{re_syntax.specs.{Bytes.Text, Lines.joined}, grep_session.specs.Edits.SetContext}
+use Rattle.grep_session.specs.Edits.{SetFlag, DropPattern, SetSyntax, AddPatterns, Edit, AddMissing}
+use Rattle.grep_session.specs.Edits.{AddFile, DropFile, Splice, ChangePattern}
+use Rattle.script_commands.specs.declared.command.{LineEdit.LineEdit, FileEdit.FileEdit}
+use Rattle.script_commands.specs.declared.command.{PatternEdit.PatternEdit, CountedEdit.CountedEdit}
+use Rattle.script_commands.specs.Commands.{Command, shows, switches_text, counts, edits, lists_page}
+use Rattle.script_commands.specs.Commands.{lists_changes, asks_version}
 use Rattle.script_commands.specs.declared.command.LineEdit.TheVariants as line_edit
 use Rattle.script_commands.specs.declared.command.FileEdit.TheVariants as file_edit
 use Rattle.script_commands.specs.declared.command.PatternEdit.TheVariants as pattern_edit

@@ -1,5 +1,4 @@
-use Rattle.re_syntax.specs.Working.Trees.{expression_of}
-use Rattle.re_auto.specs.Working.StateSets.{IsMadeFor}
+use Rattle.{re_syntax.specs.Working.Trees.expression_of, re_auto.specs.Working.StateSets.IsMadeFor}
 use Rattle.examples.proofs.automata.is_whole.Given as goal
 
 abbrev pub invariant-loop-byte : goal.invariant-loop-byte

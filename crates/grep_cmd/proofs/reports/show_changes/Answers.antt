@@ -1,5 +1,4 @@
-use Rattle.grep_cmd.proofs.Prelude.{WriteFault}
-use Rattle.grep_cmd.proofs.lemmas.ListingLaws.{report_front, report_whole}
+use Rattle.grep_cmd.proofs.{Prelude.WriteFault, lemmas.ListingLaws.{report_front, report_whole}}
 use Rattle.grep_cmd.proofs.reports.show_changes.Goals as goal
 
 pub returns-in_err-status : goal.returns-in_err-status

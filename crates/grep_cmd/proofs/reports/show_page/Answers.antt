@@ -1,5 +1,4 @@
-use Rattle.grep_cmd.proofs.Prelude.{WriteFault}
-use Rattle.grep_cmd.proofs.lemmas.ListingLaws.{shows_hits_front, shows_hits_whole}
+use Rattle.grep_cmd.proofs.{Prelude.WriteFault, lemmas.ListingLaws.{shows_hits_front, shows_hits_whole}}
 use Rattle.grep_cmd.proofs.reports.show_page.Goals as goal
 
 pub returns-in_err-status : goal.returns-in_err-status

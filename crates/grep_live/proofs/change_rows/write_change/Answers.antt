@@ -1,6 +1,4 @@
-use Rattle.grep_live.proofs.Prelude.{◌+◌, drop, length, get_or, drop_all, Stretch, file_at}
-use Rattle.grep_session.proofs.lemmas.Writing.{writes_err}
-use Rattle.grep_live.proofs.lemmas.ChangesLemmas.{stretches_begin, next_stretch, turn_is, changed_none, changed_on, changed_stops, changed_all}
+use Rattle.{grep_live.proofs.{Prelude.{◌+◌, drop, length, get_or, drop_all, Stretch, file_at}, lemmas.ChangesLemmas.{stretches_begin, next_stretch, turn_is, changed_none, changed_on, changed_stops, changed_all}}, grep_session.proofs.lemmas.Writing.writes_err}
 use Rattle.grep_live.proofs.change_rows.write_change.Goals as goal
 
 pub loop-stretch-init : goal.loop-stretch-init

@@ -1,5 +1,4 @@
-use Rattle.grep_live.proofs.Prelude.{drop, length, file_at}
-use Rattle.grep_live.proofs.lemmas.ChangesLemmas.{StretchesLeft, Changes}
+use Rattle.grep_live.proofs.{Prelude.{drop, length, file_at}, lemmas.ChangesLemmas.{StretchesLeft, Changes}}
 use Rattle.grep_live.proofs.change_rows.write_change.Given as goal
 
 -- the changes of the first stretches were written

@@ -1,8 +1,5 @@
-use Rattle.grep_live.proofs.Prelude.{◌≡◌, ◌<◌, [], length, ◌∙◌, arith, get_or_default, file_at, ChangesFile, whole_mark, mark_at, changes_rows}
+use Rattle.{grep_live.proofs.{Prelude.{◌≡◌, ◌<◌, [], length, ◌∙◌, arith, get_or_default, file_at, ChangesFile, whole_mark, mark_at, changes_rows}, lemmas.{ListLemmas.{three-length, three-at}, ChangesLemmas.{reported_on, reported_stops, reported_all}}}, grep_session.proofs.lemmas.{FitLemmas.{as_many, fit_at}, Writing.{none_written, writes_err}}}
 use Rattle.grep_live.proofs.change_rows.write_changes.Goals as goal
-use Rattle.grep_session.proofs.lemmas.{FitLemmas.as_many, FitLemmas.fit_at, Writing.none_written, Writing.writes_err}
-use Rattle.grep_live.proofs.lemmas.ListLemmas.{three-length, three-at}
-use Rattle.grep_live.proofs.lemmas.ChangesLemmas.{reported_on, reported_stops, reported_all}
 
 pub loop-k-init : goal.loop-k-init
 loop-k-init g c = λ es meant changes are. none_written g.W.CountedWrite.contents g.W.CountedWrite.failures c.args.form.margin.now c.args.out.now (changes_rows c.args.form.has_text 0 changes)

@@ -1,6 +1,4 @@
-use Rattle.grep_live.proofs.Prelude.{arith}
-use Rattle.grep_session.proofs.lemmas.Writing.{writes_err}
-use Rattle.grep_live.proofs.lemmas.ChangesLemmas.{listed_none, listed_one, listed_stops, listed_all}
+use Rattle.{grep_live.proofs.{Prelude.arith, lemmas.ChangesLemmas.{listed_none, listed_one, listed_stops, listed_all}}, grep_session.proofs.lemmas.Writing.writes_err}
 use Rattle.grep_live.proofs.change_rows.write_hits.Goals as goal
 
 pub loop-found-init : goal.loop-found-init

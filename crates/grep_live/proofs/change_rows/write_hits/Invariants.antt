@@ -1,5 +1,4 @@
-use Rattle.grep_live.proofs.Prelude.{◌-◌, ◌≤◌}
-use Rattle.grep_live.proofs.lemmas.ChangesLemmas.{Lists}
+use Rattle.grep_live.proofs.{Prelude.{◌-◌, ◌≤◌}, lemmas.ChangesLemmas.Lists}
 use Rattle.grep_live.proofs.change_rows.write_hits.Given as goal
 
 -- the hits before this place were written

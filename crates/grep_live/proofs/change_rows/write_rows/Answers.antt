@@ -1,5 +1,4 @@
-use Rattle.grep_live.proofs.Prelude.{ℕ, ◌-◌, [], ◌∷◌, ◌++◌, codes, length, map, spaced, hit_row}
-use Rattle.grep_session.proofs.lemmas.Writing.{writes_err, one_went, one_stopped, stops_before, writes_after}
+use Rattle.{grep_live.proofs.Prelude.{ℕ, ◌-◌, [], ◌∷◌, ◌++◌, codes, length, map, spaced, hit_row}, grep_session.proofs.lemmas.Writing.{writes_err, one_went, one_stopped, stops_before, writes_after}}
 use Rattle.grep_live.proofs.change_rows.write_rows.Goals as goal
 
 pub returns-in_err-write_number_row : goal.returns-in_err-write_number_row

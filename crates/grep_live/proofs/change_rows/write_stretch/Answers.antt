@@ -1,6 +1,4 @@
-use Rattle.grep_live.proofs.Prelude.{◌-◌, sym}
-use Rattle.grep_core.proofs.lemmas.RowLemmas.{goes_nowhere}
-use Rattle.grep_live.proofs.lemmas.ChangesLemmas.{rows_idle, rows_busy}
+use Rattle.{grep_live.proofs.{Prelude.{◌-◌, sym}, lemmas.ChangesLemmas.{rows_idle, rows_busy}}, grep_core.proofs.lemmas.RowLemmas.goes_nowhere}
 use Rattle.grep_live.proofs.change_rows.write_stretch.Goals as goal
 
 pub returns-then-is_idle : goal.returns-then-is_idle

@@ -1,5 +1,4 @@
-use Rattle.grep_live.proofs.Prelude.{arith}
-use Rattle.grep_live.proofs.lemmas.NumberLemmas.{counted_between}
+use Rattle.grep_live.proofs.{Prelude.arith, lemmas.NumberLemmas.counted_between}
 use Rattle.grep_live.proofs.hits.count_hits.Goals as goal
 
 pub returns : goal.returns

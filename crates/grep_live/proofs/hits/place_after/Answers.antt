@@ -1,5 +1,4 @@
-use Rattle.grep_live.proofs.Prelude.{arith}
-use Rattle.grep_live.proofs.lemmas.NumberLemmas.{none_below, all_suffice, fewer_here, suffices_here, place_found}
+use Rattle.grep_live.proofs.{Prelude.arith, lemmas.NumberLemmas.{none_below, all_suffice, fewer_here, suffices_here, place_found}}
 use Rattle.grep_live.proofs.hits.place_after.Goals as goal
 
 pub loop-low-init : goal.loop-low-init

@@ -1,5 +1,4 @@
-use Rattle.grep_live.proofs.Prelude.{◌-◌, ◌≤◌, length, file_at}
-use Rattle.grep_live.proofs.lemmas.NumberLemmas.{FewerBelow, Suffices}
+use Rattle.grep_live.proofs.{Prelude.{◌-◌, ◌≤◌, length, file_at}, lemmas.NumberLemmas.{FewerBelow, Suffices}}
 use Rattle.grep_live.proofs.hits.place_after.Given as goal
 
 -- the place is between these

@@ -1,5 +1,4 @@
-use Rattle.grep_live.proofs.Prelude.{refl, WriteFault}
-use Rattle.grep_live.proofs.lemmas.CatchLemmas.{writes_all}
+use Rattle.grep_live.proofs.{Prelude.{refl, WriteFault}, lemmas.CatchLemmas.writes_all}
 use Rattle.grep_live.proofs.lists.changes.Goals as goal
 
 pub write_changes-requires : goal.write_changes-requires

@@ -1,5 +1,4 @@
-use Rattle.grep_live.proofs.Prelude.{refl, WriteFault}
-use Rattle.grep_live.proofs.lemmas.PageLemmas.{shows_page}
+use Rattle.grep_live.proofs.{Prelude.{refl, WriteFault}, lemmas.PageLemmas.shows_page}
 use Rattle.grep_live.proofs.lists.page.Goals as goal
 
 pub returns-in-Err : goal.returns-in-Err

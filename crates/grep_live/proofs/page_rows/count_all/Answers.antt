@@ -1,5 +1,4 @@
-use Rattle.grep_live.proofs.Prelude.{[], arith, get_or, length, ◌<◌, ◌≤◌}
-use Rattle.grep_live.proofs.lemmas.PageLemmas.{files_none, files_on, files_all, hits_at, view_long}
+use Rattle.grep_live.proofs.{Prelude.{[], arith, get_or, length, ◌<◌, ◌≤◌}, lemmas.PageLemmas.{files_none, files_on, files_all, hits_at, view_long}}
 use Rattle.grep_live.proofs.page_rows.count_all.Goals as goal
 
 pub loop-k-init : goal.loop-k-init

@@ -1,5 +1,4 @@
-use Rattle.grep_live.proofs.Prelude.{List, Expression, View, AreHits, Mean}
-use Rattle.grep_live.proofs.lemmas.PageLemmas.{CountedFiles}
+use Rattle.grep_live.proofs.{Prelude.{List, Expression, View, AreHits, Mean}, lemmas.PageLemmas.CountedFiles}
 use Rattle.grep_live.proofs.page_rows.count_all.Given as goal
 
 abbrev pub invariant-loop-k : goal.invariant-loop-k

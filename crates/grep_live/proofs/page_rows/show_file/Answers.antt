@@ -1,6 +1,4 @@
-use Rattle.grep_live.proofs.Prelude.{arith}
-use Rattle.grep_session.proofs.lemmas.Writing.{writes_err}
-use Rattle.grep_live.proofs.lemmas.PageLemmas.{shown_from}
+use Rattle.{grep_live.proofs.{Prelude.arith, lemmas.PageLemmas.shown_from}, grep_session.proofs.lemmas.Writing.writes_err}
 use Rattle.grep_live.proofs.page_rows.show_file.Goals as goal
 
 pub returns-in_err-page-clause-wrote : goal.returns-in_err-page-clause-wrote

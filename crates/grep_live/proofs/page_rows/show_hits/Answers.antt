@@ -1,6 +1,4 @@
-use Rattle.grep_live.proofs.Prelude.{arith}
-use Rattle.grep_session.proofs.lemmas.Writing.{writes_err}
-use Rattle.grep_live.proofs.lemmas.PageLemmas.{shown_none, shown_one, shown_stops, shown_all, shown_rest, full_all, full_rest}
+use Rattle.{grep_live.proofs.{Prelude.arith, lemmas.PageLemmas.{shown_none, shown_one, shown_stops, shown_all, shown_rest, full_all, full_rest}}, grep_session.proofs.lemmas.Writing.writes_err}
 use Rattle.grep_live.proofs.page_rows.show_hits.Goals as goal
 
 pub loop-shown-init : goal.loop-shown-init

@@ -1,5 +1,4 @@
-use Rattle.grep_live.proofs.Prelude.{◌≤◌}
-use Rattle.grep_live.proofs.lemmas.PageLemmas.{Shows}
+use Rattle.grep_live.proofs.{Prelude.◌≤◌, lemmas.PageLemmas.Shows}
 use Rattle.grep_live.proofs.page_rows.show_hits.Given as goal
 
 -- the hits before this place were written

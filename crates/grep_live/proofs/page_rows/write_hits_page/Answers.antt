@@ -1,5 +1,4 @@
-use Rattle.grep_live.proofs.Prelude.{◌-◌, ◌^◌, [], ◌∷◌, length, min, total_row, page_rows, all_hits}
-use Rattle.grep_session.proofs.lemmas.Writing.{writes_err, one_went, one_stopped, stops_before, writes_after}
+use Rattle.{grep_live.proofs.Prelude.{◌-◌, ◌^◌, [], ◌∷◌, length, min, total_row, page_rows, all_hits}, grep_session.proofs.lemmas.Writing.{writes_err, one_went, one_stopped, stops_before, writes_after}}
 use Rattle.grep_live.proofs.page_rows.write_hits_page.Goals as goal
 
 pub returns-in_err-write_number_row : goal.returns-in_err-write_number_row

@@ -1,6 +1,4 @@
-use Rattle.grep_live.proofs.Prelude.{[], arith, get_or, length, ◌<◌, ◌≤◌, page_rows, all_hits}
-use Rattle.grep_session.proofs.lemmas.Writing.{none_written, writes_err}
-use Rattle.grep_live.proofs.lemmas.PageLemmas.{hits_at, view_long, paged_on, paged_stops, paged_all}
+use Rattle.{grep_live.proofs.{Prelude.{[], arith, get_or, length, ◌<◌, ◌≤◌, page_rows, all_hits}, lemmas.PageLemmas.{hits_at, view_long, paged_on, paged_stops, paged_all}}, grep_session.proofs.lemmas.Writing.{none_written, writes_err}}
 use Rattle.grep_live.proofs.page_rows.write_page.Goals as goal
 
 pub loop-k-init : goal.loop-k-init

@@ -1,7 +1,4 @@
-use Rattle.grep_live.proofs.Prelude.{[], ◌∷◌, ◌++◌, map, newline, span_places, spaced, parts_text, line_text}
-use Rattle.grep_core.proofs.lemmas.RowLemmas.{stops_early, writes_last}
-use Rattle.grep_session.proofs.lemmas.Writing.{writes_err}
-use Rattle.grep_live.proofs.lemmas.Pushing.{row_grouped}
+use Rattle.{grep_live.proofs.{Prelude.{[], ◌∷◌, ◌++◌, map, newline, span_places, spaced, parts_text, line_text}, lemmas.Pushing.row_grouped}, grep_core.proofs.lemmas.RowLemmas.{stops_early, writes_last}, grep_session.proofs.lemmas.Writing.writes_err}
 use Rattle.grep_live.proofs.rows.write_hit_row.Goals as goal
 
 pub returns-in_err-write_head : goal.returns-in_err-write_head

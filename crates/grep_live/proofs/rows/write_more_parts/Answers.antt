@@ -1,7 +1,4 @@
-use Rattle.grep_live.proofs.Prelude.{◌<◌, ◌∷◌, [], length, map, get_or, arith, length-map, Span, GoesOut, StopsWithin, span_places, part_text, more_parts}
-use Rattle.std.proofs.Math.ListN.{get_or-map}
-use Rattle.grep_session.proofs.lemmas.Writing.{writes_err}
-use Rattle.grep_live.proofs.lemmas.Pushing.{each_none, each_on, each_stops, each_all}
+use Rattle.{grep_live.proofs.{Prelude.{◌<◌, ◌∷◌, [], length, map, get_or, arith, length-map, Span, GoesOut, StopsWithin, span_places, part_text, more_parts}, lemmas.Pushing.{each_none, each_on, each_stops, each_all}}, std.proofs.Math.ListN.get_or-map, grep_session.proofs.lemmas.Writing.writes_err}
 use Rattle.grep_live.proofs.rows.write_more_parts.Goals as goal
 
 pub loop-part-init : goal.loop-part-init

@@ -1,5 +1,4 @@
-use Rattle.grep_live.proofs.Prelude.{◌∷◌, map, span_places, part_text}
-use Rattle.grep_live.proofs.lemmas.Pushing.{EachUpTo}
+use Rattle.grep_live.proofs.{Prelude.{◌∷◌, map, span_places, part_text}, lemmas.Pushing.EachUpTo}
 use Rattle.grep_live.proofs.rows.write_more_parts.Given as goal
 
 abbrev pub invariant-loop-part : goal.invariant-loop-part

@@ -1,6 +1,4 @@
-use Rattle.grep_live.proofs.Prelude.{◌∷◌, [], decimal, spaced}
-use Rattle.grep_session.proofs.lemmas.Writing.{writes_err}
-use Rattle.grep_live.proofs.lemmas.Pushing.{each_none, each_on, each_stops, each_all}
+use Rattle.{grep_live.proofs.{Prelude.{◌∷◌, [], decimal, spaced}, lemmas.Pushing.{each_none, each_on, each_stops, each_all}}, grep_session.proofs.lemmas.Writing.writes_err}
 use Rattle.grep_live.proofs.rows.write_numbers.Goals as goal
 
 pub loop-number-init : goal.loop-number-init

@@ -1,5 +1,4 @@
-use Rattle.grep_live.proofs.Prelude.{◌∷◌, decimal}
-use Rattle.grep_live.proofs.lemmas.Pushing.{EachUpTo}
+use Rattle.grep_live.proofs.{Prelude.{◌∷◌, decimal}, lemmas.Pushing.EachUpTo}
 use Rattle.grep_live.proofs.rows.write_numbers.Given as goal
 
 abbrev pub invariant-loop-number : goal.invariant-loop-number

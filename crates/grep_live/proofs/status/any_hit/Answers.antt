@@ -1,5 +1,4 @@
-use Rattle.grep_live.proofs.Prelude.{◌<◌, length, arith, file_at}
-use Rattle.grep_live.proofs.lemmas.StatusLemmas.{bare_more, some_hit, no_hit}
+use Rattle.grep_live.proofs.{Prelude.{◌<◌, length, arith, file_at}, lemmas.StatusLemmas.{bare_more, some_hit, no_hit}}
 use Rattle.grep_live.proofs.status.any_hit.Goals as goal
 
 pub returns-then-next-lines : goal.returns-then-next-lines

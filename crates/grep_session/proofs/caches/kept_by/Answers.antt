@@ -1,5 +1,4 @@
-use Rattle.grep_session.proofs.Prelude.{◌≡◌, length, arith}
-use Rattle.grep_session.proofs.lemmas.RoomLemmas.{room_at}
+use Rattle.grep_session.proofs.{Prelude.{◌≡◌, length, arith}, lemmas.RoomLemmas.room_at}
 use Rattle.grep_session.proofs.caches.kept_by.Goals as goal
 
 pub loop-matcher-preserved : goal.loop-matcher-preserved

@@ -1,11 +1,5 @@
-use Rattle.grep_session.proofs.Prelude.{◌≡◌, ◌<◌, ◌∙◌, length, map, take, get_or, take_all, refl, ap, arith, [], HasChanged, SearchesEach, IsFileKept, chunks_of, chunks_of_files, kept_file, matched_expression, All, sym, subst, AllZip, FitsColumn, IsColumn, lines_of_files, AddsColumns}
-use Rattle.re_search.proofs.lemmas.KeptMatchers.{none_asked, same_over, still_alike}
-use Rattle.grep_core.proofs.lemmas.CostLaws.{same_length}
-use Rattle.grep_session.proofs.lemmas.FoundLemmas.{adds_columns, adds_no_column, chunks_on, files_by_chunk, no_chunks, its_chunks, its_lines, was_kept}
-use Rattle.grep_session.proofs.lemmas.ColumnLemmas.{files_next, files_with_parts, kept_at}
-use Rattle.grep_session.proofs.lemmas.StepLemmas.{not_searched, each_both, each_front}
+use Rattle.{grep_session.proofs.{Prelude.{◌≡◌, ◌<◌, ◌∙◌, length, map, take, get_or, take_all, refl, ap, arith, [], HasChanged, SearchesEach, IsFileKept, chunks_of, chunks_of_files, kept_file, matched_expression, All, sym, subst, AllZip, FitsColumn, IsColumn, lines_of_files, AddsColumns}, lemmas.{FoundLemmas.{adds_columns, adds_no_column, chunks_on, files_by_chunk, no_chunks, its_chunks, its_lines, was_kept}, ColumnLemmas.{files_next, files_with_parts, kept_at}, StepLemmas.{not_searched, each_both, each_front}}, columns.find_columns.Goals.{After-file-item, After-find_in_lines}}, re_search.proofs.lemmas.KeptMatchers.{none_asked, same_over, still_alike}, grep_core.proofs.lemmas.CostLaws.same_length}
 use Rattle.grep_session.proofs.columns.find_columns.Goals as goal
-use Rattle.grep_session.proofs.columns.find_columns.Goals.{After-file-item, After-find_in_lines}
 
 -- the next file is one of them
 there : (c : After-file-item) → let files = c.args.files.now.items in (c.loop-file.file-index < length files) × (c.file-item.result ≡ get_or files c.loop-file.file-index c.file-item.result)

@@ -1,5 +1,4 @@
-use Rattle.std.specs.Prelude.{vec_capacity}
-use Rattle.grep_session.proofs.Prelude.{◌≡◌, map, take, All, [], AreSame, HasChanged, IsFileKept, SearchesEach, AddsColumns, chunks_of_files, lines_of_files, kept_file, matched_expression}
+use Rattle.{std.specs.Prelude.vec_capacity, grep_session.proofs.Prelude.{◌≡◌, map, take, All, [], AreSame, HasChanged, IsFileKept, SearchesEach, AddsColumns, chunks_of_files, lines_of_files, kept_file, matched_expression}}
 use Rattle.grep_session.proofs.columns.find_columns.Given as goal
 
 -- the first files were searched

@@ -1,7 +1,5 @@
-use Rattle.grep_session.proofs.Prelude.{◌≡◌, All, HasChanged, SearchesEach, length, map, ap, length-map, AreBelow, FoundIn, line_text, IsKept, matched_expression, sym, subst}
-use Rattle.grep_session.proofs.lemmas.ColumnLaws.{column_right, column_same, chunk_steps, chunk_begun, matches_below}
+use Rattle.grep_session.proofs.{Prelude.{◌≡◌, All, HasChanged, SearchesEach, length, map, ap, length-map, AreBelow, FoundIn, line_text, IsKept, matched_expression, sym, subst}, lemmas.ColumnLaws.{column_right, column_same, chunk_steps, chunk_begun, matches_below}, columns.find_in_chunk.Goals.{After-find_parts, In_ok-new}}
 use Rattle.grep_session.proofs.columns.find_in_chunk.Goals as goal
-use Rattle.grep_session.proofs.columns.find_in_chunk.Goals.{After-find_parts, In_ok-new}
 
 -- the steps up to the search for parts
 spent : (c : After-find_parts) → let es = map matched_expression c.args.matchers.now in let options = c.args.search.now.options in (h : HasChanged c.args.change es options) → All (IsKept h.before h.was) c.args.chunk.now

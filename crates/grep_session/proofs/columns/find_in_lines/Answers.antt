@@ -1,10 +1,5 @@
-use Rattle.grep_session.proofs.Prelude.{◌≡◌, ◌+◌, ◌<◌, [], ◌∷◌, ◌++◌, All, length, map, take, get_or, arith, take_all, all_of, line_text, IsKept, SearchesEach, HasChanged, AreSame, drop, refl, matched_expression, sym, ap, subst, ◌∙◌, AddsColumns}
+use Rattle.{grep_session.proofs.{Prelude.{◌≡◌, ◌+◌, ◌<◌, [], ◌∷◌, ◌++◌, All, length, map, take, get_or, arith, take_all, all_of, line_text, IsKept, SearchesEach, HasChanged, AreSame, drop, refl, matched_expression, sym, ap, subst, ◌∙◌, AddsColumns}, lemmas.{AddingLemmas.all_back, FoundLemmas.{adds_no_column, adds_columns, adds_column, all_by_chunk, chunks_next, texts_next, texts_rest}, StepLemmas.{not_searched, each_both, each_front}}, columns.find_in_lines.Goals.After-find_in_chunk}, grep_core.proofs.lemmas.CostLaws.same_length, re_search.proofs.lemmas.KeptMatchers.{none_asked, same_over, still_alike}}
 use Rattle.grep_session.proofs.columns.find_in_lines.Goals as goal
-use Rattle.grep_core.proofs.lemmas.CostLaws.{same_length}
-use Rattle.grep_session.proofs.{lemmas.AddingLemmas.all_back, columns.find_in_lines.Goals.After-find_in_chunk}
-use Rattle.grep_session.proofs.lemmas.FoundLemmas.{adds_no_column, adds_columns, adds_column, all_by_chunk, chunks_next, texts_next, texts_rest}
-use Rattle.re_search.proofs.lemmas.KeptMatchers.{none_asked, same_over, still_alike}
-use Rattle.grep_session.proofs.lemmas.StepLemmas.{not_searched, each_both, each_front}
 
 pub loop-i-init : goal.loop-i-init
 loop-i-init c = record {

@@ -1,5 +1,4 @@
-use Rattle.grep_session.proofs.Prelude.{◌≡◌, map, take, All, IsKept, all_of, line_text, AreSame, HasChanged, SearchesEach, AddsColumns, matched_expression}
-use Rattle.std.specs.Prelude.{vec_capacity}
+use Rattle.{grep_session.proofs.Prelude.{◌≡◌, map, take, All, IsKept, all_of, line_text, AreSame, HasChanged, SearchesEach, AddsColumns, matched_expression}, std.specs.Prelude.vec_capacity}
 use Rattle.grep_session.proofs.columns.find_in_lines.Given as goal
 
 -- the first chunks were searched

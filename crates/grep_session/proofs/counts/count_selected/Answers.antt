@@ -1,5 +1,4 @@
-use Rattle.grep_session.proofs.Prelude.{◌≡◌, ◌-◌, length, take, length-take, ◌∙◌, ap, sym, arith, all_of}
-use Rattle.grep_session.proofs.lemmas.CountLaws.{count_by_matched, matched_selected}
+use Rattle.grep_session.proofs.{Prelude.{◌≡◌, ◌-◌, length, take, length-take, ◌∙◌, ap, sym, arith, all_of}, lemmas.CountLaws.{count_by_matched, matched_selected}}
 use Rattle.grep_session.proofs.counts.count_selected.Goals as goal
 
 pub overflow_sub-result : goal.overflow_sub-result

@@ -1,5 +1,4 @@
-use Rattle.grep_session.proofs.Prelude.{◌<◌, length, get_or, arith, get_or_default, all_of, no_line}
-use Rattle.grep_session.proofs.lemmas.CountLaws.{none_selected, one_selected}
+use Rattle.grep_session.proofs.{Prelude.{◌<◌, length, get_or, arith, get_or_default, all_of, no_line}, lemmas.CountLaws.{none_selected, one_selected}}
 use Rattle.grep_session.proofs.counts.find_selected.Goals as goal
 
 pub returns : goal.returns

@@ -1,6 +1,4 @@
-use Rattle.grep_session.proofs.Prelude.{◌≡◌, drop, length, get_or, arith, ap, ◌∙◌, add-one, suc, map, map-set_same, AllWithin-more_set, All-from_all_within, into_iter_items, FitsColumn, IsFileKept, kept_file, IsColumn, chunks_of, chunks_of_files}
-use Rattle.grep_session.proofs.lemmas.AddingLemmas.{all_back}
-use Rattle.grep_session.proofs.lemmas.FoundLemmas.{same_file, chunks_from, later_on, there_still, fit_first, rest_of, right_file}
+use Rattle.grep_session.proofs.{Prelude.{◌≡◌, drop, length, get_or, arith, ap, ◌∙◌, add-one, suc, map, map-set_same, AllWithin-more_set, All-from_all_within, into_iter_items, FitsColumn, IsFileKept, kept_file, IsColumn, chunks_of, chunks_of_files}, lemmas.{AddingLemmas.all_back, FoundLemmas.{same_file, chunks_from, later_on, there_still, fit_first, rest_of, right_file}}}
 use Rattle.grep_session.proofs.found.put_columns.Goals as goal
 
 pub put_found_in-requires : goal.put_found_in-requires

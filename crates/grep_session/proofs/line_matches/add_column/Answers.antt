@@ -1,11 +1,5 @@
-use Rattle.grep_session.proofs.Prelude.{Change, Steps, List, KeptLine, false, false≢true, had_gone, is_sought, marked_cost, ℕ, true, [], get_or, ◌≡◌, ◌+◌, ◌<◌, ◌≤◌, length, map, Some, sym, ap, ◌∙◌, arith, refl, length-map, Matches, Text, terminated, AddsAtMost, line_text, IsNextLine, next_line_cost, matched_expression, wants_whole, subst}
+use Rattle.{grep_session.proofs.{Prelude.{Change, Steps, List, KeptLine, false, false≢true, had_gone, is_sought, marked_cost, ℕ, true, [], get_or, ◌≡◌, ◌+◌, ◌<◌, ◌≤◌, length, map, Some, sym, ap, ◌∙◌, arith, refl, length-map, Matches, Text, terminated, AddsAtMost, line_text, IsNextLine, next_line_cost, matched_expression, wants_whole, subst}, lemmas.{ColumnLoops.{column_none, column_next, column_done, column_of}, MarkedLemmas.all_marked, NextLineLemmas.{none_from, next_there, place_fits, bytes_up_to, bytes_within, bytes_rest}}, line_matches.add_column.Goals.{After-narrow_column, After-number_at-k}}, re_search.proofs.lemmas.SameLaws.same_twice, re_runs.proofs.lemmas.NextLines.block_lines, re_meter.proofs.lemmas.Adding.{adds_both, adds_within, adds_none}}
 use Rattle.grep_session.proofs.line_matches.add_column.Goals as goal
-use Rattle.re_search.proofs.lemmas.SameLaws.{same_twice}
-use Rattle.re_runs.proofs.lemmas.NextLines.{block_lines}
-use Rattle.re_meter.proofs.lemmas.Adding.{adds_both, adds_within, adds_none}
-use Rattle.grep_session.proofs.lemmas.{ColumnLoops.column_none, ColumnLoops.column_next, ColumnLoops.column_done, ColumnLoops.column_of, MarkedLemmas.all_marked}
-use Rattle.grep_session.proofs.lemmas.NextLineLemmas.{none_from, next_there, place_fits, bytes_up_to, bytes_within, bytes_rest}
-use Rattle.grep_session.proofs.line_matches.add_column.Goals.{After-narrow_column, After-number_at-k}
 
 -- the next line that is matched, and its bytes
 found : (c : After-number_at-k) → let texts = map line_text c.args.chunk.now in IsNextLine (matched_expression c.loop-from.matcher) (wants_whole c.loop-from.matcher) texts c.loop-from.from (Some c.number_at-k.result) × (c.in-Some.at.end + 1 ≡ next_line_cost texts c.loop-from.from (Some c.number_at-k.result))

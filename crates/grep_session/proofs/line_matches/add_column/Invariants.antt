@@ -1,5 +1,4 @@
-use Rattle.grep_session.proofs.Prelude.{true, ◌-◌, ◌≤◌, length, map, take, terminated, AddsAtMost, line_text, matched_expression, wants_whole, IsSame}
-use Rattle.grep_session.proofs.lemmas.ColumnLoops.{ColumnSoFar}
+use Rattle.grep_session.proofs.{Prelude.{true, ◌-◌, ◌≤◌, length, map, take, terminated, AddsAtMost, line_text, matched_expression, wants_whole, IsSame}, lemmas.ColumnLoops.ColumnSoFar}
 use Rattle.grep_session.proofs.line_matches.add_column.Given as goal
 
 -- the lines before `from` were searched

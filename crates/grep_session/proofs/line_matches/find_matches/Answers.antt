@@ -1,9 +1,4 @@
-use Rattle.grep_session.proofs.Prelude.{◌≡◌, ◌+◌, ◌-◌, ◌<◌, length, map, take, sym, ◌∙◌, length-take, arith, length-map, drop_all, line_text, is_sought, marked_cost, matched_expression, wants_whole}
-use Rattle.re_search.proofs.lemmas.KeptMatchers.{none_asked, one_kept}
-use Rattle.re_search.proofs.lemmas.OneMatcherMore.{one_more, value_at, within}
-use Rattle.re_meter.proofs.lemmas.Adding.{adds_none}
-use Rattle.grep_core.proofs.lemmas.CostLaws.{adds_for_more, adds_once_more}
-use Rattle.grep_session.proofs.lemmas.ColumnLoops.{columns_none, columns_next}
+use Rattle.{grep_session.proofs.{Prelude.{◌≡◌, ◌+◌, ◌-◌, ◌<◌, length, map, take, sym, ◌∙◌, length-take, arith, length-map, drop_all, line_text, is_sought, marked_cost, matched_expression, wants_whole}, lemmas.ColumnLoops.{columns_none, columns_next}}, re_search.proofs.lemmas.{KeptMatchers.{none_asked, one_kept}, OneMatcherMore.{one_more, value_at, within}}, re_meter.proofs.lemmas.Adding.adds_none, grep_core.proofs.lemmas.CostLaws.{adds_for_more, adds_once_more}}
 use Rattle.grep_session.proofs.line_matches.find_matches.Goals as goal
 
 pub loop-number-init : goal.loop-number-init

@@ -1,11 +1,5 @@
-use Rattle.grep_session.proofs.Prelude.{◌≡◌, ◌+◌, ◌<◌, ◌↔◌, true, false, IsTrue, [], length, map, get_or, get_or_default, nil_from_length, refl, sym, ◌∙◌, arith, length-map, false≢true, Some, Matches, AddsAtMost, IsNextLine, had_gone, marked_cost, line_text, no_line, matched_expression, wants_whole}
-use Rattle.std.proofs.Math.ListN.{get_or-map}
-use Rattle.re_search.proofs.lemmas.SameLaws.{same_twice}
-use Rattle.re_meter.proofs.lemmas.Adding.{adds_none}
-use Rattle.grep_session.proofs.lemmas.ColumnLoops.{column_done, column_next, column_none, column_pass}
-use Rattle.grep_session.proofs.lemmas.MarkedLemmas.{marked_front, searched_next}
+use Rattle.{grep_session.proofs.{Prelude.{◌≡◌, ◌+◌, ◌<◌, ◌↔◌, true, false, IsTrue, [], length, map, get_or, get_or_default, nil_from_length, refl, sym, ◌∙◌, arith, length-map, false≢true, Some, Matches, AddsAtMost, IsNextLine, had_gone, marked_cost, line_text, no_line, matched_expression, wants_whole}, lemmas.{ColumnLoops.{column_done, column_next, column_none, column_pass}, MarkedLemmas.{marked_front, searched_next}}, line_matches.narrow_column.Goals.{After-index, After-is_match}}, std.proofs.Math.ListN.get_or-map, re_search.proofs.lemmas.SameLaws.same_twice, re_meter.proofs.lemmas.Adding.adds_none}
 use Rattle.grep_session.proofs.line_matches.narrow_column.Goals as goal
-use Rattle.grep_session.proofs.line_matches.narrow_column.Goals.{After-index, After-is_match}
 
 pub returns-in_err-marks-clause-steps : goal.returns-in_err-marks-clause-steps
 returns-in_err-marks-clause-steps c = adds_none _ _ _

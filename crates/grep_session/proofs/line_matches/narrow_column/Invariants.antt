@@ -1,5 +1,4 @@
-use Rattle.grep_session.proofs.Prelude.{◌≤◌, length, map, line_text, AddsAtMost, had_gone, marked_cost, matched_expression, wants_whole, IsSame}
-use Rattle.grep_session.proofs.lemmas.ColumnLoops.{ColumnSoFar}
+use Rattle.grep_session.proofs.{Prelude.{◌≤◌, length, map, line_text, AddsAtMost, had_gone, marked_cost, matched_expression, wants_whole, IsSame}, lemmas.ColumnLoops.ColumnSoFar}
 use Rattle.grep_session.proofs.line_matches.narrow_column.Given as goal
 
 -- the lines before `k` were searched

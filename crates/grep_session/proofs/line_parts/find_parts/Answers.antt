@@ -1,9 +1,5 @@
-use Rattle.grep_session.proofs.Prelude.{ArePartsAgain, ◌≡◌, ◌+◌, ◌<◌, ◌||◌, false, length, map, get_or, ap, ◌∙◌, arith, get_or_default, line_text, no_line, is_paired, is_parted, numbers_at, parting, has_new_parts, marked_cost, AddsAtMost, matched_expression, ◌≤◌, has_own}
+use Rattle.{grep_session.proofs.{Prelude.{ArePartsAgain, ◌≡◌, ◌+◌, ◌<◌, ◌||◌, false, length, map, get_or, ap, ◌∙◌, arith, get_or_default, line_text, no_line, is_paired, is_parted, numbers_at, parting, has_new_parts, marked_cost, AddsAtMost, matched_expression, ◌≤◌, has_own}, lemmas.{MarkedLemmas.{marked_front, marked_next}, PartingLemmas.{line_cost, parts_by, parts_next}}, line_parts.find_parts.Goals.After-put_parts}, re_meter.proofs.lemmas.Adding.adds_none, re_search.proofs.lemmas.KeptMatchers.{none_asked, same_over}}
 use Rattle.grep_session.proofs.line_parts.find_parts.Goals as goal
-use Rattle.re_meter.proofs.lemmas.Adding.{adds_none}
-use Rattle.re_search.proofs.lemmas.KeptMatchers.{none_asked, same_over}
-use Rattle.grep_session.proofs.{lemmas.MarkedLemmas.marked_front, lemmas.MarkedLemmas.marked_next, line_parts.find_parts.Goals.After-put_parts}
-use Rattle.grep_session.proofs.lemmas.PartingLemmas.{line_cost, parts_by, parts_next}
 
 pub returns-in_err-matched-clause-steps : goal.returns-in_err-matched-clause-steps
 returns-in_err-matched-clause-steps c = adds_none _ _ _

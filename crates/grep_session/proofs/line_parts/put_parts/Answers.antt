@@ -1,5 +1,4 @@
-use Rattle.re_meter.proofs.lemmas.Adding.{adds_none}
-use Rattle.grep_session.proofs.lemmas.PartingLemmas.{costs_search}
+use Rattle.{re_meter.proofs.lemmas.Adding.adds_none, grep_session.proofs.lemmas.PartingLemmas.costs_search}
 use Rattle.grep_session.proofs.line_parts.put_parts.Goals as goal
 
 pub returns-in_err-spans-clause-steps : goal.returns-in_err-spans-clause-steps

@@ -1,6 +1,4 @@
-use Rattle.grep_session.proofs.Prelude.{List, [], ◌∷◌, if◌then◌else◌, Text, group_separator, row_by}
-use Rattle.grep_core.proofs.lemmas.WrittenLemmas.{writes_one_line}
-use Rattle.grep_session.proofs.lemmas.Writing.{stops_before, writes_after, writes_err}
+use Rattle.{grep_session.proofs.{Prelude.{List, [], ◌∷◌, if◌then◌else◌, Text, group_separator, row_by}, lemmas.Writing.{stops_before, writes_after, writes_err}}, grep_core.proofs.lemmas.WrittenLemmas.writes_one_line}
 use Rattle.grep_session.proofs.lines.write_around.Goals as goal
 
 pub returns-in_err-write_separator : goal.returns-in_err-write_separator

@@ -1,7 +1,4 @@
-use Rattle.grep_session.proofs.Prelude.{◌<◌, [], length, get_or, arith, sym, ◌∙◌, length-map, all_of, line_text, no_line, ◌≡◌, map}
-use Rattle.std.proofs.lemmas.List.{get_or-map}
-use Rattle.grep_session.proofs.lemmas.GroupsWritten.{groups_none}
-use Rattle.grep_session.proofs.lemmas.PlaceLemmas.{none_due, shown_none, shown_on, shown_stops, shown_all}
+use Rattle.{grep_session.proofs.{Prelude.{◌<◌, [], length, get_or, arith, sym, ◌∙◌, length-map, all_of, line_text, no_line, ◌≡◌, map}, lemmas.{GroupsWritten.groups_none, PlaceLemmas.{none_due, shown_none, shown_on, shown_stops, shown_all}}}, std.proofs.lemmas.List.get_or-map}
 use Rattle.grep_session.proofs.lines.write_lines.Goals as goal
 
 pub returns-in_default : goal.returns-in_default

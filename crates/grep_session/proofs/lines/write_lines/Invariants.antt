@@ -1,5 +1,4 @@
-use Rattle.grep_session.proofs.Prelude.{◌-◌, ◌≤◌, List, All, length, map, Expression, all_of, line_text, IsKept, SelectedFrom}
-use Rattle.grep_session.proofs.lemmas.PlaceLemmas.{ShownTo}
+use Rattle.grep_session.proofs.{Prelude.{◌-◌, ◌≤◌, List, All, length, map, Expression, all_of, line_text, IsKept, SelectedFrom}, lemmas.PlaceLemmas.ShownTo}
 use Rattle.grep_session.proofs.lines.write_lines.Given as goal
 
 -- the rows of the lines before the next shown one were written

@@ -1,5 +1,4 @@
-use Rattle.grep_session.proofs.Prelude.{true, slice_range, Span, row_by}
-use Rattle.grep_session.proofs.lemmas.Writing.{row_on, row_stops, writes_err}
+use Rattle.grep_session.proofs.{Prelude.{true, slice_range, Span, row_by}, lemmas.Writing.{row_on, row_stops, writes_err}}
 use Rattle.grep_session.proofs.lines.write_parts.Goals as goal
 
 pub returns-in_err-write_part : goal.returns-in_err-write_part

@@ -1,5 +1,4 @@
-use Rattle.grep_session.proofs.Prelude.{drop, part_rows}
-use Rattle.grep_session.proofs.lemmas.Writing.{WrittenUpTo}
+use Rattle.grep_session.proofs.{Prelude.{drop, part_rows}, lemmas.Writing.WrittenUpTo}
 use Rattle.grep_session.proofs.lines.write_parts.Given as goal
 
 -- the parts up to here were written

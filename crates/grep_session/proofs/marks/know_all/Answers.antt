@@ -1,6 +1,5 @@
-use Rattle.grep_session.proofs.Prelude.{length, arith, ap, ◌∙◌, Marked, whole_mark}
+use Rattle.grep_session.proofs.{Prelude.{length, arith, ap, ◌∙◌, Marked, whole_mark}, lemmas.{AddingLemmas.all_back, LostLemmas.{mapped_all, mapped_next}}}
 use Rattle.grep_session.proofs.marks.know_all.Goals as goal
-use Rattle.grep_session.proofs.lemmas.{AddingLemmas.all_back, LostLemmas.mapped_all, LostLemmas.mapped_next}
 
 pub loop-mark-preserved : goal.loop-mark-preserved
 loop-mark-preserved c = mapped_next (λ (mark : Marked). whole_mark mark.lines) _ _ _ _ _ c.loop-mark.invariant (omega (arith, ap length c.deref_mut-mark-items.ensures.value)) c.report.ensures

@@ -1,5 +1,4 @@
-use Rattle.grep_session.proofs.Prelude.{◌≡◌, Marked, whole_mark}
-use Rattle.grep_session.proofs.lemmas.LostLemmas.{mapped_to}
+use Rattle.grep_session.proofs.{Prelude.{◌≡◌, Marked, whole_mark}, lemmas.LostLemmas.mapped_to}
 use Rattle.grep_session.proofs.marks.know_all.Given as goal
 
 -- the first are whole, and the others are as they were

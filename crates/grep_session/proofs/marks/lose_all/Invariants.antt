@@ -1,5 +1,4 @@
-use Rattle.grep_session.proofs.Prelude.{◌≡◌, lost}
-use Rattle.grep_session.proofs.lemmas.LostLemmas.{mapped_to}
+use Rattle.grep_session.proofs.{Prelude.{◌≡◌, lost}, lemmas.LostLemmas.mapped_to}
 use Rattle.grep_session.proofs.marks.lose_all.Given as goal
 
 -- the first are lost, and the others are as they were

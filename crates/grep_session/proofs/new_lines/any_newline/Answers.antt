@@ -1,5 +1,4 @@
-use Rattle.grep_session.proofs.Prelude.{arith, take_all, All-map, HasNoNewline, All, ◌≡◌, take, subst}
-use Rattle.grep_session.proofs.lemmas.SessionLemmas.{fails_at, All-next}
+use Rattle.grep_session.proofs.{Prelude.{arith, take_all, All-map, HasNoNewline, All, ◌≡◌, take, subst}, lemmas.SessionLemmas.{fails_at, All-next}}
 use Rattle.grep_session.proofs.new_lines.any_newline.Goals as goal
 
 pub returns-then-has_newline : goal.returns-then-has_newline

@@ -1,7 +1,5 @@
-use Rattle.grep_session.proofs.Prelude.{[], ◌∷◌, refl}
+use Rattle.{grep_session.proofs.{Prelude.{[], ◌∷◌, refl}, lemmas.{ReadingLemmas.reported_refused, RoomLemmas.{keep_none, keep_one}}}, grep_core.proofs.lemmas.MatcherLemmas.{AreMatchers-none, AreMatchers-push, refused_or_memory}}
 use Rattle.grep_session.proofs.pattern_matchers.read_matcher.Goals as goal
-use Rattle.grep_core.proofs.lemmas.MatcherLemmas.{AreMatchers-none, AreMatchers-push, refused_or_memory}
-use Rattle.grep_session.proofs.lemmas.{ReadingLemmas.reported_refused, RoomLemmas.keep_none, RoomLemmas.keep_one}
 
 pub returns-in-Ok-clause-ok : goal.returns-in-Ok-clause-ok
 returns-in-Ok-clause-ok c =

@@ -1,7 +1,5 @@
-use Rattle.grep_session.proofs.Prelude.{◌≡◌, length, refl, sym, ◌∙◌, take_all, arith, map, take, subst, AreMatchers}
+use Rattle.{grep_session.proofs.{Prelude.{◌≡◌, length, refl, sym, ◌∙◌, take_all, arith, map, take, subst, AreMatchers}, lemmas.{ColumnLemmas.{map_next, map_with_parts}, ReadingLemmas.reported_refused, RoomLemmas.{keep_none, keep_one}}}, grep_core.proofs.lemmas.MatcherLemmas.{refused_or_memory, AreMatchers-push, AreMatchers-none}}
 use Rattle.grep_session.proofs.pattern_matchers.read_matchers.Goals as goal
-use Rattle.grep_session.proofs.lemmas.{ColumnLemmas.map_next, ColumnLemmas.map_with_parts, ReadingLemmas.reported_refused, RoomLemmas.keep_none, RoomLemmas.keep_one}
-use Rattle.grep_core.proofs.lemmas.MatcherLemmas.{refused_or_memory, AreMatchers-push, AreMatchers-none}
 
 pub loop-text-init : goal.loop-text-init
 loop-text-init c = record {

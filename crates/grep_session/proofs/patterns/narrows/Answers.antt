@@ -1,5 +1,4 @@
-use Rattle.grep_session.proofs.Prelude.{◌≡◌, sym, ◌∙◌, [], eqb-false}
-use Rattle.grep_session.proofs.lemmas.NarrowingLemmas.{finds_inside, narrows_if}
+use Rattle.grep_session.proofs.{Prelude.{◌≡◌, sym, ◌∙◌, [], eqb-false}, lemmas.NarrowingLemmas.{finds_inside, narrows_if}}
 use Rattle.grep_session.proofs.patterns.narrows.Goals as goal
 
 pub returns : goal.returns

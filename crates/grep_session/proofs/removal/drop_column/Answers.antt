@@ -1,6 +1,5 @@
-use Rattle.grep_session.proofs.Prelude.{◌≡◌, ◌<◌, length, arith, map, ap, ◌∙◌, add-one, map-set_same, AllWithin-more_set, AllWithin-from_all, All-from_all_within, remove, IsFileKept, kept_file}
+use Rattle.grep_session.proofs.{Prelude.{◌≡◌, ◌<◌, length, arith, map, ap, ◌∙◌, add-one, map-set_same, AllWithin-more_set, AllWithin-from_all, All-from_all_within, remove, IsFileKept, kept_file}, lemmas.{AddingLemmas.all_back, DroppingLemmas.after_set}}
 use Rattle.grep_session.proofs.removal.drop_column.Goals as goal
-use Rattle.grep_session.proofs.lemmas.{AddingLemmas.all_back, DroppingLemmas.after_set}
 
 pub loop-file-init : goal.loop-file-init
 loop-file-init c = record {

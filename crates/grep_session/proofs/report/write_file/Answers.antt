@@ -1,6 +1,5 @@
-use Rattle.grep_session.proofs.Prelude.{Ok, refl, ap, all_of, option_map}
+use Rattle.grep_session.proofs.{Prelude.{Ok, refl, ap, all_of, option_map}, lemmas.{FileLemmas.{file_missing, file_written, file_stopped}, GroupsWritten.Reporting, Writing.{if_ok, writes_err}}}
 use Rattle.grep_session.proofs.report.write_file.Goals as goal
-use Rattle.grep_session.proofs.lemmas.{FileLemmas.file_missing, FileLemmas.file_written, FileLemmas.file_stopped, GroupsWritten.Reporting, Writing.if_ok, Writing.writes_err}
 
 pub returns-in_default : goal.returns-in_default
 returns-in_default g c = λ es kept.

@@ -1,5 +1,4 @@
-use Rattle.grep_session.proofs.Prelude.{arith, IsFileKept, ◌&&◌, ap, sym, subst, ◌∙◌}
-use Rattle.grep_session.proofs.lemmas.FileLemmas.{messages_none, messages_on, messages_last, messages_stop, messages_all}
+use Rattle.grep_session.proofs.{Prelude.{arith, IsFileKept, ◌&&◌, ap, sym, subst, ◌∙◌}, lemmas.FileLemmas.{messages_none, messages_on, messages_last, messages_stop, messages_all}}
 use Rattle.grep_session.proofs.report.write_messages.Goals as goal
 
 pub loop-file-init : goal.loop-file-init

@@ -1,5 +1,4 @@
-use Rattle.grep_session.proofs.Prelude.{List, All, false, Expression, IsFileKept}
-use Rattle.grep_session.proofs.lemmas.FileLemmas.{MessagesTo}
+use Rattle.grep_session.proofs.{Prelude.{List, All, false, Expression, IsFileKept}, lemmas.FileLemmas.MessagesTo}
 use Rattle.grep_session.proofs.report.write_messages.Given as goal
 
 -- the messages on the files up to here were written

@@ -1,6 +1,5 @@
-use Rattle.grep_session.proofs.Prelude.{arith, refl, IsFileKept, sym, subst}
+use Rattle.grep_session.proofs.{Prelude.{arith, refl, IsFileKept, sym, subst}, lemmas.{KeptLaws.kept_status, FileLemmas.{files_none, files_on, files_all, files_stop}}}
 use Rattle.grep_session.proofs.report.write_report.Goals as goal
-use Rattle.grep_session.proofs.lemmas.{KeptLaws.kept_status, FileLemmas.files_none, FileLemmas.files_on, FileLemmas.files_all, FileLemmas.files_stop}
 
 pub loop-file-init : goal.loop-file-init
 loop-file-init g c = λ es kept. files_none _ c.args.files.now c.args.out.now

@@ -1,5 +1,4 @@
-use Rattle.grep_session.proofs.Prelude.{List, All, Expression, IsFileKept}
-use Rattle.grep_session.proofs.lemmas.FileLemmas.{FilesTo}
+use Rattle.grep_session.proofs.{Prelude.{List, All, Expression, IsFileKept}, lemmas.FileLemmas.FilesTo}
 use Rattle.grep_session.proofs.report.write_report.Given as goal
 
 -- the output for the files up to here was written

@@ -1,9 +1,5 @@
-use Rattle.grep_session.proofs.Prelude.{length, map, arith, sym, length-map, matched_expression, wants_whole}
+use Rattle.{grep_session.proofs.{Prelude.{length, map, arith, sym, length-map, matched_expression, wants_whole}, lemmas.FindingLemmas.{asked_cost, spans_none, spans_next, spans_done}}, re_meter.proofs.lemmas.Adding.adds_none, re_search.proofs.lemmas.{KeptMatchers.{none_asked, same_over}, LinePartsLaws.all_parts}, grep_core.proofs.lemmas.CostLaws.same_length}
 use Rattle.grep_session.proofs.search.parts_of.Goals as goal
-use Rattle.re_meter.proofs.lemmas.Adding.{adds_none}
-use Rattle.re_search.proofs.lemmas.{KeptMatchers.none_asked, KeptMatchers.same_over, LinePartsLaws.all_parts}
-use Rattle.grep_core.proofs.lemmas.CostLaws.{same_length}
-use Rattle.grep_session.proofs.lemmas.FindingLemmas.{asked_cost, spans_none, spans_next, spans_done}
 
 pub loop-part-init : goal.loop-part-init
 loop-part-init c = record {

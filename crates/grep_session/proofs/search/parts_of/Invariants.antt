@@ -1,5 +1,4 @@
-use Rattle.grep_session.proofs.Prelude.{◌-◌, ◌*◌, ◌≤◌, map, length, AddsAtMost, ArePartsOf, AreSame, spent, matched_expression}
-use Rattle.grep_session.proofs.lemmas.FindingLemmas.{SpansSoFar}
+use Rattle.grep_session.proofs.{Prelude.{◌-◌, ◌*◌, ◌≤◌, map, length, AddsAtMost, ArePartsOf, AreSame, spent, matched_expression}, lemmas.FindingLemmas.SpansSoFar}
 use Rattle.grep_session.proofs.search.parts_of.Given as goal
 
 -- the parts up to here are known

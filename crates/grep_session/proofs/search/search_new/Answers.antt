@@ -1,7 +1,5 @@
-use Rattle.grep_session.proofs.Prelude.{false, ◌≡◌, nil_from_length, length-map, [], length, map, ap, ◌∙◌, arith, into_iter_items, matched_expression, all_of, line_text, with_columns, anew, SearchesEach, IsKept}
+use Rattle.grep_session.proofs.{Prelude.{false, ◌≡◌, nil_from_length, length-map, [], length, map, ap, ◌∙◌, arith, into_iter_items, matched_expression, all_of, line_text, with_columns, anew, SearchesEach, IsKept}, lemmas.{FoundLemmas.{fit_all, right_all, texts_with_columns, all_by_chunk}, ChangeLemmas.{all_anew, new_kept}, StepLemmas.not_searched}, search.search_new.Goals.{After-anew, After-find_in_lines}}
 use Rattle.grep_session.proofs.search.search_new.Goals as goal
-use Rattle.grep_session.proofs.lemmas.{FoundLemmas.fit_all, FoundLemmas.right_all, FoundLemmas.texts_with_columns, FoundLemmas.all_by_chunk, ChangeLemmas.all_anew, ChangeLemmas.new_kept, StepLemmas.not_searched}
-use Rattle.grep_session.proofs.search.search_new.Goals.{After-anew, After-find_in_lines}
 
 pub returns-then-len-eq0-clause-steps : goal.returns-then-len-eq0-clause-steps
 returns-then-len-eq0-clause-steps c = not_searched _ _ _ _ _ _ _

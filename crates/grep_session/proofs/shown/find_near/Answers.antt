@@ -1,5 +1,4 @@
-use Rattle.grep_session.proofs.Prelude.{arith}
-use Rattle.grep_session.proofs.lemmas.NearLemmas.{selected_on}
+use Rattle.grep_session.proofs.{Prelude.arith, lemmas.NearLemmas.selected_on}
 use Rattle.grep_session.proofs.shown.find_near.Goals as goal
 
 pub returns : goal.returns

@@ -1,5 +1,4 @@
-use Rattle.grep_session.proofs.Prelude.{inl, inr, arith, refl}
-use Rattle.grep_session.proofs.lemmas.NearLemmas.{shown_next}
+use Rattle.grep_session.proofs.{Prelude.{inl, inr, arith, refl}, lemmas.NearLemmas.shown_next}
 use Rattle.grep_session.proofs.shown.next_shown.Goals as goal
 
 pub returns-then-near-len-clause-shown : goal.returns-then-near-len-clause-shown

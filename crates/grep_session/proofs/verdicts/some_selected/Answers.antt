@@ -1,5 +1,4 @@
-use Rattle.grep_session.proofs.Prelude.{◌∙◌, nat_lt, all_of}
-use Rattle.grep_session.proofs.lemmas.CountLaws.{some_matched, some_not_matched}
+use Rattle.grep_session.proofs.{Prelude.{◌∙◌, nat_lt, all_of}, lemmas.CountLaws.{some_matched, some_not_matched}}
 use Rattle.grep_session.proofs.verdicts.some_selected.Goals as goal
 
 pub returns-then-options : goal.returns-then-options

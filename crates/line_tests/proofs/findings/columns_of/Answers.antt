@@ -1,7 +1,4 @@
-use Rattle.std.proofs.Common.{◌∙◌, ◌+◌, [], ◌∷◌, length, take, ap, sym, subst, arith, length-append}
-use Rattle.std.specs.Prelude.{Some}
-use Rattle.line_chunks.specs.Working.Chunks.{FitColumns}
-use Rattle.line_tests.proofs.Fitting.{fits_more}
+use Rattle.{std.{proofs.Common.{◌∙◌, ◌+◌, [], ◌∷◌, length, take, ap, sym, subst, arith, length-append}, specs.Prelude.Some}, line_chunks.specs.Working.Chunks.FitColumns, line_tests.proofs.Fitting.fits_more}
 use Rattle.line_tests.proofs.findings.columns_of.Goals as goal
 
 pub loop-i-preserved : goal.loop-i-preserved

@@ -1,5 +1,4 @@
-use Rattle.std.proofs.Common.{◌≡◌, length, take}
-use Rattle.line_chunks.specs.Working.Chunks.{FitColumns}
+use Rattle.{std.proofs.Common.{◌≡◌, length, take}, line_chunks.specs.Working.Chunks.FitColumns}
 use Rattle.line_tests.proofs.findings.columns_of.Given as goal
 
 abbrev pub invariant-loop-i : goal.invariant-loop-i

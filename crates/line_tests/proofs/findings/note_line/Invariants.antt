@@ -1,5 +1,4 @@
-use Rattle.std.proofs.Common.{◌+◌}
-use Rattle.line_chunks.specs.Working.Finds.{AreBelow}
+use Rattle.{std.proofs.Common.◌+◌, line_chunks.specs.Working.Finds.AreBelow}
 use Rattle.line_tests.proofs.findings.note_line.Given as goal
 
 abbrev pub invariant-loop-p : goal.invariant-loop-p

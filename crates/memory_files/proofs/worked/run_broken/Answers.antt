@@ -1,5 +1,4 @@
-use Rattle.memory_files.proofs.Prelude.{◌≡◌, true, List, [], ap, subst, codes, Option, Some, inl, Text, Returns, writer, HasReturned, folder_of, returned_by, broken_text}
-use Rattle.grep_utility.proofs.lemmas.BrokenLemmas.{broken_given}
+use Rattle.{memory_files.proofs.Prelude.{◌≡◌, true, List, [], ap, subst, codes, Option, Some, inl, Text, Returns, writer, HasReturned, folder_of, returned_by, broken_text}, grep_utility.proofs.lemmas.BrokenLemmas.broken_given}
 use Rattle.memory_files.proofs.worked.run_broken.Goals as goal
 
 pub returns : goal.returns

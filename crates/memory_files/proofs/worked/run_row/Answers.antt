@@ -1,5 +1,4 @@
-use Rattle.memory_files.proofs.Prelude.{◌≡◌, true, false, ◌∙◌, ap, codes, Some, Returns, writer, folder_of, bytes_of, returned_by, row_text}
-use Rattle.grep_utility.proofs.lemmas.WorkedLemmas.{row_given}
+use Rattle.{memory_files.proofs.Prelude.{◌≡◌, true, false, ◌∙◌, ap, codes, Some, Returns, writer, folder_of, bytes_of, returned_by, row_text}, grep_utility.proofs.lemmas.WorkedLemmas.row_given}
 use Rattle.memory_files.proofs.worked.run_row.Goals as goal
 
 pub returns : goal.returns

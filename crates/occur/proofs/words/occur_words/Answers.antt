@@ -1,5 +1,4 @@
-use Rattle.occur.proofs.Prelude.{texts_of}
-use Rattle.occur.proofs.lemmas.FormsLemmas.{reads_form, reads_help, reads_version}
+use Rattle.occur.proofs.{Prelude.texts_of, lemmas.FormsLemmas.{reads_form, reads_help, reads_version}}
 use Rattle.occur.proofs.words.occur_words.Goals as goal
 
 pub returns-clause-forms : goal.returns-clause-forms

@@ -1,6 +1,4 @@
-use Rattle.occur.proofs.Prelude.{◌∙◌, ap, sym, is_simple_and_free, texts_of}
-use Rattle.clap.specs.Words.{fault_of}
-use Rattle.occur.proofs.lemmas.StatesLemmas.{states_found}
+use Rattle.{occur.proofs.{Prelude.{◌∙◌, ap, sym, is_simple_and_free, texts_of}, lemmas.StatesLemmas.states_found}, clap.specs.Words.fault_of}
 use Rattle.occur.proofs.words.parse_words.Goals as goal
 
 pub request_of-requires : goal.request_of-requires

@@ -1,7 +1,4 @@
-use Rattle.occur.proofs.Prelude.{rules, ◌∙◌, sym, codes, arith, ExplainsUnsignedError, HasUnsignedDigitsIfOk, ParsesUnsigned}
-use Rattle.clap.specs.Words.{found_of}
-use Rattle.clap.proofs.WalkLemmas.{first_value-rows, one_text-rows}
-use Rattle.occur.proofs.lemmas.StatesLemmas.{unsigned_reads}
+use Rattle.{occur.proofs.{Prelude.{rules, ◌∙◌, sym, codes, arith, ExplainsUnsignedError, HasUnsignedDigitsIfOk, ParsesUnsigned}, lemmas.StatesLemmas.unsigned_reads}, clap.{specs.Words.found_of, proofs.WalkLemmas.{first_value-rows, one_text-rows}}}
 use Rattle.occur.proofs.words.request_of.Goals as goal
 
 pub returns-clause-found : goal.returns-clause-found

@@ -1,7 +1,4 @@
-use Rattle.std.proofs.Common.{false, ◌≤◌, ◌-◌, length}
-use Rattle.re_search.specs.Working.Matchers.{AreAlike}
-use Rattle.re_search.specs.Working.Sought.{sought_of}
-use Rattle.re_search.specs.Working.LineParts.{ArePartsOf}
+use Rattle.{std.proofs.Common.{false, ◌≤◌, ◌-◌, length}, re_search.specs.Working.{Matchers.AreAlike, Sought.sought_of, LineParts.ArePartsOf}}
 use Rattle.re_tests.proofs.line_parts.count_parts.Given as goal
 
 -- what is known of the line is right

@@ -1,5 +1,4 @@
-use Rattle.script_commands.proofs.Prelude.{◌≡◌, true, false, codes, bytes_eq, [], option_map, IfOk, IfErr, rules, sym, ap, ◌∙◌, subst, command_of, line_command, file_command, missing_command, unnamed_command, AsksForMemory, meant}
-use Rattle.script_commands.proofs.lemmas.ScriptCommands.{command_none, command_file, command_missing, command_unnamed}
+use Rattle.script_commands.proofs.{Prelude.{◌≡◌, true, false, codes, bytes_eq, [], option_map, IfOk, IfErr, rules, sym, ap, ◌∙◌, subst, command_of, line_command, file_command, missing_command, unnamed_command, AsksForMemory, meant}, lemmas.ScriptCommands.{command_none, command_file, command_missing, command_unnamed}}
 use Rattle.script_commands.proofs.command.read_command.Goals as goal
 
 pub returns-in_default-clause-read : goal.returns-in_default-clause-read

@@ -1,5 +1,4 @@
-use Rattle.script_commands.proofs.Prelude.{◌≡◌, [], ◌∷◌, Some, None, rules, sym, ap, ◌∙◌, number_of, splice_command, four_words}
-use Rattle.script_commands.proofs.lemmas.ScriptCommands.{four_words-some, splice_some, splice_none}
+use Rattle.script_commands.proofs.{Prelude.{◌≡◌, [], ◌∷◌, Some, None, rules, sym, ap, ◌∙◌, number_of, splice_command, four_words}, lemmas.ScriptCommands.{four_words-some, splice_some, splice_none}}
 use Rattle.script_commands.proofs.command.read_splice.Goals as goal
 
 pub returns-in_err-read_number : goal.returns-in_err-read_number

@@ -1,5 +1,4 @@
-use Rattle.script_commands.proofs.Prelude.{◌≡◌, ◌<◌, [], ◌∷◌, ◌++◌, map, length, get_or, nat_eq, if◌then◌else◌, rules, arith, ◌∙◌, length-map, get_or-map, newline}
-use Rattle.script_commands.proofs.lemmas.JoinedLines.{joined-next-at}
+use Rattle.script_commands.proofs.{Prelude.{◌≡◌, ◌<◌, [], ◌∷◌, ◌++◌, map, length, get_or, nat_eq, if◌then◌else◌, rules, arith, ◌∙◌, length-map, get_or-map, newline}, lemmas.JoinedLines.joined-next-at}
 use Rattle.script_commands.proofs.pattern_list.join_lines.Goals as goal
 
 pub loop-at-preserved : goal.loop-at-preserved

@@ -1,5 +1,4 @@
-use Rattle.std.proofs.Common.{rules}
-use Rattle.grep.proofs.lemmas.CountLemmas.{count_more-sum}
+use Rattle.{std.proofs.Common.rules, grep.proofs.lemmas.CountLemmas.count_more-sum}
 use Rattle.grep.proofs.disk.DiskFilesFiles.close.Goals as goal
 
 pub returns-clause-counted : goal.returns-clause-counted

@@ -1,7 +1,4 @@
-use Rattle.grep_cmd.proofs.Prelude.{state_of, ◌≡◌, [], rules, subst, sym, ap, ◌∙◌, refl, arith, Err, HasNoNewline, IsOneLineAndFew, Numbered, ScriptState, Clean, Memory, GaveLines, ScriptGives, AnsweredSoFar, HasRead}
-use Rattle.grep_core.proofs.lemmas.NumberedLemmas.{has_handed_none}
-use Rattle.grep_cmd.proofs.lemmas.ScriptRuns.{so_far_none, so_far_accepted, so_far_refused, ends_here, next_fails, ends_truncated, answer_fails, grows, sends_after, gives_by_reader, runs_out_at_once}
-use Rattle.grep_cmd.proofs.script.Script.answer.Goals.{in-Ok-false, in-Err-next_line, in-Ok-true+in-Ok-Truncated, in-Ok-true+in-Err-answer_command}
+use Rattle.{grep_cmd.proofs.{Prelude.{state_of, ◌≡◌, [], rules, subst, sym, ap, ◌∙◌, refl, arith, Err, HasNoNewline, IsOneLineAndFew, Numbered, ScriptState, Clean, Memory, GaveLines, ScriptGives, AnsweredSoFar, HasRead}, lemmas.ScriptRuns.{so_far_none, so_far_accepted, so_far_refused, ends_here, next_fails, ends_truncated, answer_fails, grows, sends_after, gives_by_reader, runs_out_at_once}, script.Script.answer.Goals.{in-Ok-false, in-Err-next_line, in-Ok-true+in-Ok-Truncated, in-Ok-true+in-Err-answer_command}}, grep_core.proofs.lemmas.NumberedLemmas.has_handed_none}
 use Rattle.grep_cmd.proofs.script.Script.answer.Goals as goal
 
 none_in_nothing : HasNoNewline []

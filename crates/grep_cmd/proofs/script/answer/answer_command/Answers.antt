@@ -1,7 +1,4 @@
-use Rattle.grep_cmd.proofs.Prelude.{ap, append-nil, codes, counts, counted_meant, switches_text, sets_text, state_of, ◌≡◌, Some, None, Ok, Err, refl, sym, rules, [], ◌∷◌, reports, reports_changes, reports_page, tells_version, is_bad, edits, shows, lists_changes, lists_page, asks_version, line_command, bad_command, version_line, line_meant}
-use Rattle.grep_core.proofs.lemmas.RowLemmas.{goes_nowhere}
-use Rattle.grep_session.specs.declared.fault.EditFault.TheVariants.{Memory}
-use Rattle.grep_cmd.proofs.lemmas.ScriptAnswers.{answers_edit, answers_idle, answers_changes, does_alone, shown_is_no_refusal, changes_is_no_refusal, page_is_no_refusal}
+use Rattle.{grep_cmd.proofs.{Prelude.{ap, append-nil, codes, counts, counted_meant, switches_text, sets_text, state_of, ◌≡◌, Some, None, Ok, Err, refl, sym, rules, [], ◌∷◌, reports, reports_changes, reports_page, tells_version, is_bad, edits, shows, lists_changes, lists_page, asks_version, line_command, bad_command, version_line, line_meant}, lemmas.ScriptAnswers.{answers_edit, answers_idle, answers_changes, does_alone, shown_is_no_refusal, changes_is_no_refusal, page_is_no_refusal}}, grep_core.proofs.lemmas.RowLemmas.goes_nowhere, grep_session.specs.declared.fault.EditFault.TheVariants.Memory}
 use Rattle.grep_cmd.proofs.script.answer.answer_command.Goals as goal
 
 pub returns-in-Ok-Some-Edit-clause-answers : goal.returns-in-Ok-Some-Edit-clause-answers

@@ -1,5 +1,4 @@
-use Rattle.grep_cmd.proofs.Prelude.{state_of, ◌≡◌, refl, sym, ap, ◌∙◌, AddFile, Splice, does, file_meant, counted_meant}
-use Rattle.grep_cmd.proofs.lemmas.ScriptAnswers.{answers_edit, answers_truncated, answers_lost}
+use Rattle.grep_cmd.proofs.{Prelude.{state_of, ◌≡◌, refl, sym, ap, ◌∙◌, AddFile, Splice, does, file_meant, counted_meant}, lemmas.ScriptAnswers.{answers_edit, answers_truncated, answers_lost}}
 use Rattle.grep_cmd.proofs.script.answer.answer_counted.Goals as goal
 
 pub returns-in-PutPatterns-clause-answers : goal.returns-in-PutPatterns-clause-answers

@@ -1,6 +1,4 @@
-use Rattle.grep_cmd.proofs.Prelude.{ap, state_of, ◌≤◌, length, map, refl, arith, counted_meant}
-use Rattle.script_commands.specs.declared.command.CountedEdit.TheVariants.{PutPatterns}
-use Rattle.grep_cmd.proofs.lemmas.ScriptAnswers.{answers_edit, answers_truncated, answers_lost}
+use Rattle.{grep_cmd.proofs.{Prelude.{ap, state_of, ◌≤◌, length, map, refl, arith, counted_meant}, lemmas.ScriptAnswers.{answers_edit, answers_truncated, answers_lost}}, script_commands.specs.declared.command.CountedEdit.TheVariants.PutPatterns}
 use Rattle.grep_cmd.proofs.script.answer.answer_patterns.Goals as goal
 
 pub returns-in-Ok-None-clause-answers : goal.returns-in-Ok-None-clause-answers

@@ -1,7 +1,4 @@
-use Rattle.grep_cmd.proofs.Prelude.{◌≡◌, ◌<◌, ◌≤◌, [], ◌∷◌, ◌++◌, length, rules, ap, ◌∙◌, arith, length_push}
-use Rattle.grep_core.proofs.lemmas.RowLemmas.{goes_on}
-use Rattle.grep_cmd.proofs.lemmas.FreeLines.{free_line}
-use Rattle.grep_cmd.proofs.lemmas.ScriptAnswers.{one_more_taken, takes_fewer}
+use Rattle.{grep_cmd.proofs.{Prelude.{◌≡◌, ◌<◌, ◌≤◌, [], ◌∷◌, ◌++◌, length, rules, ap, ◌∙◌, arith, length_push}, lemmas.{FreeLines.free_line, ScriptAnswers.{one_more_taken, takes_fewer}}}, grep_core.proofs.lemmas.RowLemmas.goes_on}
 use Rattle.grep_cmd.proofs.script.counted.take_lines.Goals as goal
 
 pub returns-in-Ok-false-clause-takes : goal.returns-in-Ok-false-clause-takes

@@ -1,6 +1,4 @@
-use Rattle.grep_cmd.proofs.Prelude.{◌≡◌, ◌<◌, ◌≤◌, [], ◌∷◌, ◌++◌, map, length, rules, ap, ◌∙◌, arith, length_push, length-map}
-use Rattle.grep_core.proofs.lemmas.RowLemmas.{goes_on}
-use Rattle.grep_cmd.proofs.lemmas.ScriptAnswers.{one_more_taken, takes_fewer}
+use Rattle.{grep_cmd.proofs.{Prelude.{◌≡◌, ◌<◌, ◌≤◌, [], ◌∷◌, ◌++◌, map, length, rules, ap, ◌∙◌, arith, length_push, length-map}, lemmas.ScriptAnswers.{one_more_taken, takes_fewer}}, grep_core.proofs.lemmas.RowLemmas.goes_on}
 use Rattle.grep_cmd.proofs.script.pattern_lines.take_texts.Goals as goal
 
 pub returns-in-Ok-false-clause-takes : goal.returns-in-Ok-false-clause-takes

@@ -1,5 +1,4 @@
-use Rattle.grep_core.proofs.lemmas.RowLemmas.{writes_no_more, writes_row}
-use Rattle.grep_core.proofs.lemmas.WrittenLemmas.{stops_in_margin}
+use Rattle.grep_core.proofs.lemmas.{RowLemmas.{writes_no_more, writes_row}, WrittenLemmas.stops_in_margin}
 use Rattle.grep_core.proofs.output.rows.write_row.Goals as goal
 
 pub returns : goal.returns

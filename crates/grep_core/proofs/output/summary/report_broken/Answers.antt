@@ -1,5 +1,4 @@
-use Rattle.grep_core.proofs.lemmas.RowLemmas.{writes_no_more}
-use Rattle.grep_core.proofs.lemmas.WrittenLemmas.{stops_in_margin, writes_after_margin}
+use Rattle.grep_core.proofs.lemmas.{RowLemmas.writes_no_more, WrittenLemmas.{stops_in_margin, writes_after_margin}}
 use Rattle.grep_core.proofs.output.summary.report_broken.Goals as goal
 
 pub returns : goal.returns

@@ -1,18 +1,6 @@
-use Rattle.grep_core.proofs.Prelude.{Decides, ◌≡◌, ◌+◌, ◌≤◌, ◌∙◌, [], ◌∷◌, ◌++◌, true, length, length-append, append_assoc, take, refl, sym, ap, arith, if◌then◌else◌, terminated, SearchesLines, Selected, writer, IsOneLineAndFew, LastLines, Text, Numbered, HasHanded, next_shown, last_of, expressions_of}
-use Rattle.re_search.proofs.lemmas.KeptMatchers.{none_asked, same_over, same_sought}
-use Rattle.grep_io.proofs.lemmas.WindowLemmas.{none_in_nothing, few_after}
-use Rattle.grep_core.proofs.lemmas.WaitingRows.{if_kept}
-use Rattle.grep_core.proofs.lemmas.CostLaws.{searched_bytes, searched_more_lines, searched_one_line, searched_once, unsearched_lines}
-use Rattle.grep_core.proofs.lemmas.PassedLines.{are_ahead, next_first, passed_state, handed_with, handed_passed}
-use Rattle.grep_core.proofs.lemmas.SearchedBlockLemmas.{asked_forward, asked_due, divided_kept, stretch_spent, unselected_before, selected_matched, plain_if, before_within, before_block, before_lines, before_counted, before_free}
-use Rattle.grep_core.proofs.lemmas.Verdicts.{decided_yes}
-use Rattle.grep_core.proofs.lemmas.WrittenLemmas.{TakesAll-written}
-use Rattle.grep_core.proofs.lemmas.AroundSearch.{FollowedOn, followed_none, followed_waiting, waiting_limit, followed_unkept, followed_sent, held_few, followed_line, followed_stops}
-use Rattle.grep_core.proofs.lemmas.LinesLemmas.{may_count, fewer_left, ends_as, stops_as}
-use Rattle.grep_core.proofs.lemmas.OneLineLemmas.{is_err}
+use Rattle.{grep_core.proofs.{Prelude.{Decides, ◌≡◌, ◌+◌, ◌≤◌, ◌∙◌, [], ◌∷◌, ◌++◌, true, length, length-append, append_assoc, take, refl, sym, ap, arith, if◌then◌else◌, terminated, SearchesLines, Selected, writer, IsOneLineAndFew, LastLines, Text, Numbered, HasHanded, next_shown, last_of, expressions_of}, lemmas.{WaitingRows.if_kept, CostLaws.{searched_bytes, searched_more_lines, searched_one_line, searched_once, unsearched_lines}, PassedLines.{are_ahead, next_first, passed_state, handed_with, handed_passed}, SearchedBlockLemmas.{asked_forward, asked_due, divided_kept, stretch_spent, unselected_before, selected_matched, plain_if, before_within, before_block, before_lines, before_counted, before_free}, Verdicts.decided_yes, WrittenLemmas.TakesAll-written, AroundSearch.{FollowedOn, followed_none, followed_waiting, waiting_limit, followed_unkept, followed_sent, held_few, followed_line, followed_stops}, LinesLemmas.{may_count, fewer_left, ends_as, stops_as}, OneLineLemmas.is_err}, search.around.search_around.Goals.{After-pass-in-lines, In-Some, In-Ok-None}}, re_search.proofs.lemmas.KeptMatchers.{none_asked, same_over, same_sought}, grep_io.proofs.lemmas.WindowLemmas.{none_in_nothing, few_after}}
 use Rattle.grep_core.proofs.search.around.search_around.Given as given
 use Rattle.grep_core.proofs.search.around.search_around.Goals as goal
-use Rattle.grep_core.proofs.search.around.search_around.Goals.{After-pass-in-lines, In-Some, In-Ok-None}
 
 -- a line that is held is selected, none of those before it is, and these were searched
 at_selected : (g : given.Over) (c : In-Some g)

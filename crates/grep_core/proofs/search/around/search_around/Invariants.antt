@@ -1,5 +1,4 @@
-use Rattle.grep_core.proofs.Prelude.{◌≡◌, ◌-◌, ◌^◌, AreSame, IsOneLineAndFew, writer, expressions_of}
-use Rattle.grep_core.proofs.lemmas.AroundSearch.{FollowedSoFar}
+use Rattle.grep_core.proofs.{Prelude.{◌≡◌, ◌-◌, ◌^◌, AreSame, IsOneLineAndFew, writer, expressions_of}, lemmas.AroundSearch.FollowedSoFar}
 use Rattle.grep_core.proofs.search.around.search_around.Given as goal
 
 -- what is shown of the lines that were handed out or passed was written

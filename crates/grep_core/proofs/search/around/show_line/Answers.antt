@@ -1,5 +1,4 @@
-use Rattle.grep_core.proofs.lemmas.WaitingRows.{breaks_shown}
-use Rattle.grep_core.proofs.lemmas.WrittenLemmas.{TakesFront-written}
+use Rattle.grep_core.proofs.lemmas.{WaitingRows.breaks_shown, WrittenLemmas.TakesFront-written}
 use Rattle.grep_core.proofs.search.around.show_line.Goals as goal
 
 pub returns-in_err-write_shown : goal.returns-in_err-write_shown

@@ -1,5 +1,4 @@
-use Rattle.grep_core.proofs.lemmas.OneLineLemmas.{is_err}
-use Rattle.grep_core.proofs.lemmas.WaitingRows.{holds_too, stops_between, stops_waiting, row_last}
+use Rattle.grep_core.proofs.lemmas.{OneLineLemmas.is_err, WaitingRows.{holds_too, stops_between, stops_waiting, row_last}}
 use Rattle.grep_core.proofs.search.around.write_shown.Goals as goal
 
 pub returns-in_err-write_separator : goal.returns-in_err-write_separator

@@ -1,7 +1,4 @@
-use Rattle.grep_core.proofs.Prelude.{take_all, ◌≡◌, ◌+◌, ◌-◌, ◌<◌, ◌≤◌, [], length, get_or, arith, ◌∙◌, ap, sym, hyphen, rows_around, row_with}
-use Rattle.grep_core.proofs.lemmas.RowLemmas.{goes_nowhere}
-use Rattle.grep_core.proofs.lemmas.OneLineLemmas.{is_err}
-use Rattle.grep_core.proofs.lemmas.WaitingRows.{length_rows, row_at, row_out, row_stops}
+use Rattle.grep_core.proofs.{Prelude.{take_all, ◌≡◌, ◌+◌, ◌-◌, ◌<◌, ◌≤◌, [], length, get_or, arith, ◌∙◌, ap, sym, hyphen, rows_around, row_with}, lemmas.{RowLemmas.goes_nowhere, OneLineLemmas.is_err, WaitingRows.{length_rows, row_at, row_out, row_stops}}}
 use Rattle.grep_core.proofs.search.around.write_waiting.Goals as goal
 
 pub loop-k-init : goal.loop-k-init

@@ -1,14 +1,6 @@
-use Rattle.grep_core.proofs.Prelude.{None, Ok, NextTaken, [], length, refl, arith, lines_of, sought_of, IsSought, writer, expressions_of}
-use Rattle.re_search.proofs.lemmas.KeptMatchers.{none_asked, same_over, still_alike}
-use Rattle.grep_core.proofs.lemmas.WrittenLemmas.{TakesAll-written}
-use Rattle.grep_core.proofs.lemmas.FileOutput.{rows_none}
-use Rattle.grep_core.proofs.lemmas.CostLaws.{searched_once}
-use Rattle.grep_core.proofs.lemmas.OneLineLemmas.{line_only_counted}
-use Rattle.grep_core.proofs.lemmas.CountedLines.{many_within}
-use Rattle.grep_core.proofs.lemmas.LinesLemmas.{SearchedOn, counts_plain, counts_late, written_plain, searched_none, searched_counted, counted_further, searched_sent, may_count, fewer_left, searched_line, ends_as, stops_as}
+use Rattle.{grep_core.proofs.{Prelude.{None, Ok, NextTaken, [], length, refl, arith, lines_of, sought_of, IsSought, writer, expressions_of}, lemmas.{WrittenLemmas.TakesAll-written, FileOutput.rows_none, CostLaws.searched_once, OneLineLemmas.line_only_counted, CountedLines.many_within, LinesLemmas.{SearchedOn, counts_plain, counts_late, written_plain, searched_none, searched_counted, counted_further, searched_sent, may_count, fewer_left, searched_line, ends_as, stops_as}}, search.count.count_lines.Goals.{After-saturating_add-selected, In-Ok-None}}, re_search.proofs.lemmas.KeptMatchers.{none_asked, same_over, still_alike}}
 use Rattle.grep_core.proofs.search.count.count_lines.Given as given
 use Rattle.grep_core.proofs.search.count.count_lines.Goals as goal
-use Rattle.grep_core.proofs.search.count.count_lines.Goals.{After-saturating_add-selected, In-Ok-None}
 
 -- the lines that are held and those before them were searched
 counted : (g : given.Over) (c : After-saturating_add-selected g) → SearchedOn c.lines.invariant.so_far c.pass.new.self (writer g.W.CountedWrite.contents g.W.CountedWrite.failures c.lines.out) c.count_matched-matched.new.meter c.saturating_add-selected.result

@@ -1,5 +1,4 @@
-use Rattle.grep_core.proofs.Prelude.{◌-◌, ◌^◌, false, AreSame, writer, expressions_of}
-use Rattle.grep_core.proofs.lemmas.LinesLemmas.{SearchedSoFar}
+use Rattle.grep_core.proofs.{Prelude.{◌-◌, ◌^◌, false, AreSame, writer, expressions_of}, lemmas.LinesLemmas.SearchedSoFar}
 use Rattle.grep_core.proofs.search.count.count_lines.Given as goal
 
 -- the lines that were handed out or passed were searched

@@ -1,5 +1,4 @@
-use Rattle.grep_core.proofs.Prelude.{◌∙◌, Err, refl, ap}
-use Rattle.grep_core.proofs.lemmas.WrittenLemmas.{TakesAll-written, TakesFront-written}
+use Rattle.grep_core.proofs.{Prelude.{◌∙◌, Err, refl, ap}, lemmas.WrittenLemmas.{TakesAll-written, TakesFront-written}}
 use Rattle.grep_core.proofs.search.file.end_source.Goals as goal
 
 pub returns-in-Err-Write : goal.returns-in-Err-Write

@@ -1,14 +1,6 @@
-use Rattle.grep_core.proofs.Prelude.{None, Ok, NextTaken, ◌∙◌, [], take, refl, sym, arith, writer}
-use Rattle.grep_io.proofs.lemmas.WindowLemmas.{none_in_nothing, few_after}
-use Rattle.re_search.proofs.lemmas.KeptMatchers.{none_asked, same_over, still_alike}
-use Rattle.grep_core.proofs.lemmas.WrittenLemmas.{TakesAll-written}
-use Rattle.grep_core.proofs.lemmas.FileOutput.{rows_none}
-use Rattle.grep_core.proofs.lemmas.PassedLines.{are_ahead, handed_with, handed_passed}
-use Rattle.grep_core.proofs.lemmas.LinesLemmas.{SearchedOn, written_plain, searched_none, searched_among, leaves_among, stops_in_lines, stops_at, is_next, numbers_further, numbers_on, searched_sent, may_count, fewer_left, searched_line, goes_on, goes_on_with, leaves_with, leaves_at, ends_as, stops_as}
-use Rattle.grep_core.proofs.lemmas.OneLineLemmas.{is_err}
+use Rattle.{grep_core.proofs.{Prelude.{None, Ok, NextTaken, ◌∙◌, [], take, refl, sym, arith, writer}, lemmas.{WrittenLemmas.TakesAll-written, FileOutput.rows_none, PassedLines.{are_ahead, handed_with, handed_passed}, LinesLemmas.{SearchedOn, written_plain, searched_none, searched_among, leaves_among, stops_in_lines, stops_at, is_next, numbers_further, numbers_on, searched_sent, may_count, fewer_left, searched_line, goes_on, goes_on_with, leaves_with, leaves_at, ends_as, stops_as}, OneLineLemmas.is_err}, search.file.search_lines.Goals.{Else-held-early, In-Ok-None}}, grep_io.proofs.lemmas.WindowLemmas.{none_in_nothing, few_after}, re_search.proofs.lemmas.KeptMatchers.{none_asked, same_over, still_alike}}
 use Rattle.grep_core.proofs.search.file.search_lines.Given as given
 use Rattle.grep_core.proofs.search.file.search_lines.Goals as goal
-use Rattle.grep_core.proofs.search.file.search_lines.Goals.{Else-held-early, In-Ok-None}
 
 -- the lines that are held and those before them were searched, and the search goes on
 among : (g : given.Over) (c : Else-held-early g) → SearchedOn c.lines.invariant.so_far c.pass.new.self (writer g.W.CountedWrite.contents g.W.CountedWrite.failures c.write_held.new.out) c.write_held.new.meter c.saturating_add-selected.result

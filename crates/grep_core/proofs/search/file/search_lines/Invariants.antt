@@ -1,5 +1,4 @@
-use Rattle.grep_core.proofs.Prelude.{◌≡◌, ◌-◌, ◌^◌, false, AreSame, writer, IsOneLineAndFew, leaves_early, expressions_of}
-use Rattle.grep_core.proofs.lemmas.LinesLemmas.{SearchedSoFar}
+use Rattle.grep_core.proofs.{Prelude.{◌≡◌, ◌-◌, ◌^◌, false, AreSame, writer, IsOneLineAndFew, leaves_early, expressions_of}, lemmas.LinesLemmas.SearchedSoFar}
 use Rattle.grep_core.proofs.search.file.search_lines.Given as goal
 
 -- the lines that were handed out or passed were searched

@@ -1,5 +1,4 @@
-use Rattle.grep_core.proofs.lemmas.LinesLemmas.{counts_plain}
-use Rattle.grep_core.proofs.lemmas.OpenedLemmas.{gives_anyway}
+use Rattle.grep_core.proofs.lemmas.{LinesLemmas.counts_plain, OpenedLemmas.gives_anyway}
 use Rattle.grep_core.proofs.search.file.search_opened.Goals as goal
 
 pub returns-then-only_counts-clause-given : goal.returns-then-only_counts-clause-given

@@ -1,7 +1,4 @@
-use Rattle.grep_core.proofs.Prelude.{◌+◌, [], Ok, refl, ap, ◌∙◌, Bor, Text, Numbered, Missing, writer, count_more, source_at}
-use Rattle.grep_core.proofs.lemmas.SourceLaws.{gives_both}
-use Rattle.grep_core.proofs.lemmas.OpenedLemmas.{source_missing, source_unread, given_in}
-use Rattle.grep_core.proofs.lemmas.SummaryLemmas.{source_ended_as}
+use Rattle.grep_core.proofs.{Prelude.{◌+◌, [], Ok, refl, ap, ◌∙◌, Bor, Text, Numbered, Missing, writer, count_more, source_at}, lemmas.{SourceLaws.gives_both, OpenedLemmas.{source_missing, source_unread, given_in}, SummaryLemmas.source_ended_as}}
 use Rattle.grep_core.proofs.search.file.search_source.Goals as goal
 
 pub returns-in_default-clause-given : goal.returns-in_default-clause-given

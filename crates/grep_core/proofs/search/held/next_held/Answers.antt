@@ -1,7 +1,4 @@
-use Rattle.grep_core.proofs.Prelude.{◌∷◌, ◌++◌, [], length, take, refl, sym, ap, ◌∙◌, arith, append_assoc, length-append, All-nil, lines_of, terminated, HasNoNewline, sought_of, IsSought}
-use Rattle.re_search.proofs.lemmas.NextLines.{block_lines, free_lines}
-use Rattle.grep_io.proofs.lemmas.PassedLemmas.{count_block, count_lines}
-use Rattle.grep_core.proofs.lemmas.SearchedBlockLemmas.{lines_within, first_bytes, before_bytes, line_bytes, end_bytes, free_up_to, free_before}
+use Rattle.{grep_core.proofs.{Prelude.{◌∷◌, ◌++◌, [], length, take, refl, sym, ap, ◌∙◌, arith, append_assoc, length-append, All-nil, lines_of, terminated, HasNoNewline, sought_of, IsSought}, lemmas.SearchedBlockLemmas.{lines_within, first_bytes, before_bytes, line_bytes, end_bytes, free_up_to, free_before}}, re_search.proofs.lemmas.NextLines.{block_lines, free_lines}, grep_io.proofs.lemmas.PassedLemmas.{count_block, count_lines}}
 use Rattle.grep_core.proofs.search.held.next_held.Goals as goal
 
 pub returns-then-not-may_number-clause-divided : goal.returns-then-not-may_number-clause-divided

@@ -1,9 +1,4 @@
-use Rattle.grep_core.proofs.Prelude.{◌∙◌, refl, sym, arith}
-use Rattle.grep_io.proofs.lemmas.PassedLemmas.{count_block}
-use Rattle.re_search.proofs.lemmas.KeptMatchers.{same_sought, still_alike}
-use Rattle.grep_core.proofs.lemmas.OneLineLemmas.{is_err}
-use Rattle.grep_core.proofs.lemmas.SearchedBlockLemmas.{bare_if, divided_kept, stretch_spent, line_within}
-use Rattle.grep_core.proofs.lemmas.MatchedLemmas.{block_next, takes_matched, stops_matched}
+use Rattle.{grep_core.proofs.{Prelude.{◌∙◌, refl, sym, arith}, lemmas.{OneLineLemmas.is_err, SearchedBlockLemmas.{bare_if, divided_kept, stretch_spent, line_within}, MatchedLemmas.{block_next, takes_matched, stops_matched}}}, grep_io.proofs.lemmas.PassedLemmas.count_block, re_search.proofs.lemmas.KeptMatchers.{same_sought, still_alike}}
 use Rattle.grep_core.proofs.search.held.write_held.Goals as goal
 
 pub returns-then-may_number-clause-ok : goal.returns-then-may_number-clause-ok

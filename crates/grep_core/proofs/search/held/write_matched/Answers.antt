@@ -1,10 +1,4 @@
-use Rattle.grep_core.proofs.Prelude.{◌++◌, None, length, drop, ap, subst, arith, length-drop, lines_of, IsSought, sought_of, expressions_of}
-use Rattle.std.proofs.lemmas.List.{take_rest}
-use Rattle.re_search.specs.Working.Sought.{FindsSought}
-use Rattle.re_search.proofs.lemmas.KeptMatchers.{same_over, same_sought}
-use Rattle.grep_core.proofs.lemmas.RowLemmas.{goes_on}
-use Rattle.grep_core.proofs.lemmas.OneLineLemmas.{is_err}
-use Rattle.grep_core.proofs.lemmas.MatchedLemmas.{runs_next, runs_out, run_stops, steps_for_more, steps_within}
+use Rattle.{grep_core.proofs.{Prelude.{◌++◌, None, length, drop, ap, subst, arith, length-drop, lines_of, IsSought, sought_of, expressions_of}, lemmas.{RowLemmas.goes_on, OneLineLemmas.is_err, MatchedLemmas.{runs_next, runs_out, run_stops, steps_for_more, steps_within}}}, std.proofs.lemmas.List.take_rest, re_search.{specs.Working.Sought.FindsSought, proofs.lemmas.KeptMatchers.{same_over, same_sought}}}
 use Rattle.grep_core.proofs.search.held.write_matched.Goals as goal
 
 pub returns-in_err-push_all-clause-written : goal.returns-in_err-push_all-clause-written

@@ -1,6 +1,4 @@
-use Rattle.grep_core.proofs.Prelude.{◌*◌, ◌-◌, length, Text, AreSame, expressions_of, sought_of, IsSought, GoesOut}
-use Rattle.re_search.specs.Searches.{AddsAtMost}
-use Rattle.grep_core.proofs.lemmas.MatchedLemmas.{RunsTo}
+use Rattle.{grep_core.proofs.{Prelude.{◌*◌, ◌-◌, length, Text, AreSame, expressions_of, sought_of, IsSought, GoesOut}, lemmas.MatchedLemmas.RunsTo}, re_search.specs.Searches.AddsAtMost}
 use Rattle.grep_core.proofs.search.held.write_matched.Given as goal
 
 -- the matched lines before `start` were written, but for the run of them that ends there

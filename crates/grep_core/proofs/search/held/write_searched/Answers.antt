@@ -1,10 +1,4 @@
-use Rattle.grep_core.proofs.Prelude.{◌≡◌, ◌+◌, ◌∷◌, [], length, refl, ap, arith, length-append, expressions_of}
-use Rattle.grep_core.proofs.lemmas.CostLaws.{searched_bytes, searched_bytes_and_parts}
-use Rattle.grep_core.proofs.lemmas.OneLineLemmas.{is_err}
-use Rattle.grep_core.proofs.lemmas.SearchedBlockLemmas.{rows_unselected, rows_matched, stretch_inverted, selected_matched, unselected_unmatched}
-use Rattle.grep_core.proofs.lemmas.WaitingRows.{if_kept}
-use Rattle.grep_core.proofs.lemmas.WriterLaws.{TakesAll-nothing}
-use Rattle.grep_core.proofs.lemmas.WrittenLemmas.{TakesAll-written, TakesFront-written}
+use Rattle.grep_core.proofs.{Prelude.{◌≡◌, ◌+◌, ◌∷◌, [], length, refl, ap, arith, length-append, expressions_of}, lemmas.{CostLaws.{searched_bytes, searched_bytes_and_parts}, OneLineLemmas.is_err, SearchedBlockLemmas.{rows_unselected, rows_matched, stretch_inverted, selected_matched, unselected_unmatched}, WaitingRows.if_kept, WriterLaws.TakesAll-nothing, WrittenLemmas.{TakesAll-written, TakesFront-written}}}
 use Rattle.grep_core.proofs.search.held.write_searched.Goals as goal
 
 pub returns-in_default-clause-ok : goal.returns-in_default-clause-ok

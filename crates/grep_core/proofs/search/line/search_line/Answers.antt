@@ -1,7 +1,4 @@
-use Rattle.re_search.proofs.lemmas.KeptMatchers.{same_over, still_alike}
-use Rattle.grep_core.proofs.lemmas.CostLaws.{line_asked, searched_once}
-use Rattle.grep_core.proofs.lemmas.OneLineLemmas.{is_err, line_broken, line_passed, line_selected}
-use Rattle.grep_core.proofs.lemmas.WaitingRows.{if_kept}
+use Rattle.{re_search.proofs.lemmas.KeptMatchers.{same_over, still_alike}, grep_core.proofs.lemmas.{CostLaws.{line_asked, searched_once}, OneLineLemmas.{is_err, line_broken, line_passed, line_selected}, WaitingRows.if_kept}}
 use Rattle.grep_core.proofs.search.line.search_line.Goals as goal
 
 pub returns-then-not-is_selected-clause-ok : goal.returns-then-not-is_selected-clause-ok

@@ -1,10 +1,4 @@
-use Rattle.grep_core.proofs.Prelude.{arith}
-use Rattle.re_meter.proofs.lemmas.Adding.{adds_none}
-use Rattle.re_search.proofs.lemmas.LinePartsLaws.{all_parts}
-use Rattle.re_search.proofs.lemmas.KeptMatchers.{none_asked, same_over, as_many, still_alike}
-use Rattle.grep_core.proofs.lemmas.OneLineLemmas.{err_with}
-use Rattle.grep_core.proofs.lemmas.PassLemmas.{TakesAll-line, TakesFront-line}
-use Rattle.grep_core.proofs.lemmas.PartsLemmas.{parts_none, parts_next, parts_done, parts_broken}
+use Rattle.{grep_core.proofs.{Prelude.arith, lemmas.{OneLineLemmas.err_with, PassLemmas.{TakesAll-line, TakesFront-line}, PartsLemmas.{parts_none, parts_next, parts_done, parts_broken}}}, re_meter.proofs.lemmas.Adding.adds_none, re_search.proofs.lemmas.{LinePartsLaws.all_parts, KeptMatchers.{none_asked, same_over, as_many, still_alike}}}
 use Rattle.grep_core.proofs.search.line.write_parts.Goals as goal
 
 pub loop-part-init : goal.loop-part-init

@@ -1,5 +1,4 @@
-use Rattle.grep_core.proofs.Prelude.{◌-◌, ◌*◌, ◌≤◌, length, AddsAtMost, AreSame, sought_of, ArePartsOf, spent, writer, expressions_of}
-use Rattle.grep_core.proofs.lemmas.PartsLemmas.{PartsSoFar}
+use Rattle.grep_core.proofs.{Prelude.{◌-◌, ◌*◌, ◌≤◌, length, AddsAtMost, AreSame, sought_of, ArePartsOf, spent, writer, expressions_of}, lemmas.PartsLemmas.PartsSoFar}
 use Rattle.grep_core.proofs.search.line.write_parts.Given as goal
 
 -- the parts up to here were written

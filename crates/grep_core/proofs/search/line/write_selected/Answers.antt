@@ -1,6 +1,4 @@
-use Rattle.grep_core.proofs.Prelude.{sym}
-use Rattle.grep_core.proofs.lemmas.CostLaws.{parts_searched}
-use Rattle.grep_core.proofs.lemmas.OneLineLemmas.{row_written, row_broken}
+use Rattle.grep_core.proofs.{Prelude.sym, lemmas.{CostLaws.parts_searched, OneLineLemmas.{row_written, row_broken}}}
 use Rattle.grep_core.proofs.search.line.write_selected.Goals as goal
 
 pub returns-in-Lines-clause-ok : goal.returns-in-Lines-clause-ok

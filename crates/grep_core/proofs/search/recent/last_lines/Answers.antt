@@ -1,5 +1,4 @@
-use Rattle.grep_core.proofs.Prelude.{◌≡◌, ◌≢◌, ◌-◌, length, take, sym, ap, ◌∙◌, arith, length-take, lines_of, terminated}
-use Rattle.grep_core.proofs.lemmas.BlockLines.{begins_none, begins_all, begins_last, begins_before}
+use Rattle.grep_core.proofs.{Prelude.{◌≡◌, ◌≢◌, ◌-◌, length, take, sym, ap, ◌∙◌, arith, length-take, lines_of, terminated}, lemmas.BlockLines.{begins_none, begins_all, begins_last, begins_before}}
 use Rattle.grep_core.proofs.search.recent.last_lines.Goals as goal
 
 pub loop-init : goal.loop-init

@@ -1,7 +1,4 @@
-use Rattle.grep_core.proofs.Prelude.{◌<◌, ◌≤◌, length, refl, ◌∙◌, arith}
-use Rattle.re_search.proofs.lemmas.KeptMatchers.{none_asked, same_over}
-use Rattle.grep_core.proofs.lemmas.SourceLaws.{gives_none, gives_both}
-use Rattle.grep_core.proofs.lemmas.RunLaws.{run_none, run_further, run_ends_at, run_given_up, run_ends}
+use Rattle.{grep_core.proofs.{Prelude.{◌<◌, ◌≤◌, length, refl, ◌∙◌, arith}, lemmas.{SourceLaws.{gives_none, gives_both}, RunLaws.{run_none, run_further, run_ends_at, run_given_up, run_ends}}}, re_search.proofs.lemmas.KeptMatchers.{none_asked, same_over}}
 use Rattle.grep_core.proofs.search.run.search_all.Goals as goal
 
 pub loop-k-init : goal.loop-k-init

@@ -1,5 +1,4 @@
-use Rattle.grep_core.proofs.Prelude.{◌≡◌, ◌≤◌, length, take, AreSame, writer, Returns, expressions_of}
-use Rattle.grep_core.proofs.lemmas.RunLaws.{RunSoFar}
+use Rattle.grep_core.proofs.{Prelude.{◌≡◌, ◌≤◌, length, take, AreSame, writer, Returns, expressions_of}, lemmas.RunLaws.RunSoFar}
 use Rattle.grep_core.proofs.search.run.search_all.Given as goal
 
 -- the first k sources were run

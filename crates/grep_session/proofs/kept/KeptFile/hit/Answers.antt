@@ -1,5 +1,4 @@
-use Rattle.grep_session.proofs.Prelude.{◌∙◌, sym, ap, all_of, option_map}
-use Rattle.grep_session.proofs.lemmas.LookingLemmas.{has_no_line, line_there, line_kept, line_listed, line_unlisted}
+use Rattle.grep_session.proofs.{Prelude.{◌∙◌, sym, ap, all_of, option_map}, lemmas.LookingLemmas.{has_no_line, line_there, line_kept, line_listed, line_unlisted}}
 use Rattle.grep_session.proofs.kept.KeptFile.hit.Goals as goal
 
 pub returns-in_default : goal.returns-in_default

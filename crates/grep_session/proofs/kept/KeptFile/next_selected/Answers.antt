@@ -1,5 +1,4 @@
-use Rattle.grep_session.proofs.Prelude.{all_of, ap, option_map}
-use Rattle.grep_session.proofs.lemmas.CountLemmas.{file_passed, file_found}
+use Rattle.grep_session.proofs.{Prelude.{all_of, ap, option_map}, lemmas.CountLemmas.{file_passed, file_found}}
 use Rattle.grep_session.proofs.kept.KeptFile.next_selected.Goals as goal
 
 pub returns-clause-passed : goal.returns-clause-passed

@@ -1,5 +1,4 @@
-use Rattle.grep_session.proofs.Prelude.{all_of, ap, option_map}
-use Rattle.grep_session.proofs.lemmas.CountLemmas.{file_counted}
+use Rattle.grep_session.proofs.{Prelude.{all_of, ap, option_map}, lemmas.CountLemmas.file_counted}
 use Rattle.grep_session.proofs.kept.KeptFile.selected_before.Goals as goal
 
 pub returns : goal.returns

@@ -1,5 +1,4 @@
-use Rattle.grep_session.proofs.Prelude.{sym, ap, ◌∙◌, arith, length-map}
-use Rattle.std.proofs.Math.ListN.{get_or-map}
+use Rattle.{grep_session.proofs.Prelude.{sym, ap, ◌∙◌, arith, length-map}, std.proofs.Math.ListN.get_or-map}
 use Rattle.grep_session.proofs.new_lines.NewLines.from_lines.Goals as goal
 
 pub push-requires : goal.push-requires

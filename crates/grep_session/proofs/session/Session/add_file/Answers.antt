@@ -1,7 +1,5 @@
-use Rattle.grep_session.proofs.Prelude.{Ok, map, inl, refl, ap, ◌∙◌, ◌++◌, ◌∷◌, [], map-append, All-push, matched_expression, whole_file, with_files, IsFileKept, kept_file, inputs_of, AddFile, TakesSteps, All, sym, subst}
+use Rattle.grep_session.proofs.{Prelude.{Ok, map, inl, refl, ap, ◌∙◌, ◌++◌, ◌∷◌, [], map-append, All-push, matched_expression, whole_file, with_files, IsFileKept, kept_file, inputs_of, AddFile, TakesSteps, All, sym, subst}, lemmas.{FitLemmas.fit_pushed, EditLemmas.{asked_session, left_session, file_steps}}, session.Session.add_file.Goals.After-search_new}
 use Rattle.grep_session.proofs.session.Session.add_file.Goals as goal
-use Rattle.grep_session.proofs.{lemmas.FitLemmas.fit_pushed, session.Session.add_file.Goals.After-search_new}
-use Rattle.grep_session.proofs.lemmas.EditLemmas.{asked_session, left_session, file_steps}
 
 takes : (c : After-search_new) → TakesSteps (AddFile c.args.name.items c.args.lines) (inputs_of c.self.inside) c.args.meter.now c.search_new.new.meter
 takes c = file_steps _ c.self.invariant _ c.search_new.ensures.free _ _ c.search_new.ensures.steps _

@@ -1,7 +1,5 @@
-use Rattle.grep_session.proofs.Prelude.{refl, map, All-push, matched_expression, IsFileKept, All, sym, subst}
+use Rattle.{grep_session.proofs.{Prelude.{refl, map, All-push, matched_expression, IsFileKept, All, sym, subst}, lemmas.{EditLemmas.{asked_session, left_session}, FitLemmas.fit_pushed}}, re_search.proofs.lemmas.KeptMatchers.none_asked}
 use Rattle.grep_session.proofs.session.Session.add_missing.Goals as goal
-use Rattle.grep_session.proofs.lemmas.{EditLemmas.asked_session, EditLemmas.left_session, FitLemmas.fit_pushed}
-use Rattle.re_search.proofs.lemmas.KeptMatchers.{none_asked}
 
 pub invariant_of-self : goal.invariant_of-self
 invariant_of-self c = left_session _ _ refl refl c.self.invariant none_asked c.in-Err.ensures.err.0 c.in-Err.ensures.err.1

@@ -1,12 +1,5 @@
-use Rattle.grep_session.proofs.Prelude.{◌≡◌, ◌+◌, ◌<◌, ◌++◌, [], Ok, Bool, false, false≢true, length, map, inl, inr, refl, sym, ap, ◌∙◌, arith, All-append, length-append, length-map, map-append, list_of, matched_expression, wants_whole, AddPatterns, with_patterns, most_patterns, AreMatchers, HasChanged, exchanged, TakesSteps, all_lines, pairs_cost, inputs_of, ◌≤◌, Err, subst, EditGives, RefusesFirst}
+use Rattle.{grep_session.proofs.{Prelude.{◌≡◌, ◌+◌, ◌<◌, ◌++◌, [], Ok, Bool, false, false≢true, length, map, inl, inr, refl, sym, ap, ◌∙◌, arith, All-append, length-append, length-map, map-append, list_of, matched_expression, wants_whole, AddPatterns, with_patterns, most_patterns, AreMatchers, HasChanged, exchanged, TakesSteps, all_lines, pairs_cost, inputs_of, ◌≤◌, Err, subst, EditGives, RefusesFirst}, lemmas.{EditLemmas.left_session, StepLemmas.{chosen_all, takes_touched}, SessionLemmas.inputs_are, SplicedLists.{IsSpliced, added, cut_off, list_changed, mapped}, SplicingLemmas.{are_matchers, refuses, restored, spliced_session}}, session.Session.add_patterns.Goals.{Else-too_many, After-find_columns, After-add_texts}}, std.specs.Bool.⊤, grep_core.proofs.lemmas.CostLaws.same_length, re_search.proofs.lemmas.KeptMatchers.none_asked}
 use Rattle.grep_session.proofs.session.Session.add_patterns.Goals as goal
-use Rattle.std.specs.Bool.{⊤}
-use Rattle.grep_core.proofs.lemmas.CostLaws.{same_length}
-use Rattle.grep_session.proofs.lemmas.{EditLemmas.left_session, StepLemmas.chosen_all, StepLemmas.takes_touched, SessionLemmas.inputs_are}
-use Rattle.grep_session.proofs.lemmas.SplicedLists.{IsSpliced, added, cut_off, list_changed, mapped}
-use Rattle.grep_session.proofs.lemmas.SplicingLemmas.{are_matchers, refuses, restored, spliced_session}
-use Rattle.re_search.proofs.lemmas.KeptMatchers.{none_asked}
-use Rattle.grep_session.proofs.session.Session.add_patterns.Goals.{Else-too_many, After-find_columns, After-add_texts}
 
 -- the patterns are not too many
 not_many : (c : Else-too_many) → most_patterns < length (inputs_of c.self.inside).patterns + length (list_of c.args.list.now) → ⊥

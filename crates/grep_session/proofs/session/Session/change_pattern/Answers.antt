@@ -1,13 +1,5 @@
-use Rattle.grep_session.proofs.Prelude.{◌≡◌, ℕ, ◌<◌, Bool, true, false, List, Ok, All-cons, All-nil, inl, inr, refl, map, map-set, slice_set, MatchBool, Narrows, HasChanged, exchanged, IsSought, SearchesEach, Chosen, IfHolds, AreMatchers, KeepAtMost, IsMeant, IsReadable, Matcher, matched_expression, Expression, Matches, Matched, Text, Steps, length, sym, ap, ◌∙◌, arith, [], ◌∷◌, get_or, get_or_default, length-map, ChangePattern, TakesSteps, with_patterns, all_lines, IsSession, Inside, inputs_of, Err, subst, RefusesFirst, EditGives}
+use Rattle.{grep_session.proofs.{Prelude.{◌≡◌, ℕ, ◌<◌, Bool, true, false, List, Ok, All-cons, All-nil, inl, inr, refl, map, map-set, slice_set, MatchBool, Narrows, HasChanged, exchanged, IsSought, SearchesEach, Chosen, IfHolds, AreMatchers, KeepAtMost, IsMeant, IsReadable, Matcher, matched_expression, Expression, Matches, Matched, Text, Steps, length, sym, ap, ◌∙◌, arith, [], ◌∷◌, get_or, get_or_default, length-map, ChangePattern, TakesSteps, with_patterns, all_lines, IsSession, Inside, inputs_of, Err, subst, RefusesFirst, EditGives}, lemmas.{EditLemmas.left_session, NarrowingLemmas.narrower_string, SessionLemmas.inputs_are, SplicedLists.{IsSpliced, list_changed, mapped, replaced}, SplicingLemmas.{are_matchers, gone_meant, no_more, refuses, restored, spliced_session}, StepLemmas.{chosen_all, chosen_one, takes_none, takes_touched}}, session.Session.change_pattern.Goals.After-exchange-gone}, std.{specs.Bool.⊤, proofs.lemmas.List.{get_or-map, length-set, set-get_or}}, re_syntax.proofs.lemmas.{Decisions.Any-first, SomeOfJoined.Any-single}, grep_core.proofs.lemmas.CostLaws.same_length}
 use Rattle.grep_session.proofs.session.Session.change_pattern.Goals as goal
-use Rattle.std.specs.Bool.{⊤}
-use Rattle.std.proofs.lemmas.List.{get_or-map, length-set, set-get_or}
-use Rattle.re_syntax.proofs.lemmas.{Decisions.Any-first, SomeOfJoined.Any-single}
-use Rattle.grep_core.proofs.lemmas.CostLaws.{same_length}
-use Rattle.grep_session.proofs.{lemmas.EditLemmas.left_session, lemmas.NarrowingLemmas.narrower_string, lemmas.SessionLemmas.inputs_are, session.Session.change_pattern.Goals.After-exchange-gone}
-use Rattle.grep_session.proofs.lemmas.SplicedLists.{IsSpliced, list_changed, mapped, replaced}
-use Rattle.grep_session.proofs.lemmas.SplicingLemmas.{are_matchers, gone_meant, no_more, refuses, restored, spliced_session}
-use Rattle.grep_session.proofs.lemmas.StepLemmas.{chosen_all, chosen_one, takes_none, takes_touched}
 
 -- the text of the old pattern, and whether another one narrows it
 abbrev was : Inside → ℕ → Text

@@ -1,7 +1,5 @@
-use Rattle.grep_session.proofs.Prelude.{Ok, refl, inl, map, arith, ap, length-map, with_files, matched_expression, IsFileKept, kept_file, inputs_of}
+use Rattle.{grep_session.proofs.{Prelude.{Ok, refl, inl, map, arith, ap, length-map, with_files, matched_expression, IsFileKept, kept_file, inputs_of}, lemmas.{DroppingLemmas.All-remove, SessionLemmas.map-remove, EditLemmas.asked_session, FitLemmas.{as_many, fit_as, fit_dropped}}}, re_search.proofs.lemmas.KeptMatchers.none_asked}
 use Rattle.grep_session.proofs.session.Session.drop_file.Goals as goal
-use Rattle.grep_session.proofs.lemmas.{DroppingLemmas.All-remove, SessionLemmas.map-remove, EditLemmas.asked_session, FitLemmas.as_many, FitLemmas.fit_as, FitLemmas.fit_dropped}
-use Rattle.re_search.proofs.lemmas.KeptMatchers.{none_asked}
 
 pub returns-clause-gives : goal.returns-clause-gives
 returns-clause-gives c =

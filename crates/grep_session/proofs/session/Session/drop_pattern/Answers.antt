@@ -1,11 +1,5 @@
-use Rattle.grep_session.proofs.Prelude.{◌≡◌, ℕ, ◌≤◌, ◌<◌, List, [], ◌∷◌, Ok, length, map, remove, get_or, get_or_default, inl, refl, sym, arith, false, false≢true, All, All-nil, length-map, Matcher, matched_expression, Steps, AreMatchers, AreSame, HasChanged, exchanged, SearchesEach, IsFileKept, kept_file, lost, IsSession, Inside, inputs_of, with_patterns, DropPattern, TakesSteps, parts_alone, all_lines, subst}
+use Rattle.{grep_session.proofs.{Prelude.{◌≡◌, ℕ, ◌≤◌, ◌<◌, List, [], ◌∷◌, Ok, length, map, remove, get_or, get_or_default, inl, refl, sym, arith, false, false≢true, All, All-nil, length-map, Matcher, matched_expression, Steps, AreMatchers, AreSame, HasChanged, exchanged, SearchesEach, IsFileKept, kept_file, lost, IsSession, Inside, inputs_of, with_patterns, DropPattern, TakesSteps, parts_alone, all_lines, subst}, lemmas.{EditLemmas.left_session, SessionLemmas.map-remove, SplicedLists.{IsSpliced, inserted, list_changed, mapped, removed}, SplicingLemmas.{are_matchers, gone_meant, no_matchers, no_more, restored, spliced_session}, StepLemmas.{chosen_one, pairs_cost-none, takes_none, takes_touched}}, session.Session.drop_pattern.Goals.Else-p-len}, re_search.proofs.lemmas.KeptMatchers.none_asked, grep_core.proofs.lemmas.CostLaws.same_length}
 use Rattle.grep_session.proofs.session.Session.drop_pattern.Goals as goal
-use Rattle.re_search.proofs.lemmas.KeptMatchers.{none_asked}
-use Rattle.grep_core.proofs.lemmas.CostLaws.{same_length}
-use Rattle.grep_session.proofs.{lemmas.EditLemmas.left_session, lemmas.SessionLemmas.map-remove, session.Session.drop_pattern.Goals.Else-p-len}
-use Rattle.grep_session.proofs.lemmas.SplicedLists.{IsSpliced, inserted, list_changed, mapped, removed}
-use Rattle.grep_session.proofs.lemmas.SplicingLemmas.{are_matchers, gone_meant, no_matchers, no_more, restored, spliced_session}
-use Rattle.grep_session.proofs.lemmas.StepLemmas.{chosen_one, pairs_cost-none, takes_none, takes_touched}
 
 -- there is such a pattern
 inside : (c : Else-p-len) → c.args.p < length (inputs_of c.self.inside).patterns

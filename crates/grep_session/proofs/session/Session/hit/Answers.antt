@@ -1,6 +1,5 @@
-use Rattle.grep_session.proofs.Prelude.{◌≡◌, [], map, get_or, MatchOption, refl, File, Selected, Hit, ListedParts, span_places}
+use Rattle.grep_session.proofs.{Prelude.{◌≡◌, [], map, get_or, MatchOption, refl, File, Selected, Hit, ListedParts, span_places}, lemmas.{CountLemmas.of_file, LookingLemmas.{there, file_is}, SessionLemmas.inputs_are}}
 use Rattle.grep_session.proofs.session.Session.hit.Goals as goal
-use Rattle.grep_session.proofs.lemmas.{CountLemmas.of_file, LookingLemmas.there, LookingLemmas.file_is, SessionLemmas.inputs_are}
 
 pub hit-requires : goal.hit-requires
 hit-requires c =

@@ -1,7 +1,5 @@
-use Rattle.grep_session.proofs.Prelude.{◌∙◌, refl, map, kept_file, sym, subst, AreFit}
+use Rattle.{grep_session.proofs.{Prelude.{◌∙◌, refl, map, kept_file, sym, subst, AreFit}, lemmas.{EditLemmas.asked_session, FitLemmas.{known_fit, known_marks_are}}}, re_search.proofs.lemmas.KeptMatchers.none_asked}
 use Rattle.grep_session.proofs.session.Session.know_all.Goals as goal
-use Rattle.grep_session.proofs.lemmas.{EditLemmas.asked_session, FitLemmas.known_fit, FitLemmas.known_marks_are}
-use Rattle.re_search.proofs.lemmas.KeptMatchers.{none_asked}
 
 pub invariant_of-self : goal.invariant_of-self
 invariant_of-self c =

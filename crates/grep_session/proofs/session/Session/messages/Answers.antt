@@ -1,6 +1,5 @@
-use Rattle.grep_session.proofs.Prelude.{map, matched_expression, inputs_of}
+use Rattle.grep_session.proofs.{Prelude.{map, matched_expression, inputs_of}, lemmas.{HeadlineLaws.reports_all_inputs, SessionLemmas.inputs_are}}
 use Rattle.grep_session.proofs.session.Session.messages.Goals as goal
-use Rattle.grep_session.proofs.lemmas.{HeadlineLaws.reports_all_inputs, SessionLemmas.inputs_are}
 
 pub returns : goal.returns
 returns g c =

@@ -1,7 +1,5 @@
-use Rattle.grep_session.proofs.Prelude.{◌≡◌, [], refl, Ok, map, inl, ap, ◌∙◌, matched_expression, AreMatchers, Edit, Applies, Touches, TakesSteps, parts_alone, read_as, inputs_of, all_lines}
+use Rattle.grep_session.proofs.{Prelude.{◌≡◌, [], refl, Ok, map, inl, ap, ◌∙◌, matched_expression, AreMatchers, Edit, Applies, Touches, TakesSteps, parts_alone, read_as, inputs_of, all_lines}, lemmas.{EditLemmas.{left_session, searched_session}, AllPatternsRead.AreMatchers-options, ChangeLemmas.parts_anew, StepLemmas.takes_parts, SessionLemmas.inputs_are}, session.Session.part_again.Goals.After-find_columns}
 use Rattle.grep_session.proofs.session.Session.part_again.Goals as goal
-use Rattle.grep_session.proofs.lemmas.{EditLemmas.left_session, EditLemmas.searched_session, AllPatternsRead.AreMatchers-options, ChangeLemmas.parts_anew, StepLemmas.takes_parts, SessionLemmas.inputs_are}
-use Rattle.grep_session.proofs.session.Session.part_again.Goals.{After-find_columns}
 
 -- the lines have to be whole as before
 same_whole : (c : After-find_columns) → c.args.options.line_regexp ≡ c.self.inside.options.line_regexp

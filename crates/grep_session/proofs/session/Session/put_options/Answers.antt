@@ -1,6 +1,5 @@
-use Rattle.grep_session.proofs.Prelude.{◌≡◌, map, ◌∙◌, matched_expression}
+use Rattle.grep_session.proofs.{Prelude.{◌≡◌, map, ◌∙◌, matched_expression}, lemmas.{AllPatternsRead.{kept_files, AreMatchers-options}, SessionLemmas.inputs_are}}
 use Rattle.grep_session.proofs.session.Session.put_options.Goals as goal
-use Rattle.grep_session.proofs.lemmas.{AllPatternsRead.kept_files, AllPatternsRead.AreMatchers-options, SessionLemmas.inputs_are}
 
 pub invariant_of-self : goal.invariant_of-self
 invariant_of-self c =

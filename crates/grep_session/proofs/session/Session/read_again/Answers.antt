@@ -1,8 +1,5 @@
-use Rattle.grep_session.proofs.Prelude.{◌≡◌, Ok, refl, length, length-map, map, matched_expression, anew, arith, inl, sym, ap, ◌∙◌, Edit, Applies, Touches, TakesSteps, AreReadable, searched_by, read_as, inputs_of, all_lines, ◌≤◌, Err, subst, ReadsAgain, most_patterns}
+use Rattle.{grep_session.proofs.{Prelude.{◌≡◌, Ok, refl, length, length-map, map, matched_expression, anew, arith, inl, sym, ap, ◌∙◌, Edit, Applies, Touches, TakesSteps, AreReadable, searched_by, read_as, inputs_of, all_lines, ◌≤◌, Err, subst, ReadsAgain, most_patterns}, lemmas.{EditLemmas.{left_session, searched_session}, AllPatternsRead.refuses_again, ChangeLemmas.all_anew, StepLemmas.{takes_lines, takes_none}, SessionLemmas.inputs_are}, session.Session.read_again.Goals.After-find_columns}, re_search.proofs.lemmas.KeptMatchers.none_asked}
 use Rattle.grep_session.proofs.session.Session.read_again.Goals as goal
-use Rattle.grep_session.proofs.lemmas.{EditLemmas.left_session, EditLemmas.searched_session, AllPatternsRead.refuses_again, ChangeLemmas.all_anew, StepLemmas.takes_lines, StepLemmas.takes_none, SessionLemmas.inputs_are}
-use Rattle.re_search.proofs.lemmas.KeptMatchers.{none_asked}
-use Rattle.grep_session.proofs.session.Session.read_again.Goals.{After-find_columns}
 
 -- all patterns went, and others came
 again : (c : After-find_columns) → c.anew-change.result ≡ anew (length (map matched_expression c.self.inside.matchers.items)) (length (map matched_expression c.in-Ok.matchers.items))

@@ -1,6 +1,5 @@
-use Rattle.grep_session.proofs.Prelude.{map, matched_expression, inputs_of}
+use Rattle.grep_session.proofs.{Prelude.{map, matched_expression, inputs_of}, lemmas.{HeadlineLaws.reports_inputs, KeptLaws.files_fit, SessionLemmas.inputs_are}}
 use Rattle.grep_session.proofs.session.Session.report.Goals as goal
-use Rattle.grep_session.proofs.lemmas.{HeadlineLaws.reports_inputs, KeptLaws.files_fit, SessionLemmas.inputs_are}
 
 pub write_report-requires : goal.write_report-requires
 write_report-requires g c =

@@ -1,8 +1,5 @@
-use Rattle.grep_session.proofs.Prelude.{◌≡◌, map, inl, inr, refl, sym, ap, subst, ◌∙◌, false≢true, Watched, true, if◌then◌else◌, Bool, Flag, Options, lost, kept_file, booleans_Decides, Inputs, read_as, SetFlag, option_of, with_option, inputs_of, parts_alone, all_lines, touched_by_flag, Ok, All, length, changes_hits, IsReadable, ReadsAgain, AreReadable, Edit, Applies, TakesSteps, Touches, searched_by}
+use Rattle.{grep_session.proofs.{Prelude.{◌≡◌, map, inl, inr, refl, sym, ap, subst, ◌∙◌, false≢true, Watched, true, if◌then◌else◌, Bool, Flag, Options, lost, kept_file, booleans_Decides, Inputs, read_as, SetFlag, option_of, with_option, inputs_of, parts_alone, all_lines, touched_by_flag, Ok, All, length, changes_hits, IsReadable, ReadsAgain, AreReadable, Edit, Applies, TakesSteps, Touches, searched_by}, lemmas.{AllPatternsRead.{sets_flag, applies_same, applies_flag}, StepLemmas.takes_none, SessionLemmas.inputs_are, FitLemmas.{fit_lose, given_flag}, EditLemmas.asked_session}, session.Session.set_flag.Goals.Else-get-on}, re_search.proofs.lemmas.KeptMatchers.none_asked}
 use Rattle.grep_session.proofs.session.Session.set_flag.Goals as goal
-use Rattle.grep_session.proofs.lemmas.{AllPatternsRead.sets_flag, AllPatternsRead.applies_same, AllPatternsRead.applies_flag, StepLemmas.takes_none, SessionLemmas.inputs_are, FitLemmas.fit_lose, FitLemmas.given_flag, EditLemmas.asked_session}
-use Rattle.re_search.proofs.lemmas.KeptMatchers.{none_asked}
-use Rattle.grep_session.proofs.session.Session.set_flag.Goals.{Else-get-on}
 
 -- the value is another
 other : (c : Else-get-on) → option_of c.args.flag c.args.self.now.inputs.options ≡ c.args.on → ⊥

@@ -1,6 +1,5 @@
-use Rattle.grep_session.proofs.Prelude.{◌≡◌, Ok, inl, inr, refl, sym, ap, ◌∙◌, SetSyntax, inputs_of, length, subst, Inputs, ReadsAgain, AreReadable, read_as, Edit, Applies, TakesSteps, Touches, searched_by, all_lines}
+use Rattle.grep_session.proofs.{Prelude.{◌≡◌, Ok, inl, inr, refl, sym, ap, ◌∙◌, SetSyntax, inputs_of, length, subst, Inputs, ReadsAgain, AreReadable, read_as, Edit, Applies, TakesSteps, Touches, searched_by, all_lines}, lemmas.{AllPatternsRead.sets_syntax, StepLemmas.takes_none, SessionLemmas.inputs_are, FitLemmas.given_syntax}}
 use Rattle.grep_session.proofs.session.Session.set_syntax.Goals as goal
-use Rattle.grep_session.proofs.lemmas.{AllPatternsRead.sets_syntax, StepLemmas.takes_none, SessionLemmas.inputs_are, FitLemmas.given_syntax}
 
 pub returns-then-is_same-clause-gives : goal.returns-then-is_same-clause-gives
 returns-then-is_same-clause-gives c =

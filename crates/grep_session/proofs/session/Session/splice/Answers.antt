@@ -1,9 +1,5 @@
-use Rattle.grep_session.proofs.Prelude.{◌≡◌, ◌+◌, length, length-map, nil_from_length, map, refl, sym, ◌∙◌, ap, get_or, set, arith, matched_expression, KeptFile, Splice, HasPlace, TakesSteps, splice, spliced, file_at, with_files, kept_file, kept_lines, all_of, line_text, inputs_of, watched_of, IfSome, subst, All, IsKept, IsFileKept}
+use Rattle.grep_session.proofs.{Prelude.{◌≡◌, ◌+◌, length, length-map, nil_from_length, map, refl, sym, ◌∙◌, ap, get_or, set, arith, matched_expression, KeptFile, Splice, HasPlace, TakesSteps, splice, spliced, file_at, with_files, kept_file, kept_lines, all_of, line_text, inputs_of, watched_of, IfSome, subst, All, IsKept, IsFileKept}, lemmas.{StepLemmas.takes_none, SessionLemmas.inputs_are, EditLemmas.{asked_session, left_session, splice_steps, applies_splice, in_kept, kept_put, files_same, files_spliced, files_kept, needs_for_lines}, FitLemmas.{as_many, fit_as, fit_spliced, given_splice, lines_spliced, mark_within, mark_rest, mark_spliced}}, session.Session.splice.Goals.{After-search_new, After-line_count-many}}
 use Rattle.grep_session.proofs.session.Session.splice.Goals as goal
-use Rattle.grep_session.proofs.lemmas.{StepLemmas.takes_none, SessionLemmas.inputs_are}
-use Rattle.grep_session.proofs.lemmas.EditLemmas.{asked_session, left_session, splice_steps, applies_splice, in_kept, kept_put, files_same, files_spliced, files_kept, needs_for_lines}
-use Rattle.grep_session.proofs.lemmas.FitLemmas.{as_many, fit_as, fit_spliced, given_splice, lines_spliced, mark_within, mark_rest, mark_spliced}
-use Rattle.grep_session.proofs.session.Session.splice.Goals.{After-search_new, After-line_count-many}
 
 there : (c : After-search_new) → HasPlace (inputs_of c.self.inside).files c.args.k c.args.start c.args.count
 there c = rw c.deref.ensures.value at c.in-Ok.ensures.place

@@ -1,6 +1,5 @@
-use Rattle.grep_session.proofs.Prelude.{map, matched_expression, inputs_of}
+use Rattle.grep_session.proofs.{Prelude.{map, matched_expression, inputs_of}, lemmas.{HeadlineLaws.status_of_inputs, KeptLaws.kept_status, SessionLemmas.inputs_are}}
 use Rattle.grep_session.proofs.session.Session.status.Goals as goal
-use Rattle.grep_session.proofs.lemmas.{HeadlineLaws.status_of_inputs, KeptLaws.kept_status, SessionLemmas.inputs_are}
 
 pub returns : goal.returns
 returns c =

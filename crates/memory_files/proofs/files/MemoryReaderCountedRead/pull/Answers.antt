@@ -1,5 +1,4 @@
-use Rattle.memory_files.proofs.Prelude.{length, drop, take_rest}
-use Rattle.memory_files.proofs.lemmas.MemoryLemmas.{pulled}
+use Rattle.memory_files.proofs.{Prelude.{length, drop, take_rest}, lemmas.MemoryLemmas.pulled}
 use Rattle.memory_files.proofs.files.MemoryReaderCountedRead.pull.Goals as goal
 
 pub returns-clause-bytes : goal.returns-clause-bytes

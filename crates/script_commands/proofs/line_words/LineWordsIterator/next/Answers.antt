@@ -1,5 +1,4 @@
-use Rattle.script_commands.proofs.Prelude.{◌≡◌, ◌+◌, ◌-◌, [], ◌∷◌, length, take, drop, rules, arith, sym, ap, ◌∙◌, add-one, take_rest, words_of, words_of_rest}
-use Rattle.script_commands.proofs.lemmas.ScriptWords.{words_of-at, words_of-none}
+use Rattle.script_commands.proofs.{Prelude.{◌≡◌, ◌+◌, ◌-◌, [], ◌∷◌, length, take, drop, rules, arith, sym, ap, ◌∙◌, add-one, take_rest, words_of, words_of_rest}, lemmas.ScriptWords.{words_of-at, words_of-none}}
 use Rattle.script_commands.proofs.line_words.LineWordsIterator.next.Goals as goal
 
 -- the word ends at the first space

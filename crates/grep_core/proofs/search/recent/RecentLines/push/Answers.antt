@@ -1,5 +1,4 @@
-use Rattle.grep_core.proofs.Prelude.{rules, arith, [], ◌∷◌, ◌≡◌, ◌∙◌, ◌<◌, ap, length, LastLines, with_lines}
-use Rattle.grep_core.proofs.lemmas.RecentLinesLemmas.{pushed}
+use Rattle.grep_core.proofs.{Prelude.{rules, arith, [], ◌∷◌, ◌≡◌, ◌∙◌, ◌<◌, ap, length, LastLines, with_lines}, lemmas.RecentLinesLemmas.pushed}
 use Rattle.grep_core.proofs.search.recent.RecentLines.push.Goals as goal
 
 pub returns-clause-ok : goal.returns-clause-ok

@@ -1,7 +1,4 @@
-use Rattle.grep_core.proofs.Prelude.{rules, ◌≡◌, [], ◌∷◌, ◌++◌, ◌-◌, length, drop, sym, ap, ◌∙◌, append_assoc, append-nil, arith, length-drop, take_all, lines_of, terminated, LastLines, with_lines, last_of}
-use Rattle.re_syntax.proofs.lemmas.LinesLaws.{lines_of-terminated}
-use Rattle.grep_core.proofs.lemmas.BlockLines.{holds_none, holds_more, holds_last, last_free}
-use Rattle.grep_core.proofs.lemmas.RecentLinesLemmas.{few_held}
+use Rattle.{grep_core.proofs.{Prelude.{rules, ◌≡◌, [], ◌∷◌, ◌++◌, ◌-◌, length, drop, sym, ap, ◌∙◌, append_assoc, append-nil, arith, length-drop, take_all, lines_of, terminated, LastLines, with_lines, last_of}, lemmas.{BlockLines.{holds_none, holds_more, holds_last, last_free}, RecentLinesLemmas.few_held}}, re_syntax.proofs.lemmas.LinesLaws.lines_of-terminated}
 use Rattle.grep_core.proofs.search.recent.RecentLines.push_block.Goals as goal
 
 pub loop-line-init : goal.loop-line-init
