@@ -1,8 +1,7 @@
 -- A buffered writer in contracts, and what it sends to the writer beneath.
 use Rattle.std.specs.Prelude.{◌≡◌, ℕ, [], ◌++◌, Option, Result, MatchResult}
 use Rattle.std.specs.Io.KnownBytes.{append_known, Appends}
-use Rattle.re_trees.specs.Bytes.{Text}
-use Rattle.grep_io.specs.Counted.{one_more}
+use Rattle.{re_trees.specs.Bytes.Text, grep_io.specs.Counted.one_more}
 
 pub record BufferedWriter (W : Type 0) : Type 0 where
   pub inner : W

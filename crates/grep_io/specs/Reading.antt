@@ -2,7 +2,7 @@
 use Rattle.std.specs.Prelude.{◌≡◌, ℕ, ◌-◌, ◌^◌, nat_le, Bool, true, false, if◌then◌else◌, List, []}
 use Rattle.std.specs.Prelude.{◌∷◌, ◌++◌, length, take, Option, Some, IfSome}
 use Rattle.std.specs.Io.KnownBytes.{Consumes}
-use Rattle.re_trees.specs.{Bytes.Text, Lines.lines_of, Lines.ended_lines_of, Lines.HasNoNewline}
+use Rattle.re_trees.specs.{Bytes.Text, Lines.{lines_of, ended_lines_of, HasNoNewline}}
 use Rattle.grep_io.specs.File.{File, Ending, whole, missing, broken}
 
 -- a source by its name; whether it can be opened and which bytes it has, where that is known

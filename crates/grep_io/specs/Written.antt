@@ -1,8 +1,6 @@
 -- A write of several bytes that may stop on the way.
-use Rattle.std.specs.Prelude.{◌≡◌, ℕ, ◌++◌, Option, Result, MatchResult}
-use Rattle.std.specs.Io.KnownBytes.{Appends}
-use Rattle.re_trees.specs.Bytes.{Text}
-use Rattle.grep_io.specs.Counted.{one_more}
+use Rattle.std.specs.{Prelude.{◌≡◌, ℕ, ◌++◌, Option, Result, MatchResult}, Io.KnownBytes.Appends}
+use Rattle.{re_trees.specs.Bytes.Text, grep_io.specs.Counted.one_more}
 
 module _ {W : Type 0} (contents : W → Option Text) (failures : W → ℕ) where
   -- a beginning of the bytes was written, and then a write failed

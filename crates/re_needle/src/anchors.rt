@@ -1,7 +1,6 @@
 //! Whether a match may depend on where its line begins.
 ghost use Rattle.std.specs.Prelude.{◌≡◌, false, map};
-ghost use Rattle.re_trees.specs.Expression.{alt, cat};
-ghost use Rattle.re_trees.specs.Working.Trees.{expression_of};
+ghost use Rattle.re_trees.specs.{Expression.{alt, cat}, Working.Trees.expression_of};
 ghost use Rattle.re_needle.specs.Working.Needles.{HasNoBegin};
 
 use re_trees::Tree;

@@ -1,11 +1,9 @@
 //! What every match of a choice contains: a run of one of its branches.
 ghost use Rattle.std.specs.Prelude.{IfOk, IfSome, map};
-ghost use Rattle.re_trees.specs.Expression.{Expression};
-ghost use Rattle.re_trees.specs.Working.Trees.{expression_of};
+ghost use Rattle.re_trees.specs.{Expression.Expression, Working.Trees.expression_of};
 ghost use Rattle.re_needle.specs.Working.Needles.{IsNeedleFor, IsRunNeedleFor};
 ghost use Rattle.re_needle.specs.Working.Branches.{AreRunsOf, branch_within, branches_within};
-ghost use Rattle.re_needle.specs.Working.Branches.{choice_within};
-ghost use Rattle.re_needle.specs.Working.Outlines.{IsOutline, shown};
+ghost use Rattle.re_needle.specs.Working.{Branches.choice_within, Outlines.{IsOutline, shown}};
 
 use crate::needle::{Needle, run_needle};
 use crate::outline::{add_outline, add_parts};

@@ -1,7 +1,6 @@
 //! The sets that an outline begins with.
 ghost use Rattle.std.specs.Prelude.{◌≡◌, ◌++◌, List, Option, Some, IfOk, IfSome, map};
-ghost use Rattle.re_trees.specs.Bytes.{Bytes};
-ghost use Rattle.re_trees.specs.Working.Trees.{members};
+ghost use Rattle.re_trees.specs.{Bytes.Bytes, Working.Trees.members};
 ghost use Rattle.re_needle.specs.Working.Outlines.{shown};
 
 use crate::choice::{RunKind, mark_survey};

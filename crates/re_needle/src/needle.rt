@@ -1,7 +1,7 @@
 //! What every match of an expression contains.
-ghost use Rattle.std.specs.Prelude.{◌≡◌, ◌≤◌, ◌++◌, List, Option, Some, IfOk, IfSome, IsTrue, false, length, map};
-ghost use Rattle.re_trees.specs.Bytes.{Bytes, only};
-ghost use Rattle.re_trees.specs.Expression.{Expression, byte};
+ghost use Rattle.std.specs.Prelude.{◌≡◌, ◌≤◌, ◌++◌, List, Option, Some, IfOk, IfSome, IsTrue};
+ghost use Rattle.std.specs.Prelude.{false, length, map};
+ghost use Rattle.re_trees.specs.{Bytes.{Bytes, only}, Expression.{Expression, byte}};
 ghost use Rattle.re_trees.specs.Working.Trees.{expression_of, members};
 ghost use Rattle.re_needle.specs.Working.Needles.{IsNeeded, IsNeedleFor, IsRunNeedleFor};
 ghost use Rattle.re_needle.specs.Working.Outlines.{IsOutline, shown};

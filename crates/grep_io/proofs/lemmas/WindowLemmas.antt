@@ -1,48 +1,34 @@
 -- The ranges of a buffer before and after a newline.
-use Rattle.grep_io.proofs.Prelude.{◌≡◌, ◌≢◌, ℕ, ◌+◌, ◌-◌, ◌<◌, ◌≤◌, inl, inr, [], ◌∷◌, ◌++◌, Result, Ok, Err, OnErr, length, take, drop, slice_range, sym, ap, ◌∙◌, arith, append_assoc, subst, take-append-add, cases_lt, length-append, take-append-le, length-take, take-take, drop-take, drop-drop, All-append, All-take, All-tail, Text, newline, HasNoNewline, IsOneLineAndFew}
+use Rattle.grep_io.proofs.Prelude.{◌≡◌, ◌≢◌, ℕ, ◌+◌, ◌-◌, ◌<◌, ◌≤◌, inl, inr, [], ◌∷◌, ◌++◌, Result, Ok, Err, OnErr, length, take, drop, slice_range, ap, ◌∙◌, arith, append_assoc, take-append-add, cases_lt, length-append, take-append-le, length-take, take-take, drop-take, drop-drop, All-append, All-take, All-tail, Text, newline, HasNoNewline, IsOneLineAndFew}
 
 -- the first k bytes of a range are a range
 front_of_range : (buffer : Text) (start end k : ℕ) → start + k ≤ end → take k (slice_range buffer start end) ≡ slice_range buffer start (start + k)
-front_of_range buffer start end k h =
-    take-take k (end - start) (drop start buffer) (omega arith) ∙ ap (λ n. take n (drop start buffer)) (omega arith)
+front_of_range buffer start end k h = take-take k (end - start) (drop start buffer) (omega arith) ∙ ap (λ n. take n (drop start buffer)) (omega arith)
 
 -- what follows a byte in a range is a range
 rest_of_range : (buffer : Text) (start end k : ℕ) → start + k < end → drop (k + 1) (slice_range buffer start end) ≡ slice_range buffer (start + k + 1) end
 rest_of_range buffer start end k h =
     let split : end - start ≡ (k + 1) + (end - (start + k + 1)) = omega arith in
-    ap (λ n. drop (k + 1) (take n (drop start buffer))) split
-    ∙ drop-take (k + 1) (end - (start + k + 1)) (drop start buffer)
-    ∙ ap (take (end - (start + k + 1))) (drop-drop (k + 1) start buffer ∙ ap (λ n. drop n buffer) (omega arith))
+    let at : start + (k + 1) ≡ start + k + 1 = omega arith in
+    rw (split, drop-take (k + 1) (end - (start + k + 1)) (drop start buffer), drop-drop (k + 1) start buffer, at)
 
 -- a place within a range is before its end
 pub below_range : (buffer : Text) (start end k : ℕ) → k < length (slice_range buffer start end) → start + k < end
 below_range buffer start end k h = omega (arith, length-take (end - start) (drop start buffer))
 
 -- what was ahead is the line, its newline and what is ahead now
-pub ahead_at_newline : (buffer before line after : Text) (start end k : ℕ) → start + k < end
-    → slice_range buffer start end ≡ take k (slice_range buffer start end) ++ newline ∷ drop (k + 1) (slice_range buffer start end)
-    → line ≡ before ++ slice_range buffer start (start + k) → after ≡ []
-    → before ++ slice_range buffer start end ≡ line ++ newline ∷ (after ++ slice_range buffer (start + k + 1) end)
-ahead_at_newline buffer before line after start end k h cut is none =
-    ap (λ l. before ++ l) (cut ∙ ap (λ l. l ++ newline ∷ drop (k + 1) (slice_range buffer start end)) (front_of_range buffer start end k (omega arith))
-    ∙ ap (λ l. slice_range buffer start (start + k) ++ newline ∷ l) (rest_of_range buffer start end k h))
-    ∙ sym (append_assoc before (slice_range buffer start (start + k)) (newline ∷ slice_range buffer (start + k + 1) end))
-    ∙ ap (λ l. l ++ newline ∷ slice_range buffer (start + k + 1) end) (sym is)
-    ∙ ap (λ l. line ++ newline ∷ (l ++ slice_range buffer (start + k + 1) end)) (sym none)
+pub ahead_at_newline : {line after : Text} (buffer before : Text) (start end k : ℕ) → start + k < end → slice_range buffer start end ≡ take k (slice_range buffer start end) ++ newline ∷ drop (k + 1) (slice_range buffer start end) → line ≡ before ++ slice_range buffer start (start + k) → after ≡ [] → before ++ slice_range buffer start end ≡ line ++ newline ∷ (after ++ slice_range buffer (start + k + 1) end)
+ahead_at_newline buffer before start end k h cut is none = cc (cut ∙ ap (λ l. l ++ newline ∷ drop (k + 1) (slice_range buffer start end)) (front_of_range buffer start end k (omega arith)) ∙ ap (λ l. slice_range buffer start (start + k) ++ newline ∷ l) (rest_of_range buffer start end k h), append_assoc before (slice_range buffer start (start + k)) (newline ∷ slice_range buffer (start + k + 1) end))
 
 -- what waited and what is before the first newline is a line
-pub line_has_no_newline : (buffer before line : Text) (start end k : ℕ) → start + k ≤ end
-    → HasNoNewline before → HasNoNewline (take k (slice_range buffer start end))
-    → line ≡ before ++ slice_range buffer start (start + k) → HasNoNewline line
-line_has_no_newline buffer before line start end k h before_has front_has is =
-    let front : HasNoNewline (slice_range buffer start (start + k)) = subst HasNoNewline (front_of_range buffer start end k h) front_has in
-    subst HasNoNewline (sym is) (All-append (λ b. b ≢ newline) before (slice_range buffer start (start + k)) before_has front)
+pub line_has_no_newline : {line : Text} (buffer before : Text) (start end k : ℕ) → start + k ≤ end → HasNoNewline before → HasNoNewline (take k (slice_range buffer start end)) → line ≡ before ++ slice_range buffer start (start + k) → HasNoNewline line
+line_has_no_newline buffer before start end k h before_has front_has is = rw is (All-append (λ b. b ≢ newline) before (slice_range buffer start (start + k)) before_has (rw (front_of_range buffer start end k h) at front_has))
 
 -- a beginning of one line and a few bytes more
 pub one_line_and_few : (line more : Text) → HasNoNewline line → length more ≤ 65536 → IsOneLineAndFew (line ++ more)
 one_line_and_few line more none few =
     let within : length (line ++ more) - 65536 ≤ length line = omega (arith, length-append line more) in
-    subst HasNoNewline (sym (take-append-le (length (line ++ more) - 65536) line more within)) (All-take (λ b. b ≢ newline) (length (line ++ more) - 65536) line none)
+    rw (take-append-le (length (line ++ more) - 65536) line more within) (All-take (λ b. b ≢ newline) (length (line ++ more) - 65536) line none)
 
 -- a beginning of one line alone
 pub one_line : (line : Text) → HasNoNewline line → IsOneLineAndFew line
@@ -60,15 +46,10 @@ none_after (b ∷ first) more h = none_after first more (All-tail (λ c. c ≢ n
 -- what follows the first bytes of such
 pub few_after : (first more : Text) → IsOneLineAndFew (first ++ more) → IsOneLineAndFew more
 few_after first more h = elim (cases_lt (length more) 65536) [
-  | inr long ↦ none_after first (take (length more - 65536) more) (subst HasNoNewline (all_before long) h)
-  | inl short ↦ subst HasNoNewline (sym (ap (λ n. take n more) (none_before short))) none_in_nothing
+  | inr long ↦ none_after first (take (length more - 65536) more)
+      (let split : length (first ++ more) - 65536 ≡ length first + (length more - 65536) = omega (arith, length-append first more) in rw (split, take-append-add first more (length more - 65536)) at h)
+  | inl short ↦ (let none : length more - 65536 ≡ 0 = omega arith in rw none none_in_nothing)
 ]
-  where
-    all_before : 65536 ≤ length more → take (length (first ++ more) - 65536) (first ++ more) ≡ first ++ take (length more - 65536) more
-    all_before long = ap (λ n. take n (first ++ more)) (omega (arith, long, length-append first more)) ∙ take-append-add first more (length more - 65536)
-
-    none_before : length more < 65536 → length more - 65536 ≡ 0
-    none_before short = omega (arith, short)
 
 -- what holds anyway holds at a failure
 pub at_failure : {T E : Type 0} (result : Result T E) (P : Type 0) → P → OnErr result P

@@ -1,24 +1,17 @@
 -- Writes one after another.
-use Rattle.grep_io.proofs.Prelude.{◌≡◌, ℕ, ◌+◌, ◌≤◌, [], ◌++◌, Option, Result, Ok, Err, IsErr, length, take, drop, slice_range, refl, sym, ap, ◌∙◌, arith, append_assoc, append-nil, take-append-drop, subst, Appends-trans, Appends-nil, Appends, Text, one_more, StopsWithin, GoesOut, Writes, false≢true, take-take, drop-take, take_rest, take_all}
+use Rattle.grep_io.proofs.Prelude.{◌≡◌, ℕ, ◌+◌, ◌≤◌, [], ◌++◌, Option, Result, Ok, Err, IsErr, length, take, drop, slice_range, refl, sym, ◌∙◌, arith, append_assoc, append-nil, take-append-drop, Appends-trans, Appends-nil, Appends, Text, one_more, StopsWithin, GoesOut, Writes, false≢true, take-take, drop-take, take_rest, take_all}
 
 -- the first `at` bytes and n more are the first `at + n`
 take_further : (at n : ℕ) (bs : Text) → at + n ≤ length bs → take at bs ++ take n (slice_range bs at (length bs)) ≡ take (at + n) bs
-take_further at n bs h =
-    ap (λ l. take at bs ++ take n l) (take_rest bs at)
-    ∙ ap (λ l. take at bs ++ l) (sym (drop-take at n bs))
-    ∙ ap (λ l. l ++ drop at (take (at + n) bs)) (sym (take-take at (at + n) bs (omega arith)))
-    ∙ take-append-drop at (take (at + n) bs)
+take_further at n bs h = cc (take_rest bs at, drop-take at n bs, take-take at (at + n) bs (omega arith), take-append-drop at (take (at + n) bs))
 
 -- n more bytes were written
-pub written_further : (a b c : Option Text) (at n : ℕ) (bs : Text) → at + n ≤ length bs
-    → Appends a b (take at bs) → Appends b c (take n (slice_range bs at (length bs))) → Appends a c (take (at + n) bs)
-written_further a b c at n bs h first second =
-    subst (Appends a c) (take_further at n bs h) (Appends-trans a b c _ _ first second)
+pub written_further : (a b c : Option Text) (at n : ℕ) (bs : Text) → at + n ≤ length bs → Appends a b (take at bs) → Appends b c (take n (slice_range bs at (length bs))) → Appends a c (take (at + n) bs)
+written_further a b c at n bs h first second = rw (take_further at n bs h) at (Appends-trans a b c _ _ first second)
 
 module _ {W : Type 0} (contents : W → Option Text) (failures : W → ℕ) where
   -- n of the bytes were written, and then a write failed
-  pub stops_at : (a b : W) (n : ℕ) (bytes : Text) → Appends (contents a) (contents b) (take n bytes) → failures b ≡ one_more (failures a)
-      → StopsWithin contents failures a b bytes
+  pub stops_at : (a b : W) (n : ℕ) (bytes : Text) → Appends (contents a) (contents b) (take n bytes) → failures b ≡ one_more (failures a) → StopsWithin contents failures a b bytes
   stops_at a b n bytes went more = record {
     front = take n bytes;
     rest = drop n bytes;
@@ -28,10 +21,9 @@ module _ {W : Type 0} (contents : W → Option Text) (failures : W → ℕ) wher
   }
 
   -- all of the bytes were written
-  pub goes_whole : (a b : W) (n : ℕ) (bytes : Text) → length bytes ≤ n → Appends (contents a) (contents b) (take n bytes) → failures b ≡ failures a
-      → GoesOut contents failures a b bytes
+  pub goes_whole : (a b : W) (n : ℕ) (bytes : Text) → length bytes ≤ n → Appends (contents a) (contents b) (take n bytes) → failures b ≡ failures a → GoesOut contents failures a b bytes
   goes_whole a b n bytes all went same = record {
-    written = subst (Appends (contents a) (contents b)) (take_all n bytes all) went;
+    written = rw (take_all n bytes all) at went;
     none_failed = same;
   }
 
@@ -51,7 +43,7 @@ module _ {W : Type 0} (contents : W → Option Text) (failures : W → ℕ) wher
   stops_early a b xs ys p = record {
     front = p.front;
     rest = p.rest ++ ys;
-    cut = ap (λ l. l ++ ys) p.cut ∙ append_assoc p.front p.rest ys;
+    cut = cc (p.cut, append_assoc p.front p.rest ys);
     written = p.written;
     counted = p.counted;
   }
@@ -61,9 +53,9 @@ module _ {W : Type 0} (contents : W → Option Text) (failures : W → ℕ) wher
   stops_later a b c xs ys p q = record {
     front = xs ++ q.front;
     rest = q.rest;
-    cut = ap (λ l. xs ++ l) q.cut ∙ sym (append_assoc xs q.front q.rest);
+    cut = cc (q.cut, append_assoc xs q.front q.rest);
     written = Appends-trans (contents a) (contents b) (contents c) xs q.front p.written q.written;
-    counted = q.counted ∙ ap one_more p.none_failed;
+    counted = cc (q.counted, p.none_failed);
   }
 
   -- a write failed within the bytes, and this is returned
@@ -78,6 +70,6 @@ module _ {W : Type 0} (contents : W → Option Text) (failures : W → ℕ) wher
 
   -- the bytes were written, and nothing more
   pub writes_then_nothing : {T E : Type 0} (a b c : W) (xs : Text) (r : Result T E) → GoesOut contents failures a b xs → Writes contents failures b c [] r → Writes contents failures a c xs r
-  writes_then_nothing a b c xs r p q = subst (λ bytes. Writes contents failures a c bytes r) (append-nil xs) (writes_last a b c xs [] r p q)
+  writes_then_nothing a b c xs r p q = rw (append-nil xs) at (writes_last a b c xs [] r p q)
 
 pub ruleset pushing = (stops_at, goes_whole)

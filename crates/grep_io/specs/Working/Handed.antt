@@ -2,12 +2,11 @@
 -- was written for them.
 use Rattle.std.specs.Prelude.{◌≡◌, ℕ, ◌⊎◌, List, [], ◌∷◌, ◌++◌, All, Option}
 use Rattle.std.specs.Io.KnownBytes.{Consumes, IsAtEnd}
-use Rattle.re_trees.specs.{Bytes.Text, Lines.lines_of, Lines.terminated, Lines.HasNoNewline}
-use Rattle.grep_io.specs.declared.input.lines.Stage.TheVariants.{Open, Ended, Failed}
-use Rattle.grep_io.specs.Reading.{Reading, IsReadingOf, open_source, file_of, failures_of, AreLeft}
-use Rattle.grep_io.specs.{declared.input.lines.Stage.Stage, Working.LineReader.LineReader}
-use Rattle.grep_io.specs.{Working.LineReader.to_come, File.File, File.Ending, File.whole}
-use Rattle.grep_io.specs.{File.broken, Counted.count_more}
+use Rattle.re_trees.specs.{Bytes.Text, Lines.{lines_of, terminated, HasNoNewline}}
+use Rattle.grep_io.specs.{Working.LineReader.{LineReader, to_come}, Counted.count_more}
+use Rattle.grep_io.specs.Reading.{file_of, AreLeft, IsReadingOf, Reading, failures_of, open_source}
+use Rattle.grep_io.specs.declared.input.lines.Stage.{TheVariants.{Ended, Failed, Open}, Stage}
+use Rattle.grep_io.specs.File.{File, Ending, whole, broken}
 
 -- each line handed out ended in a newline; only the last line of an input may lack it
 abbrev pub AreHanded : Stage → Text → List Text → Type 0

@@ -1,9 +1,9 @@
 -- The bytes that are held between two calls, and the line that was handed out.
 use Rattle.std.specs.Prelude.{◌≡◌, ℕ, ◌-◌, ◌<◌, ◌≤◌, Bool, true, false, [], length, get_or}
 use Rattle.std.specs.Prelude.{slice_range, ⊤}
-use Rattle.re_trees.specs.{Bytes.Text, Lines.newline, Lines.HasNoNewline}
+use Rattle.re_trees.specs.{Bytes.Text, Lines.{newline, HasNoNewline}}
 use Rattle.grep_io.specs.declared.input.window.LastLine.TheVariants.{Nothing, Short, Long}
-use Rattle.grep_io.specs.{Reading.buffer_size, declared.input.window.LastLine.LastLine}
+use Rattle.grep_io.specs.{declared.input.window.LastLine.LastLine, Reading.buffer_size}
 
 -- ahead: taken from the reader and not handed out. line: handed out last
 pub record Held : Type 0 where

@@ -1,8 +1,7 @@
 -- The bytes that a limited reader will give.
 use Rattle.std.specs.Prelude.{◌≡◌, ℕ, ◌+◌, ◌≤◌, [], take, Option, Some, Result, MatchResult}
-use Rattle.std.specs.Option.{option_map}
+use Rattle.std.{specs.Option.option_map, proofs.Common.{zero, suc}}
 use Rattle.re_trees.specs.Bytes.{Text}
-use Rattle.std.proofs.Common.{zero, suc}
 
 -- the bytes of a reader that gives at most `step` bytes a call, and fails once it gave `left`
 -- bytes: none with no step, and else the first `left` of those of the reader beneath it

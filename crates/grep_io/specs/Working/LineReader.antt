@@ -1,10 +1,9 @@
 -- What a reader of lines is in contracts, and what a call for the next line does.
 use Rattle.std.specs.Prelude.{◌≡◌, ◌≢◌, ℕ, ◌<◌, List, [], ◌∷◌, ◌++◌, length, Option}
 use Rattle.std.specs.Io.KnownBytes.{prepend_known, Keeps, Consumes, IsAtEnd}
-use Rattle.re_trees.specs.{Bytes.Text, Lines.newline, Lines.HasNoNewline}
-use Rattle.grep_io.specs.declared.input.lines.Stage.TheVariants.{Open, Ended, Failed}
-use Rattle.grep_io.specs.{Counted.one_more, Reading.buffer_size, Reading.IsOneLineAndFew}
-use Rattle.grep_io.specs.declared.input.lines.Stage.{Stage}
+use Rattle.re_trees.specs.{Bytes.Text, Lines.{newline, HasNoNewline}}
+use Rattle.grep_io.specs.declared.input.lines.Stage.{TheVariants.{Open, Ended, Failed}, Stage}
+use Rattle.grep_io.specs.{Counted.one_more, Reading.{buffer_size, IsOneLineAndFew}}
 
 pub record LineReader (R : Type 0) : Type 0 where
   pub reader : R

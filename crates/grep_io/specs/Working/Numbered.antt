@@ -1,13 +1,10 @@
 -- What a reader of numbered lines has handed out, and what a call for the next line does.
 use Rattle.std.specs.Prelude.{◌≡◌, ℕ, ◌+◌, ◌≤◌, Bool, true, false, List, [], ◌∷◌, ◌++◌, length}
 use Rattle.std.specs.Prelude.{Option, Result, Ok, Err}
-use Rattle.re_trees.specs.{Bytes.Text, Lines.lines_of}
-use Rattle.re_runs.specs.Working.Blocks.{IsBlock}
-use Rattle.grep_io.specs.declared.input.lines.ReadFault.TheVariants.{Device, Memory}
-use Rattle.grep_io.specs.{declared.input.lines.ReadFault.ReadFault, File.Ending, File.whole}
-use Rattle.grep_io.specs.{File.broken, Reading.most_lines, Reading.open_source, Reading.HasRead}
-use Rattle.grep_io.specs.{Working.Handed.HandsLines, Working.Handed.StandsFor}
-use Rattle.grep_io.specs.Working.LineReader.{LineReader}
+use Rattle.{re_trees.specs.{Bytes.Text, Lines.lines_of}, re_runs.specs.Working.Blocks.IsBlock}
+use Rattle.grep_io.specs.declared.input.lines.ReadFault.{TheVariants.{Device, Memory}, ReadFault}
+use Rattle.grep_io.specs.{File.{Ending, whole, broken}, Reading.{most_lines, open_source, HasRead}}
+use Rattle.grep_io.specs.Working.{Handed.{HandsLines, StandsFor}, LineReader.LineReader}
 
 pub record Numbered (R : Type 0) : Type 0 where
   pub lines : LineReader R

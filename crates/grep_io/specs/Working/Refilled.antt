@@ -1,9 +1,8 @@
 -- What a refill of the window does.
-use Rattle.std.specs.Prelude.{◌≡◌, ℕ, ◌<◌, [], length, Option}
-use Rattle.std.specs.Io.KnownBytes.{prepend_known, Keeps, IsAtEnd}
-use Rattle.re_trees.specs.Bytes.{Text}
-use Rattle.grep_io.specs.declared.input.window.Refill.TheVariants.{More, Ended, Failed}
-use Rattle.grep_io.specs.{Counted.one_more, declared.input.window.Refill.Refill, Working.Held.Held}
+use Rattle.std.specs.{Prelude.{[], ◌≡◌, Option, ◌<◌}, Io.KnownBytes.{prepend_known, Keeps, IsAtEnd}}
+use Rattle.std.specs.Prelude.{ℕ, length}
+use Rattle.{re_trees.specs.Bytes.Text, grep_io.specs.{Counted.one_more, Working.Held.Held}}
+use Rattle.grep_io.specs.declared.input.window.Refill.{TheVariants.{More, Ended, Failed}, Refill}
 
 module _ {R : Type 0} (remaining : R → Option Text) (failures : R → ℕ) where
   -- more bytes are ahead, or all that were ahead are the last line, or a read failed

@@ -1,8 +1,7 @@
 -- What is sent of a buffer, and where the rows in it end.
 use Rattle.std.specs.Prelude.{◌≡◌, ℕ, ◌<◌, ◌≤◌, ◌⊎◌, [], ◌∷◌, ◌++◌, Option, Result, MatchOption}
-use Rattle.std.specs.Prelude.{MatchResult, length, take, drop}
-use Rattle.std.specs.Io.KnownBytes.{Appends}
-use Rattle.re_trees.specs.{Bytes.Text, Lines.newline, Lines.HasNoNewline}
+use Rattle.std.specs.{Prelude.{MatchResult, length, take, drop}, Io.KnownBytes.Appends}
+use Rattle.re_trees.specs.{Bytes.Text, Lines.{newline, HasNoNewline}}
 use Rattle.grep_io.specs.Buffer.{BufferedWriter, SendsSome}
 
 -- the first n bytes end in a newline, and no newline is after them

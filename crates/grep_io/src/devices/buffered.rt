@@ -1,8 +1,6 @@
 // A writer that buffers bytes before it sends them to the device.
-ghost use Rattle.std.specs.Prelude.{◌≡◌, ◌+◌, ◌<◌, [], IfOk, OnErr, length};
-ghost use Rattle.std.specs.Io.KnownBytes.{Keeps};
-ghost use Rattle.grep_io.specs.Counted.{one_more};
-ghost use Rattle.grep_io.specs.Buffer.{Sends, all_contents};
+ghost use Rattle.std.specs.{Prelude.{◌≡◌, ◌+◌, ◌<◌, [], IfOk, OnErr, length}, Io.KnownBytes.Keeps};
+ghost use Rattle.grep_io.specs.{Counted.one_more, Buffer.{Sends, all_contents}};
 ghost use Rattle.grep_io.specs.Working.Sent.{SendsRows};
 
 use crate::devices::byte_buffer::{collect_text, rows_end, send_front};

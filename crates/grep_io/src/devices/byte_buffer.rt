@@ -1,8 +1,7 @@
 // Bytes that are added to a buffer and sent to the writer beneath, and where rows end.
 ghost use Rattle.std.specs.Prelude.{◌≡◌, ◌+◌, ◌≤◌, ◌++◌, MatchOption, MatchResult, drop, length};
 ghost use Rattle.std.specs.Prelude.{vec_len, vec_capacity};
-ghost use Rattle.re_trees.specs.Lines.{HasNoNewline};
-ghost use Rattle.grep_io.specs.Buffer.{SendsSome};
+ghost use Rattle.{re_trees.specs.Lines.HasNoNewline, grep_io.specs.Buffer.SendsSome};
 ghost use Rattle.grep_io.specs.Working.Sent.{EndsRows, SendsFront};
 
 use crate::devices::counted::{CountedWrite, WriteFault};

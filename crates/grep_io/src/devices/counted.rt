@@ -1,8 +1,8 @@
 // Readers and writers that count their failures.
-ghost use Rattle.std.specs.Prelude.{◌≡◌, ℕ, ◌<◌, ◌≤◌, List, [], Option, None, ⊤, length, IfSome, IfOk};
-ghost use Rattle.grep_io.specs.Counted.{PullConsumes, PushAppends, Counts, one_more};
-ghost use Rattle.grep_io.specs.Counted.{CalledOnce, ReadsOn, sent_or_not};
-ghost use Rattle.grep_io.specs.Written.{Writes};
+ghost use Rattle.std.specs.Prelude.{◌≡◌, ℕ, ◌<◌, ◌≤◌, List, [], Option, None, ⊤, length, IfSome};
+ghost use Rattle.std.specs.Prelude.{IfOk};
+ghost use Rattle.grep_io.specs.Counted.{PullConsumes, PushAppends, Counts, one_more, CalledOnce};
+ghost use Rattle.grep_io.specs.{Counted.{ReadsOn, sent_or_not}, Written.Writes};
 
 use crate::devices::device::{ReadDevice, WriteDevice};
 use std::marker::Model;

@@ -1,8 +1,8 @@
 //! Devices: what is read and written, a call at a time.
 ghost use Rattle.std.specs.Prelude.{◌≡◌, ℕ, ◌<◌, ◌≤◌, List, Option, None, ⊤, length, IfSome, OnErr};
-ghost use Rattle.std.specs.Prelude.{IfOk};
-ghost use Rattle.std.specs.Io.KnownBytes.{Keeps};
-ghost use Rattle.grep_io.specs.Counted.{PullConsumes, PushAppends, CalledOnce, ReadsOn, sent_or_not};
+ghost use Rattle.std.specs.{Prelude.IfOk, Io.KnownBytes.Keeps};
+ghost use Rattle.grep_io.specs.Counted.{PullConsumes, PushAppends, CalledOnce, ReadsOn};
+ghost use Rattle.grep_io.specs.Counted.{sent_or_not};
 
 use crate::devices::counted::WriteFault;
 use std::io::{Read, Write};

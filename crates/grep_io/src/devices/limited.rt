@@ -1,7 +1,7 @@
 // A reader or a writer that moves only a limited number of bytes, for tests.
 ghost use Rattle.std.specs.Prelude.{◌≡◌, ◌<◌, ◌≤◌, length, take, IfOk, IsErr, OnErr};
-ghost use Rattle.std.specs.Io.{ReadsAtMost, WritesAtMost};
-ghost use Rattle.std.specs.Io.KnownBytes.{Keeps, Consumes, IsAtEnd, ReadConsumes, WriteAppends};
+ghost use Rattle.std.specs.Io.KnownBytes.{IsAtEnd, ReadConsumes, WriteAppends, Keeps, Consumes};
+ghost use Rattle.std.specs.Io.{WritesAtMost, ReadsAtMost};
 ghost use Rattle.grep_io.specs.Working.Limited.{limited, MovesFew};
 
 use std::io::{Error, ErrorKind, Read, Result, Write};

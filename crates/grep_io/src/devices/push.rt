@@ -1,8 +1,6 @@
 // Writes of several bytes; a single write may take only some of them.
-ghost use Rattle.std.specs.Prelude.{◌≡◌, ◌<◌, ◌≤◌, length, take};
-ghost use Rattle.std.specs.Io.KnownBytes.{Appends};
-ghost use Rattle.grep_io.specs.Counted.{one_more};
-ghost use Rattle.grep_io.specs.Written.{Writes};
+ghost use Rattle.std.specs.{Prelude.{◌≡◌, ◌<◌, ◌≤◌, length, take}, Io.KnownBytes.Appends};
+ghost use Rattle.grep_io.specs.{Counted.one_more, Written.Writes};
 
 use crate::devices::counted::{CountedWrite, WriteFault};
 

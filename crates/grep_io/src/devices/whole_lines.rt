@@ -1,11 +1,8 @@
 // A writer that hands lines whole to the device.
 ghost use Rattle.std.specs.Prelude.{◌≡◌, ◌+◌, ◌<◌, ◌≤◌, [], IfSome, IfOk, OnErr, length, take};
-ghost use Rattle.std.specs.Prelude.{vec_len, vec_capacity};
-ghost use Rattle.std.specs.Io.KnownBytes.{Keeps, Appends};
-ghost use Rattle.re_trees.specs.Lines.{HasNoNewline};
-ghost use Rattle.grep_io.specs.Counted.{PushAppends, Counts, one_more};
-ghost use Rattle.grep_io.specs.Buffer.{Sends, all_contents};
-ghost use Rattle.grep_io.specs.Working.Sent.{SendsLine};
+ghost use Rattle.std.specs.{Prelude.{vec_len, vec_capacity}, Io.KnownBytes.{Appends, Keeps}};
+ghost use Rattle.{re_trees.specs.Lines.HasNoNewline, grep_io.specs.Buffer.{Sends, all_contents}};
+ghost use Rattle.grep_io.specs.{Working.Sent.SendsLine, Counted.{PushAppends, Counts, one_more}};
 
 use crate::devices::byte_buffer::{collect_text, rows_end, send_front, take_off};
 use crate::devices::counted::{CountedWrite, WriteFault};

@@ -1,13 +1,11 @@
 // The lines that a reader gives, one at a time, and their numbers.
 ghost use Rattle.std.specs.Prelude.{◌≡◌, ◌+◌, ◌≤◌, [], ◌++◌, Ok, Err, IfOk, IfErr, MatchBool};
 ghost use Rattle.std.specs.Prelude.{IsTrue, ⊤, false, length, take};
-ghost use Rattle.re_trees.specs.Bytes.{Text};
-ghost use Rattle.re_trees.specs.Lines.{lines_of};
+ghost use Rattle.re_trees.specs.{Lines.lines_of, Bytes.Text};
 ghost use Rattle.re_runs.specs.Working.Blocks.{IsBlock};
-ghost use Rattle.grep_io.specs.Reading.{IsOneLineAndFew, most_lines};
-ghost use Rattle.grep_io.specs.Working.Held.{HasWholeLine};
-ghost use Rattle.grep_io.specs.Working.LineReader.{HandsOut, IsUsedUp, IsCutOff, RunsOutOfMemory};
-ghost use Rattle.grep_io.specs.Working.Numbered.{AreAhead, HandsNext, HasReadBefore, PassesNext};
+ghost use Rattle.grep_io.specs.Working.Numbered.{HasReadBefore, PassesNext, AreAhead, HandsNext};
+ghost use Rattle.grep_io.specs.Working.LineReader.{HandsOut, IsCutOff, IsUsedUp, RunsOutOfMemory};
+ghost use Rattle.grep_io.specs.{Working.Held.HasWholeLine, Reading.{IsOneLineAndFew, most_lines}};
 
 use crate::devices::counted::CountedRead;
 use crate::input::newlines::count_newlines;

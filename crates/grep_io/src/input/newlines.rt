@@ -1,6 +1,6 @@
 // How many newlines there are.
-ghost use Rattle.std.specs.Prelude.{◌≡◌, ◌+◌, ◌*◌, ◌<◌, ◌≤◌, ◌==◌, if◌then◌else◌};
-ghost use Rattle.std.specs.Prelude.{length, map, take, drop};
+ghost use Rattle.std.specs.Prelude.{◌≡◌, ◌+◌, ◌*◌, ◌<◌, ◌≤◌, ◌==◌, if◌then◌else◌, length, map};
+ghost use Rattle.std.specs.Prelude.{take, drop};
 ghost use Rattle.memchr.specs.Find.{is_byte, places, places_between};
 ghost use Rattle.re_trees.specs.Lines.{newline};
 

@@ -1,16 +1,12 @@
 // The buffer of a reader of lines.
 ghost use Rattle.std.specs.Prelude.{◌≡◌, ◌+◌, ◌-◌, ◌^◌, ◌<◌, ◌≤◌, [], ◌∷◌, ◌++◌, ⊤, get_or, IfOk};
-ghost use Rattle.std.specs.Prelude.{OnErr, IfSome, MatchBool, length, take, drop};
-ghost use Rattle.std.specs.Prelude.{slice_range, vec_len};
-ghost use Rattle.re_trees.specs.Bytes.{Text};
-ghost use Rattle.re_trees.specs.Lines.{newline, HasNoNewline};
+ghost use Rattle.std.specs.Prelude.{OnErr, IfSome, MatchBool, length, take, drop, slice_range};
+ghost use Rattle.std.specs.Prelude.{vec_len};
+ghost use Rattle.re_trees.specs.{Bytes.Text, Lines.{newline, HasNoNewline}};
 ghost use Rattle.re_runs.specs.Working.Blocks.{IsBlock, PassesAll};
-ghost use Rattle.grep_io.specs.Counted.{PullConsumes, Counts, ReadsOn};
-ghost use Rattle.grep_io.specs.Working.Refilled.{Refilled};
-ghost use Rattle.grep_io.specs.declared.input.window.Refill.{Refill};
-ghost use Rattle.grep_io.specs.Reading.{IsOneLineAndFew};
-ghost use Rattle.grep_io.specs.Working.Held.{HasWholeLine, waiting, last_line};
-ghost use Rattle.grep_io.specs.Working.Held.{LastLineFits};
+ghost use Rattle.grep_io.specs.{Counted.{PullConsumes, Counts, ReadsOn}, Working.Refilled.Refilled};
+ghost use Rattle.grep_io.specs.Working.Held.{HasWholeLine, waiting, last_line, LastLineFits};
+ghost use Rattle.grep_io.specs.{declared.input.window.Refill.Refill, Reading.IsOneLineAndFew};
 
 use crate::devices::counted::CountedRead;
 use memchr::memrchr;

@@ -28,13 +28,13 @@ with_new limit zero (c ∷ next ∷ cs) line last full = absurd (omega arith)
 with_new limit (suc k) (c ∷ next ∷ cs) line last full = rw (with_new limit k (next ∷ cs) line (omega arith) full)
 
 -- there is no chunk
-pub with_first : (limit n : ℕ) (es : List Entry) (line : KeptLine) → n ≡ length es → n ≡ 0 → chunks_of es ++ (line ∷ []) ∷ [] ≡ with_line limit (chunks_of es) line
-with_first limit n [] line many none = refl
-with_first limit n (e ∷ es) line many none = absurd (omega arith)
+pub with_first : {n : ℕ} (limit : ℕ) (es : List Entry) (line : KeptLine) → n ≡ length es → n ≡ 0 → chunks_of es ++ (line ∷ []) ∷ [] ≡ with_line limit (chunks_of es) line
+with_first limit [] line many none = refl
+with_first limit (e ∷ es) line many none = absurd (omega arith)
 
 -- whether the last entry's chunk has room
-pub room_last : (limit n : ℕ) (es : List Entry) (e : Entry) (text : Text) → n ≡ length es → 0 < n → e ≡ get_or es (n - 1) e → has_room limit e.chunk text ≡ has_room limit (get_or (chunks_of es) (n - 1) []) text
-room_last limit n es e text many some read = rw (ap (λ (one : Entry). one.chunk) read ∙ sym (chunk_at es (n - 1) e (omega arith)))
+pub room_last : {n : ℕ} (limit : ℕ) (es : List Entry) {e : Entry} (text : Text) → n ≡ length es → 0 < n → e ≡ get_or es (n - 1) e → has_room limit e.chunk text ≡ has_room limit (get_or (chunks_of es) (n - 1) []) text
+room_last {n} limit es {e} text many some read = rw (ap (λ (one : Entry). one.chunk) read ∙ sym (chunk_at es (n - 1) e (omega arith)))
 
 -- each chunk has a line again
 with_line_filled : (limit : ℕ) (cs : List (List KeptLine)) (line : KeptLine) → AreFilled cs → AreFilled (with_line limit cs line)
@@ -51,9 +51,9 @@ filled_after (Ok a) limit old new line is same filled = rw is (with_line_filled 
 filled_after (Err a) limit old new line is same filled = rw same filled
 
 -- so the lines are of what is kept
-pub lines_ok : {T E : Type 0} (result : Result T E) (limit : ℕ) (inside old new : List (List KeptLine)) (line : KeptLine) → inside ≡ old → IfOk result (λ _. new ≡ with_line limit inside line) → IfOk result (λ _. all_of new ≡ all_of old ++ line ∷ [])
-lines_ok (Ok a) limit inside old new line same is = cc (joined_with limit inside line)
-lines_ok (Err a) limit inside old new line same is = tt
+pub lines_ok : {T E : Type 0} (result : Result T E) (limit : ℕ) {inside old : List (List KeptLine)} (new : List (List KeptLine)) (line : KeptLine) → inside ≡ old → IfOk result (λ _. new ≡ with_line limit inside line) → IfOk result (λ _. all_of new ≡ all_of old ++ line ∷ [])
+lines_ok (Ok a) limit {inside} new line same is = cc (joined_with limit inside line)
+lines_ok (Err a) limit new line same is = tt
 
 -- chunks that were made are those that were wanted
 pub made_ok : {T E : Type 0} (result : Result T E) (new made wanted : List (List KeptLine)) → IfOk result (λ _. new ≡ made) → made ≡ wanted → IfOk result (λ _. new ≡ wanted)

@@ -43,14 +43,14 @@ module _ (es : List Entry) (cs : List (List KeptLine)) (k : ℕ) (old new : Entr
   here : old.chunk ≡ get_or (chunks_of es) k []
   here = cc (chunk_at es k old h)
 
-  pub next_fits : (found rest : List (Option FoundIn)) → chunks_of es ≡ with_columns cs (take k found) → length es ≡ length cs → rest ≡ drop k found → FitColumns cs found → FitsNext old.chunk rest
-  next_fits found rest is many left fit =
+  pub next_fits : {rest : List (Option FoundIn)} (found : List (Option FoundIn)) → chunks_of es ≡ with_columns cs (take k found) → length es ≡ length cs → rest ≡ drop k found → FitColumns cs found → FitsNext old.chunk rest
+  next_fits found is many left fit =
       let now = columns_fit cs found k [] (omega arith) fit in
       let chunk : get_or (with_columns cs (take k found)) k [] ≡ old.chunk = cc here in
       rw left (rw chunk at now)
 
-  pub next_put : (found rest : List (Option FoundIn)) → chunks_of es ≡ with_columns cs (take k found) → length es ≡ length cs → rest ≡ drop k found → new.chunk ≡ next_column old.chunk rest → chunks_of (set es k new) ≡ with_columns cs (take (k + 1) found)
-  next_put found rest is many left put = cc (chunks_of-set es k new, here, columns_more cs found k [] (omega arith), add-one k)
+  pub next_put : {rest : List (Option FoundIn)} (found : List (Option FoundIn)) → chunks_of es ≡ with_columns cs (take k found) → length es ≡ length cs → rest ≡ drop k found → new.chunk ≡ next_column old.chunk rest → chunks_of (set es k new) ≡ with_columns cs (take (k + 1) found)
+  next_put found is many left put = cc (chunks_of-set es k new, here, columns_more cs found k [] (omega arith), add-one k)
 
 -- ---- all chunks are changed in place
 

@@ -34,24 +34,24 @@ has_byte lines k all h = omega (arith, ap length (all k [] h).1, length-append (
 
 -- ---- lines added and removed
 
-pub bare_more : (lines new : List Text) (line : Text) → new ≡ lines ++ (line ++ newline ∷ []) ∷ [] → map bare new ≡ map bare lines ++ line ∷ []
-bare_more lines new line is = cc (map-append bare lines ((line ++ newline ∷ []) ∷ []), bare_line line)
+pub bare_more : {new : List Text} (lines : List Text) (line : Text) → new ≡ lines ++ (line ++ newline ∷ []) ∷ [] → map bare new ≡ map bare lines ++ line ∷ []
+bare_more lines line is = cc (map-append bare lines ((line ++ newline ∷ []) ∷ []), bare_line line)
 
-pub ended_part : (lines new others : List Text) (from n : ℕ) → new ≡ lines ++ take n (drop from others) → All IsEnded lines → All IsEnded others → All IsEnded new
-ended_part lines new others from n is all more = rw is (All-append IsEnded lines _ all (All-take IsEnded n _ (All-drop IsEnded from others more)))
+pub ended_part : {new : List Text} (lines others : List Text) (from n : ℕ) → new ≡ lines ++ take n (drop from others) → All IsEnded lines → All IsEnded others → All IsEnded new
+ended_part lines others from n is all more = rw is (All-append IsEnded lines _ all (All-take IsEnded n _ (All-drop IsEnded from others more)))
 
-pub bare_part : (lines new others : List Text) (from n : ℕ) → new ≡ lines ++ take n (drop from others) → map bare new ≡ map bare lines ++ take n (drop from (map bare others))
-bare_part lines new others from n is = cc (map-append bare lines (take n (drop from others)), take-map bare n (drop from others), drop-map bare from others)
+pub bare_part : {new : List Text} (lines others : List Text) (from n : ℕ) → new ≡ lines ++ take n (drop from others) → map bare new ≡ map bare lines ++ take n (drop from (map bare others))
+bare_part lines others from n is = cc (map-append bare lines (take n (drop from others)), take-map bare n (drop from others), drop-map bare from others)
 
-pub ended_without : (lines new : List Text) (from to : ℕ) → new ≡ take from lines ++ drop to lines → All IsEnded lines → All IsEnded new
-ended_without lines new from to is all = rw is (All-append IsEnded _ _ (All-take IsEnded from lines all) (All-drop IsEnded to lines all))
+pub ended_without : {new : List Text} (lines : List Text) (from to : ℕ) → new ≡ take from lines ++ drop to lines → All IsEnded lines → All IsEnded new
+ended_without lines from to is all = rw is (All-append IsEnded _ _ (All-take IsEnded from lines all) (All-drop IsEnded to lines all))
 
-pub bare_without : (lines new : List Text) (from to : ℕ) → new ≡ take from lines ++ drop to lines → map bare new ≡ take from (map bare lines) ++ drop to (map bare lines)
-bare_without lines new from to is = cc (map-append bare (take from lines) (drop to lines), take-map bare from lines, drop-map bare to lines)
+pub bare_without : {new : List Text} (lines : List Text) (from to : ℕ) → new ≡ take from lines ++ drop to lines → map bare new ≡ take from (map bare lines) ++ drop to (map bare lines)
+bare_without lines from to is = cc (map-append bare (take from lines) (drop to lines), take-map bare from lines, drop-map bare to lines)
 
 -- what was added is removed again
-pub undone : {X : Type 0} (lines longer new more : List X) (before after : ℕ) → before ≡ length lines → longer ≡ lines ++ more → after ≡ length longer → new ≡ take before longer ++ drop after longer → new ≡ lines
-undone lines longer new more before after first is last back = cc (drop_all after longer (omega arith), append-nil (take before longer), take-append-le before lines more (omega arith), take_all before lines (omega arith))
+pub undone : {X : Type 0} {new : List X} (lines longer more : List X) {before after : ℕ} → before ≡ length lines → longer ≡ lines ++ more → after ≡ length longer → new ≡ take before longer ++ drop after longer → new ≡ lines
+undone lines longer more {before} {after} first is last back = cc (drop_all after longer (omega arith), append-nil (take before longer), take-append-le before lines more (omega arith), take_all before lines (omega arith))
 
 -- ---- the line that begins at a place
 

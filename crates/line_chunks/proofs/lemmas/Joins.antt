@@ -51,8 +51,8 @@ pub size_at : (cs : List (List KeptLine)) (k : ℕ) → length (all_of (take (k 
 size_at cs k = rw add-one (size_suc cs k)
 
 -- a search that has come to one chunk
-pub place_here : (cs : List (List KeptLine)) (low high place before : ℕ) → length (all_of (take low cs)) ≤ place → place < length (all_of (take high cs)) → high ≤ length cs → high ≤ low + 1 → before ≡ length (all_of (take low cs)) → IsPlace cs place low (place - before) × ((low < length cs) × (place - before < length (get_or cs low [])))
-place_here cs low high place before first last inside near is =
+pub place_here : (cs : List (List KeptLine)) {before : ℕ} (low high place : ℕ) → length (all_of (take low cs)) ≤ place → place < length (all_of (take high cs)) → high ≤ length cs → high ≤ low + 1 → before ≡ length (all_of (take low cs)) → IsPlace cs place low (place - before) × ((low < length cs) × (place - before < length (get_or cs low [])))
+place_here cs low high place first last inside near is =
     let order : high ≤ low → length (all_of (take high cs)) ≤ length (all_of (take low cs)) = λ h.
     begins_in_order cs high low h in
     let next : low < high = grind (arith, order) in
@@ -78,11 +78,11 @@ all_taken cs k h = rw (take_all k cs h)
 
 -- ---- cut in two at a place
 
-pub take_seam : (cs : List (List KeptLine)) (place k i : ℕ) → IsPlace cs place k i → take place (all_of cs) ≡ all_of (take k cs) ++ take i (get_or cs k [])
-take_seam cs place k i is = cc (is.place_is, all_at cs k, take-append-add (all_of (take k cs)) (get_or cs k [] ++ all_of (drop (k + 1) cs)) i, take-append-le i (get_or cs k []) (all_of (drop (k + 1) cs)) is.offset_within)
+pub take_seam : {cs : List (List KeptLine)} {place k i : ℕ} → IsPlace cs place k i → take place (all_of cs) ≡ all_of (take k cs) ++ take i (get_or cs k [])
+take_seam {cs} {place} {k} {i} is = cc (is.place_is, all_at cs k, take-append-add (all_of (take k cs)) (get_or cs k [] ++ all_of (drop (k + 1) cs)) i, take-append-le i (get_or cs k []) (all_of (drop (k + 1) cs)) is.offset_within)
 
-pub drop_seam : (cs : List (List KeptLine)) (place k i : ℕ) → IsPlace cs place k i → drop place (all_of cs) ≡ drop i (get_or cs k []) ++ all_of (drop (k + 1) cs)
-drop_seam cs place k i is = cc (is.place_is, all_at cs k, drop-append-add (all_of (take k cs)) (get_or cs k [] ++ all_of (drop (k + 1) cs)) i, drop-append-le i (get_or cs k []) (all_of (drop (k + 1) cs)) is.offset_within)
+pub drop_seam : (cs : List (List KeptLine)) {place : ℕ} (k i : ℕ) → IsPlace cs place k i → drop place (all_of cs) ≡ drop i (get_or cs k []) ++ all_of (drop (k + 1) cs)
+drop_seam cs k i is = cc (is.place_is, all_at cs k, drop-append-add (all_of (take k cs)) (get_or cs k [] ++ all_of (drop (k + 1) cs)) i, drop-append-le i (get_or cs k []) (all_of (drop (k + 1) cs)) is.offset_within)
 
 -- ---- a chunk changed
 
@@ -102,13 +102,13 @@ module _ (cs : List (List KeptLine)) (start count first before last after : ℕ)
     (p : IsPlace cs start first before) (q : IsPlace cs (start + count) last after) where
   -- what stands in front, and what behind
   pub in_front : take start (all_of cs) ≡ all_of (take first cs) ++ take before (get_or cs first [])
-  in_front = take_seam cs _ _ _ p
+  in_front = take_seam p
 
   pub behind : drop (start + count) (all_of cs) ≡ drop after (get_or cs last []) ++ all_of (drop (last + 1) cs)
-  behind = drop_seam cs _ _ _ q
+  behind = drop_seam cs _ _ q
 
-  pub put_in : (fresh rest new : List (List KeptLine)) (lines : List KeptLine) → rest ≡ drop (last + 1) cs → new ≡ take first cs ++ (fresh ++ rest) → all_of fresh ≡ take before (get_or cs first []) ++ (lines ++ drop after (get_or cs last [])) → all_of new ≡ take start (all_of cs) ++ (lines ++ drop (start + count) (all_of cs))
-  put_in fresh rest new lines rest_is is made =
+  pub put_in : {new : List (List KeptLine)} (fresh rest : List (List KeptLine)) (lines : List KeptLine) → rest ≡ drop (last + 1) cs → new ≡ take first cs ++ (fresh ++ rest) → all_of fresh ≡ take before (get_or cs first []) ++ (lines ++ drop after (get_or cs last [])) → all_of new ≡ take start (all_of cs) ++ (lines ++ drop (start + count) (all_of cs))
+  put_in fresh rest lines rest_is is made =
       let C = take before (get_or cs first []) in
       let D = drop after (get_or cs last []) in
       let F = all_of (take first cs) in
@@ -117,8 +117,8 @@ module _ (cs : List (List KeptLine)) (start count first before last after : ℕ)
       cc (joined-append (take first cs) (fresh ++ rest), joined-append fresh rest, in_front, behind)
 
   -- taken out of one chunk
-  pub out_of_one : (new : List (List KeptLine)) → first ≡ last → first < length cs → new ≡ set cs first (take before (get_or cs first []) ++ drop after (get_or cs first [])) → all_of new ≡ take start (all_of cs) ++ drop (start + count) (all_of cs)
-  out_of_one new same h is =
+  pub out_of_one : {new : List (List KeptLine)} → first ≡ last → first < length cs → new ≡ set cs first (take before (get_or cs first []) ++ drop after (get_or cs first [])) → all_of new ≡ take start (all_of cs) ++ drop (start + count) (all_of cs)
+  out_of_one same h is =
       let C = take before (get_or cs first []) in
       let D = drop after (get_or cs last []) in
       let F = all_of (take first cs) in
@@ -127,7 +127,7 @@ module _ (cs : List (List KeptLine)) (start count first before last after : ℕ)
       cc (joined_set cs first (C ++ drop after (get_or cs first [])) h, add-one last, in_front, behind)
 
   pub out_of_many : (new : List (List KeptLine)) → new ≡ take first cs ++ (take before (get_or cs first []) ∷ drop after (get_or cs last []) ∷ drop (last + 1) cs) → all_of new ≡ take start (all_of cs) ++ drop (start + count) (all_of cs)
-  out_of_many new is = put_in (take before (get_or cs first []) ∷ drop after (get_or cs last []) ∷ []) (drop (last + 1) cs) new [] refl is (rw (append-nil (drop after (get_or cs last []))))
+  out_of_many new is = put_in (take before (get_or cs first []) ∷ drop after (get_or cs last []) ∷ []) (drop (last + 1) cs) [] refl is (rw (append-nil (drop after (get_or cs last []))))
 
 -- taken out between two chunks
 pub between : (cs one two three : List (List KeptLine)) (first before last after size : ℕ) → first < last → last < length cs → one ≡ set cs last (drop after (get_or cs last [])) → size ≡ length (get_or one first []) → two ≡ set one first (take before (get_or one first []) ++ drop size (get_or one first [])) → three ≡ take (first + 1) two ++ drop last two → three ≡ take first cs ++ (take before (get_or cs first []) ∷ drop after (get_or cs last []) ∷ drop (last + 1) cs)
@@ -145,17 +145,17 @@ between cs one two three first before last after size h inside one_is size_is tw
     cc (append_assoc (take first cs) (Y ∷ []) (X ∷ drop (last + 1) cs))
 
 -- two seams that are found are in order
-pub seams_in_order : (cs : List (List KeptLine)) (p q k i l j : ℕ) → IsPlace cs p k i → IsPlace cs q l j → p ≤ q → (p ≡ 0 → k ≡ 0) → (0 < p → 0 < i) → k ≤ l
-seams_in_order cs p q k i l j here there le first after =
+pub seams_in_order : {cs : List (List KeptLine)} {p q k i l j : ℕ} → IsPlace cs p k i → IsPlace cs q l j → p ≤ q → (p ≡ 0 → k ≡ 0) → (0 < p → 0 < i) → k ≤ l
+seams_in_order {cs} {p} {q} {k} {i} {l} here there le first after =
     let order : l + 1 ≤ k → length (all_of (take (l + 1) cs)) ≤ length (all_of (take k cs)) = λ h.
     begins_in_order cs (l + 1) k h in
     let size = size_at cs l in
     grind (arith, order, here.place_is, there.place_is, there.offset_within, le, first, after, size)
 
 -- the elements that a vector gave one after the other are its elements
-pub drained : {X Z : Type 0} (s : IntoIter X Z) (xs all : List X) → Drains (into_iter_steps {X = X} {Z = Z}) s xs → into_iter_items s ≡ all → into_iter_len s ≡ length all → xs ≡ all
-drained s xs all d items many = sym (map-id xs) ∙ items_from_drains xs (d.1.0, d.1.1, λ _. (d.0, d.1.2)) (YieldsList-from_vec {s = s} all items many)
+pub drained : {X Z : Type 0} (s : IntoIter X Z) {all : List X} (xs : List X) → Drains (into_iter_steps {X = X} {Z = Z}) s xs → into_iter_items s ≡ all → into_iter_len s ≡ length all → xs ≡ all
+drained s {all} xs d items many = sym (map-id xs) ∙ items_from_drains xs (d.1.0, d.1.1, λ _. (d.0, d.1.2)) (YieldsList-from_vec {s = s} all items many)
 
 -- a chunk without lines goes
-pub without_empty : (cs new : List (List KeptLine)) (k : ℕ) → length (get_or cs k []) ≡ 0 → new ≡ take k cs ++ drop (k + 1) cs → all_of new ≡ all_of cs
-without_empty cs new k none is = cc (joined-append (take k cs) (drop (k + 1) cs), all_at cs k, ap (λ g. g ++ all_of (drop (k + 1) cs)) (nil_from_length (get_or cs k []) none))
+pub without_empty : {new : List (List KeptLine)} (cs : List (List KeptLine)) (k : ℕ) → length (get_or cs k []) ≡ 0 → new ≡ take k cs ++ drop (k + 1) cs → all_of new ≡ all_of cs
+without_empty cs k none is = cc (joined-append (take k cs) (drop (k + 1) cs), all_at cs k, ap (λ g. g ++ all_of (drop (k + 1) cs)) (nil_from_length (get_or cs k []) none))

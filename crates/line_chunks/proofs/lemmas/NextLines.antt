@@ -29,8 +29,8 @@ other_kind true false h = refl
 other_kind false true h = refl
 other_kind false false h = cc
 
-pub passed_next : (xs : List KeptLine) (from k : ℕ) (b m : Bool) → ((i : ℕ) → from ≤ i → i < k → is_matched (get_or xs i no_line) ≡ not m) → b ≡ is_matched (get_or xs k no_line) → beq b m ≡ false → (i : ℕ) → from ≤ i → i < k + 1 → is_matched (get_or xs i no_line) ≡ not m
-passed_next xs from k b m so_far is differs i le lt = elim (cases_lt i k) [
+pub passed_next : (xs : List KeptLine) (from k : ℕ) {b : Bool} (m : Bool) → ((i : ℕ) → from ≤ i → i < k → is_matched (get_or xs i no_line) ≡ not m) → b ≡ is_matched (get_or xs k no_line) → beq b m ≡ false → (i : ℕ) → from ≤ i → i < k + 1 → is_matched (get_or xs i no_line) ≡ not m
+passed_next xs from k {b} m so_far is differs i le lt = elim (cases_lt i k) [
   | inl early ↦ so_far i le early
   | inr late ↦ (
       let here : i ≡ k = omega arith in
@@ -87,8 +87,8 @@ module _ (es : List Entry) (place k offset from next : ℕ) (m : Bool) (e : Entr
       omega (arith, begins_within (chunks_of es) (k + 1))
 
 -- behind the last chunk all lines are passed
-pub all_passed : (es : List Entry) (place k offset : ℕ) → IsPlace (chunks_of es) place k offset → length es ≤ k → place ≡ length (all_of (chunks_of es))
-all_passed es place k offset is end =
+pub all_passed : (es : List Entry) {place k offset : ℕ} → IsPlace (chunks_of es) place k offset → length es ≤ k → place ≡ length (all_of (chunks_of es))
+all_passed es {k = k} is end =
     let past : length (chunks_of es) ≤ k = omega (arith, length-chunks_of es) in
     let none = ap length (get_or_past (chunks_of es) k [] past) in
     omega (arith, all_taken (chunks_of es) k past)

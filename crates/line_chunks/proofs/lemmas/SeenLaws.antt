@@ -52,8 +52,8 @@ matched_seen k (text ∷ texts) found =
     let all = ap (λ n. paired_before n found.pairs) same in
     omega (arith, matched_seen (suc k) texts found)
 
-pub hits_seen : (texts : List Text) (found : FoundIn) (hits : ℕ) → found.size ≡ length texts → hits ≡ paired_before found.size found.pairs → hits ≡ matched_count (seen texts found)
-hits_seen texts found hits size is =
+pub hits_seen : (texts : List Text) (found : FoundIn) {hits : ℕ} → found.size ≡ length texts → hits ≡ paired_before found.size found.pairs → hits ≡ matched_count (seen texts found)
+hits_seen texts found size is =
     let all = matched_seen 0 texts found in
     let same : 0 + length texts ≡ found.size = omega arith in
     let here = ap (λ n. paired_before n found.pairs) same in
@@ -71,11 +71,11 @@ seen_without k p (text ∷ texts) f g each = cc (each k, seen_without (suc k) p 
 pub seen_same : (texts : List Text) (f g : FoundIn) → f.size ≡ length texts → ((k : ℕ) → k < f.size → finds_at g k ≡ finds_at f k) → seen texts g ≡ seen texts f
 seen_same texts f g size old = seen_moved 0 0 texts g f (λ i h. (let at : 0 + i ≡ i = omega arith in cc (old i (omega arith))))
 
-pub line_added : (texts new : List Text) (text : Text) (f g : FoundIn) → f.size ≡ length texts → new ≡ texts ++ text ∷ [] → ((k : ℕ) → k < f.size → finds_at g k ≡ finds_at f k) → finds_at g f.size ≡ no_finds → seen new g ≡ seen texts f ++ new_line text ∷ []
-line_added texts new text f g size is old last = let here : 0 + length texts ≡ f.size = omega arith in cc (seen-append 0 texts (text ∷ []) g, seen_same texts f g size old)
+pub line_added : {new : List Text} (texts : List Text) (text : Text) (f g : FoundIn) → f.size ≡ length texts → new ≡ texts ++ text ∷ [] → ((k : ℕ) → k < f.size → finds_at g k ≡ finds_at f k) → finds_at g f.size ≡ no_finds → seen new g ≡ seen texts f ++ new_line text ∷ []
+line_added texts text f g size is old last = let here : 0 + length texts ≡ f.size = omega arith in cc (seen-append 0 texts (text ∷ []) g, seen_same texts f g size old)
 
-pub part_added : (texts new others : List Text) (f g h : FoundIn) (from to : ℕ) → f.size ≡ length texts → to ≤ length others → from ≤ to → new ≡ texts ++ take (to - from) (drop from others) → ((k : ℕ) → k < f.size → finds_at g k ≡ finds_at f k) → ((k : ℕ) → k < to - from → finds_at g (f.size + k) ≡ finds_at h (from + k)) → seen new g ≡ seen texts f ++ take (to - from) (drop from (seen others h))
-part_added texts new others f g h from to size within order is old more =
+pub part_added : {new : List Text} (texts others : List Text) (f g h : FoundIn) (from to : ℕ) → f.size ≡ length texts → to ≤ length others → from ≤ to → new ≡ texts ++ take (to - from) (drop from others) → ((k : ℕ) → k < f.size → finds_at g k ≡ finds_at f k) → ((k : ℕ) → k < to - from → finds_at g (f.size + k) ≡ finds_at h (from + k)) → seen new g ≡ seen texts f ++ take (to - from) (drop from (seen others h))
+part_added texts others f g h from to size within order is old more =
     let xs = take (to - from) (drop from others) in
     let many : length xs ≤ to - from = omega (arith, length-take (to - from) (drop from others)) in
     let moved : (i : ℕ) → i < length xs → finds_at g (0 + length texts + i) ≡ finds_at h (0 + from + i) = λ i inside.
@@ -86,8 +86,8 @@ part_added texts new others f g h from to size within order is old more =
 
 -- ---- lines are removed
 
-pub lines_removed : (texts new : List Text) (f g : FoundIn) (from to : ℕ) → from ≤ to → to ≤ length texts → new ≡ take from texts ++ drop to texts → ((k : ℕ) → k < from → finds_at g k ≡ finds_at f k) → ((k : ℕ) → finds_at g (from + k) ≡ finds_at f (to + k)) → seen new g ≡ take from (seen texts f) ++ drop to (seen texts f)
-lines_removed texts new f g from to order within is before after =
+pub lines_removed : {new : List Text} (texts : List Text) (f g : FoundIn) (from to : ℕ) → from ≤ to → to ≤ length texts → new ≡ take from texts ++ drop to texts → ((k : ℕ) → k < from → finds_at g k ≡ finds_at f k) → ((k : ℕ) → finds_at g (from + k) ≡ finds_at f (to + k)) → seen new g ≡ take from (seen texts f) ++ drop to (seen texts f)
+lines_removed texts f g from to order within is before after =
     let size : length (take from texts) ≡ from = omega (arith, length-take from texts) in
     let same : (i : ℕ) → i < length (take from texts) → finds_at g (0 + i) ≡ finds_at f (0 + i) = λ i h.
     (let at : 0 + i ≡ i = omega arith in
@@ -121,8 +121,8 @@ module _ (lines : List Text) (found : FoundIn) {kept : List KeptLine} (view : se
 
 -- ---- as many findings as lines
 
-pub size_removed : (texts new : List Text) (f g : FoundIn) (from to : ℕ) → from ≤ to → to ≤ length texts → f.size ≡ length texts → new ≡ take from texts ++ drop to texts → g.size ≡ f.size - (to - from) → g.size ≡ length new
-size_removed texts new f g from to order within size is less = omega (arith, ap length is, length-append (take from texts) (drop to texts), length-take from texts, length-drop to texts)
+pub size_removed : {new : List Text} (texts : List Text) (f g : FoundIn) (from to : ℕ) → from ≤ to → to ≤ length texts → f.size ≡ length texts → new ≡ take from texts ++ drop to texts → g.size ≡ f.size - (to - from) → g.size ≡ length new
+size_removed texts f g from to order within size is less = omega (arith, ap length is, length-append (take from texts) (drop to texts), length-take from texts, length-drop to texts)
 
-pub size_added : (texts new others : List Text) (f g : FoundIn) (from to : ℕ) → f.size ≡ length texts → to ≤ length others → from ≤ to → new ≡ texts ++ take (to - from) (drop from others) → g.size ≡ f.size + (to - from) → g.size ≡ length new
-size_added texts new others f g from to size within order is more = omega (arith, ap length is, length-append texts (take (to - from) (drop from others)), length-take (to - from) (drop from others), length-drop from others)
+pub size_added : {new : List Text} (texts others : List Text) (f g : FoundIn) (from to : ℕ) → f.size ≡ length texts → to ≤ length others → from ≤ to → new ≡ texts ++ take (to - from) (drop from others) → g.size ≡ f.size + (to - from) → g.size ≡ length new
+size_added texts others f g from to size within order is more = omega (arith, ap length is, length-append texts (take (to - from) (drop from others)), length-take (to - from) (drop from others), length-drop from others)

@@ -114,8 +114,8 @@ module _ (es ds fs : List Entry) (k lines hits : ℕ) (old : Entry) (h : k < len
   pub stay_same : (new : Entry) → new ≡ record { chunk = old.chunk; end = lines + length old.chunk; hits = hits + matched_count old.chunk } → chunks_of (set es k new) ≡ chunks_of es
   stay_same new is = chunks_stay es k new old h (cc)
 
-  pub summed_here : (new : Entry) → IsSummedTo es k → new ≡ record { chunk = old.chunk; end = lines + length old.chunk; hits = hits + matched_count old.chunk } → IsSummedTo (set es k new) (k + 1)
-  summed_here new s is = rw is (summed_set es k (record { chunk = old.chunk; end = lines + length old.chunk; hits = hits + matched_count old.chunk }) h s.summed (omega (arith, lines_here)) (omega (arith, hits_here)))
+  pub summed_here : {new : Entry} → IsSummedTo es k → new ≡ record { chunk = old.chunk; end = lines + length old.chunk; hits = hits + matched_count old.chunk } → IsSummedTo (set es k new) (k + 1)
+  summed_here s is = rw is (summed_set es k (record { chunk = old.chunk; end = lines + length old.chunk; hits = hits + matched_count old.chunk }) h s.summed (omega (arith, lines_here)) (omega (arith, hits_here)))
 
 -- chunks between which a place is are in order
 pub comes_before : (es : List Entry) (low high place : ℕ) → length (all_of (take low (chunks_of es))) ≤ place → place < length (all_of (take high (chunks_of es))) → high ≤ length es → low ≤ length es
@@ -129,23 +129,23 @@ comes_before es low high place first last inside =
 pub matched_within : (xs : List KeptLine) (k : ℕ) → matched_count (take k xs) ≤ k
 matched_within xs k = omega (arith, matched_few (take k xs), length-take k xs)
 
-pub matched_next : (xs : List KeptLine) (k count one : ℕ) (b : Bool) → k < length xs → count ≡ matched_count (take k xs) → b ≡ is_matched (get_or xs k no_line) → one ≡ (if b then 1 else 0) → count + one ≡ matched_count (take (k + 1) xs)
-matched_next xs k count one b h is read one_is =
+pub matched_next : (xs : List KeptLine) {count one : ℕ} (k : ℕ) {b : Bool} → k < length xs → count ≡ matched_count (take k xs) → b ≡ is_matched (get_or xs k no_line) → one ≡ (if b then 1 else 0) → count + one ≡ matched_count (take (k + 1) xs)
+matched_next xs k h is read one_is =
     let x = get_or xs k no_line in
     let all = ap matched_count (take_more xs k no_line h) in
     let sum = matched-append (take k xs) (x ∷ []) in
     let last = one_is ∙ ap (λ m. if m then 1 else 0) read in
     omega arith
 
-pub matched_to : (es : List Entry) (place k i before count : ℕ) (e : Entry) → k < length es → e ≡ get_or es k e → IsPlace (chunks_of es) place k i → before ≡ matched_count (all_of (take k (chunks_of es))) → count ≡ matched_count (take i e.chunk) → before + count ≡ matched_count (take place (all_of (chunks_of es)))
-matched_to es place k i before count e h read is first here =
+pub matched_to : (es : List Entry) {place k i before count : ℕ} {e : Entry} → k < length es → e ≡ get_or es k e → IsPlace (chunks_of es) place k i → before ≡ matched_count (all_of (take k (chunks_of es))) → count ≡ matched_count (take i e.chunk) → before + count ≡ matched_count (take place (all_of (chunks_of es)))
+matched_to es {k = k} {i = i} {e = e} h read is first here =
     let chunk : e.chunk ≡ get_or (chunks_of es) k [] = cc (chunk_at es k e h) in
-    let all = ap matched_count (take_seam _ _ k i is) in
+    let all = ap matched_count (take_seam is) in
     let sum = matched-append (all_of (take k (chunks_of es))) (take i (get_or (chunks_of es) k [])) in
     let last = here ∙ ap (λ lines. matched_count (take i lines)) chunk in
     omega arith
 
 -- ---- the line at a place that was found in a slice of the entries
 
-pub line_found : (ds es : List Entry) (place k i : ℕ) (e : Entry) → ds ≡ es → k < length ds → i < length (get_or (chunks_of ds) k []) → IsPlace (chunks_of ds) place k i → e ≡ get_or es k e → get_or e.chunk i no_line ≡ get_or (all_of (chunks_of es)) place no_line
-line_found ds es place k i e same h within is read = cc (chunk_at es k e (omega (arith, ap length same)), line_of _ _ k i no_line is within)
+pub line_found : {ds es : List Entry} {place k i : ℕ} {e : Entry} → ds ≡ es → k < length ds → i < length (get_or (chunks_of ds) k []) → IsPlace (chunks_of ds) place k i → e ≡ get_or es k e → get_or e.chunk i no_line ≡ get_or (all_of (chunks_of es)) place no_line
+line_found {ds} {es} {place} {k} {i} {e} same h within is read = cc (chunk_at es k e (omega (arith, ap length same)), line_of _ _ k i no_line is within)

@@ -1,10 +1,5 @@
 -- Runs of the branches of a choice, one of which each of its matches contains.
-use Rattle.re_needle.proofs.Prelude.{◌≡◌, ℕ, ◌+◌, inl, inr, Bool, true, false, ◌&&◌, IsTrue, List, [], ◌∷◌, ◌++◌, Any, AllZip, length, drop, refl, sym, ap, subst, ◌∙◌, arith, Bytes, Text, Expression, alt, RunIsAt, get_or, Holds, RunIsNeeded, RunBegins, IsJustRun, IsNeedleOf, IsRunOf, Needle, runs_of, front_of, most_sets, false≢true, take-append-drop, append-nil, length-append, RunStandsAt, one_run}
-use Rattle.re_trees.proofs.lemmas.Decisions.{Any-first, Any-later, Any-cases, Any-none}
-use Rattle.re_runs.proofs.lemmas.RunLaws.{one_stands, one_is, front_stands}
-use Rattle.std.proofs.lemmas.List.{get_or_default}
-use Rattle.re_trees.proofs.lemmas.SomeOfJoined.{Any-single}
-use Rattle.re_needle.proofs.lemmas.NeedleLaws.{front_needed, one_between}
+use Rattle.{re_needle.proofs.{Prelude.{◌≡◌, ℕ, ◌+◌, inl, inr, Bool, ◌&&◌, IsTrue, List, [], ◌∷◌, ◌++◌, Any, AllZip, length, drop, refl, sym, ap, subst, ◌∙◌, arith, Bytes, Text, Expression, alt, RunIsAt, get_or, Holds, RunIsNeeded, RunBegins, IsJustRun, IsNeedleOf, IsRunOf, Needle, runs_of, front_of, most_sets, take-append-drop, take_all, length-take, RunStandsAt, one_run}, lemmas.NeedleLaws.{front_needed, one_between}}, re_trees.proofs.lemmas.{Decisions.{Any-first, Any-later, Any-cases, Any-none}, SomeOfJoined.Any-single}, re_runs.proofs.lemmas.RunLaws.{one_stands, one_is, front_stands}, std.proofs.lemmas.{Bool.and_parts, List.get_or_default}}
 
 module _ (first all : Bool) (line : Text) where
   -- a branch holds where the choice does, and has a run
@@ -32,8 +27,7 @@ module _ (first all : Bool) (choice : List (List Bytes)) (es : List Expression) 
   pub runs_needed : RunIsNeeded choice (alt es)
   runs_needed line i j within h =
       let (n, run, lt, at, (e, is, holds)) = branch_there first all line choice es i j each h in
-      let (k, low, some) = is.needed line i j within holds in
-      (k, low, (n, run, lt, at, one_between run line j k some))
+      let (k, low, some) = is.needed line i j within holds in (k, low, (n, run, lt, at, one_between _ _ j k some))
 
   pub runs_begin : IsTrue first → RunBegins choice (alt es)
   runs_begin reported line i j within h =
@@ -46,53 +40,31 @@ module _ (first all : Bool) (choice : List (List Bytes)) (es : List Expression) 
         let (n, run, lt, at, (e, is, holds)) = branch_there first all line choice es i j each h in
         (n, run, lt, at, Any-single (λ r. RunIsAt line i r × (j ≡ i + length r)) run ((is.just reported).stands line i j within holds));
     holds = λ line k n d lt there.
-        let own = get_or choice n d in
-        let at : get_or choice n own ≡ own = get_or_default choice n own d lt in
+        let own = get_or choice n d in let at = get_or_default choice n own d lt in
         let (run, e, same, is, holds) = branch_holds first all line (λ r. r ≡ own) choice es each (n, own, lt, at, refl) in
-        let just = is.just reported in
-        holds k (k + length own) (subst (λ r. Holds line e k (k + length r)) same (just.holds line k 0 run (omega arith) (subst (RunIsAt line k) (sym same) there)));
+        holds k (k + length own) (rw same at ((is.just reported).holds line k 0 run (omega arith) (rw same there)));
   }
 
 -- ---- a branch more
 
-weaker : (a b : Bool) → IsTrue (a && b) → IsTrue a
-weaker true b h = refl
-weaker false b h = h
-
-other : (a b : Bool) → IsTrue (a && b) → IsTrue b
-other true b h = h
-other false b h = absurd (false≢true h)
-
-run_more : (first all f g : Bool) (run : List Bytes) (e : Expression) → IsRunOf first all run e → IsRunOf (first && f) (all && g) run e
-run_more first all f g run e is = record {
-  needed = is.needed;
-  begins = λ reported. is.begins (weaker first f reported);
-  just = λ reported. is.just (weaker all g reported);
-}
-
 -- the runs of the branches before, and the first sets of the needle of the next
-pub branch_more : (first all f g : Bool) (choice : List (List Bytes)) (es : List Expression) (run : List Bytes) (e : Expression)
+pub branch_more : {f g : Bool} (first all : Bool) (choice : List (List Bytes)) (es : List Expression) {run : List Bytes} {e : Expression}
     → AllZip (IsRunOf first all) choice es → IsRunOf f g run e → AllZip (IsRunOf (first && f) (all && g)) (choice ++ run ∷ []) (es ++ e ∷ [])
-branch_more first all f g [] [] run e each is = (record { needed = is.needed; begins = λ r. is.begins (other first f r); just = λ r. is.just (other all g r) }, tt)
-branch_more first all f g [] (d ∷ es) run e each is = absurd each
-branch_more first all f g (r ∷ choice) [] run e each is = absurd each
-branch_more first all f g (r ∷ choice) (d ∷ es) run e (here, each) is = (run_more first all f g r d here, branch_more first all f g choice es run e each is)
-
-nothing_after : (front rest run : List Bytes) → run ≡ front ++ rest → length front ≡ length run → front ≡ run
-nothing_after front [] run is long = sym (is ∙ append-nil front)
-nothing_after front (x ∷ rest) run is long = absurd (let false : ⊥ = omega (arith, long, ap length is, length-append front (x ∷ rest)) in false)
+branch_more {f} {g} first all [] [] each is = (record { needed = is.needed; begins = λ r. is.begins (and_parts first f r).1; just = λ r. is.just (and_parts all g r).1 }, tt)
+branch_more first all [] (d ∷ es) each is = absurd each
+branch_more first all (r ∷ choice) [] each is = absurd each
+branch_more {f} {g} first all (r ∷ choice) (d ∷ es) {run} {e} (here, each) is = (record { needed = here.needed; begins = λ r. here.begins (and_parts first f r).0; just = λ r. here.just (and_parts all g r).0 }, branch_more first all choice es each is)
 
 -- of a needle for one run the first sets are a run of the branch
-pub front_of_branch : (e : Expression) (needle : Needle) (run front : List Bytes) (all : Bool) → IsNeedleOf e needle → runs_of needle.finder ≡ one_run run → front ≡ front_of run
+pub front_of_branch : (e : Expression) {needle : Needle} (run front : List Bytes) (all : Bool) → IsNeedleOf e needle → runs_of needle.finder ≡ one_run run → front ≡ front_of run
     → (IsTrue all → IsTrue needle.is_all × (length front ≡ length run)) → IsRunOf needle.is_first all front e
-front_of_branch e needle run front all of one is whole = record {
-  needed = front_needed front run e is (subst (λ r. RunIsNeeded r e) one of.needed);
+front_of_branch e run front all of one is whole = record {
+  needed = front_needed _ _ e is (rw one at of.needed);
   begins = λ reported line i j within h.
-      let rest = drop most_sets run in
-      let cut : run ≡ front ++ rest = sym (take-append-drop most_sets run) ∙ ap (λ f. f ++ rest) (sym is) in
+      let rest = drop most_sets run in let cut : run ≡ front ++ rest = cc (take-append-drop most_sets run) in
       one_stands front line i (front_stands line front rest i (one_is (front ++ rest) line i (subst (λ r. RunStandsAt line (one_run r) i) cut (subst (λ r. RunStandsAt line r i) one (of.first reported line i j within h)))));
   just = λ reported.
       let (its_all, long) = whole reported in
-      let same : front ≡ run = nothing_after front (drop most_sets run) run (sym (take-append-drop most_sets run) ∙ ap (λ f. f ++ drop most_sets run) (sym is)) long in
-      subst (λ r. IsJustRun (one_run r) e) (sym same) (subst (λ r. IsJustRun r e) one (of.all its_all));
+      let same : front ≡ run = is ∙ take_all most_sets run (omega (arith, ap length is, length-take most_sets run)) in
+      rw same (rw one at (of.all its_all));
 }

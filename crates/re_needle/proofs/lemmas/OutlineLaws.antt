@@ -1,19 +1,15 @@
 -- Outlines of expressions, and the runs of sets that they make needed.
-use Rattle.re_needle.proofs.Prelude.{◌≡◌, ℕ, zero, suc, ◌+◌, ◌-◌, ◌<◌, ◌≤◌, IsTrue, List, [], ◌∷◌, ◌++◌, length, map, take, drop, get_or, replicate, slice_index, Option, None, Some, Result, Ok, Err, IfOk, refl, sym, ap, ◌∙◌, subst, arith, append_assoc, length-append, length-drop, take-append-drop, length-map, append-nil, map-append, replicate_more, get_or_from_slice_get, slice_get-get_or, Bytes, Text, Expression, one_of, cat, repeat, expression_of, members, Holds, Turns, ByteSet, Tree, OutlineItem, one_run, RunIsAt, All, set_at, shown, MarkFits, Fits, AreSetMarks, IsOutline, AddsOutline, AddsTurns, RunIsNeeded, RunBegins, IsJustRun, branch_within}
-use Rattle.re_trees.proofs.lemmas.HoldsDecided.{Holds-le, Turns-le}
+use Rattle.{re_needle.proofs.{Prelude.{◌≡◌, ℕ, zero, suc, ◌+◌, ◌-◌, ◌<◌, ◌≤◌, IsTrue, List, [], ◌∷◌, ◌++◌, length, map, take, drop, get_or, replicate, slice_index, Option, None, Some, Result, Ok, Err, IfOk, refl, sym, ap, ◌∙◌, subst, arith, append_assoc, length-append, length-drop, take-append-drop, length-map, append-nil, map-append, replicate_more, get_or_from_slice_get, slice_get-get_or, Bytes, Text, Expression, one_of, cat, repeat, expression_of, members, Holds, Turns, ByteSet, Tree, OutlineItem, one_run, RunIsAt, All, set_at, shown, MarkFits, Fits, AreSetMarks, IsOutline, AddsOutline, AddsTurns, RunIsNeeded, RunBegins, IsJustRun, branch_within}, lemmas.NeededLaws.{cat_cut, parts_grown}}, std.proofs.lemmas.List.{nil_from_length, Elements.All-cons}, re_trees.proofs.lemmas.{HoldsDecided.{Holds-le, Turns-le}, Decisions.Any-first}, re_runs.proofs.lemmas.RunLaws.one_stands}
 use Rattle.re_needle.specs.declared.outline_item.OutlineItem.TheVariants as m
-use Rattle.re_trees.proofs.lemmas.Decisions.{Any-first}
-use Rattle.re_needle.proofs.lemmas.NeededLaws.{cat_cut, parts_grown}
-use Rattle.re_runs.proofs.lemmas.RunLaws.{one_stands}
 
 -- ---- marks one after another
 
 mark_le : (line : Text) (mark : Option Bytes) (i j : ℕ) → MarkFits line mark i j → i ≤ j
-mark_le line (Some set) i j h = omega (arith, h.3)
+mark_le line (Some set) i j h = omega arith
 mark_le line None i j h = h
 
 pub fits_le : (line : Text) (marks : List (Option Bytes)) (i j : ℕ) → Fits line marks i j → i ≤ j
-fits_le line [] i j same = omega (arith, same)
+fits_le line [] i j same = omega arith
 fits_le line (mark ∷ marks) i j (k, first, later) = omega (arith, mark_le line mark i k first, fits_le line marks k j later)
 
 fits_cut : (line : Text) (xs ys : List (Option Bytes)) (i j : ℕ) → Fits line (xs ++ ys) i j → (k : ℕ) × Fits line xs i k × Fits line ys k j
@@ -21,7 +17,7 @@ fits_cut line [] ys i j h = (i, refl, h)
 fits_cut line (x ∷ xs) ys i j (m, first, later) = let rest = fits_cut line xs ys m j later in (rest.0, (m, first, rest.1), rest.2)
 
 fits_join : (line : Text) (xs ys : List (Option Bytes)) (i k j : ℕ) → Fits line xs i k → Fits line ys k j → Fits line (xs ++ ys) i j
-fits_join line [] ys i k j same h = subst (λ n. Fits line ys n j) (sym same) h
+fits_join line [] ys i k j same h = rw same h
 fits_join line (x ∷ xs) ys i k j (m, first, later) h = (m, first, fits_join line xs ys m k j later h)
 
 pub sets_cut : (xs ys : List (Option Bytes)) → AreSetMarks (xs ++ ys) → AreSetMarks xs × AreSetMarks ys
@@ -38,75 +34,64 @@ abbrev TakesSets : Text → ℕ → List Bytes → Type 0
 TakesSets line k run = (j : ℕ) → j < length run → IsTrue (set_at run j (slice_index line (k + j)))
 
 one_more : (s : Bytes) (run : List Bytes) (line : Text) (i : ℕ) → IsTrue (s (slice_index line i)) → TakesSets line (i + 1) run → TakesSets line i (s ∷ run)
-one_more s run line i has takes zero below = let place : i ≡ i + 0 = omega arith in subst (λ n. IsTrue (s (slice_index line n))) place has
+one_more s run line i has takes zero below = let place : i ≡ i + 0 = omega arith in rw place at has
 one_more s run line i has takes (suc j) below =
-    let place : i + 1 + j ≡ i + suc j = omega arith in
-    subst (λ n. IsTrue (set_at run j (slice_index line n))) place (takes j (omega (arith, below)))
+    let place : i + 1 + j ≡ i + suc j = omega arith in rw place at (takes j (omega arith))
 
 taken : (line : Text) (run : List Bytes) (i j : ℕ) → Fits line (map Some run) i j → TakesSets line i run × (j ≡ i + length run)
-taken line [] i j same = (λ k below. absurd (omega (arith, below)), omega (arith, same))
+taken line [] i j same = (λ k below. absurd (omega arith), omega arith)
 taken line (s ∷ run) i j (k, (b, at, has, next), later) =
-    let rest = taken line run k j later in
-    let beyond : j ≡ k + length run = rest.1 in
+    let rest = taken line run k j later in let beyond : j ≡ k + length run = rest.1 in
     let here : slice_index line i ≡ b = get_or_from_slice_get line i b 0 at in
     (one_more s run line i (subst (λ x. IsTrue (s x)) (sym here) has) (subst (λ n. TakesSets line n run) next rest.0), omega (arith, beyond, next))
 
 sets_stand : (line : Text) (run : List Bytes) (i j : ℕ) → j ≤ length line → Fits line (map Some run) i j → RunIsAt line i run × (j ≡ i + length run)
 sets_stand line run i j within fits =
-    let (takes, end) = taken line run i j fits in
-    (record { fits = omega (arith, end, within); takes = takes }, end)
+    let (takes, end) = taken line run i j fits in (record { fits = omega arith; takes = takes }, end)
 
 take_fit : (line : Text) (run : List Bytes) (i : ℕ) → i + length run ≤ length line → TakesSets line i run → Fits line (map Some run) i (i + length run)
 take_fit line [] i fits takes = let same : i ≡ i + 0 = omega arith in same
 take_fit line (s ∷ run) i fits takes =
-    let place : i + 0 ≡ i = omega arith in
-    let end : i + 1 + length run ≡ i + suc (length run) = omega arith in
-    let has : IsTrue (s (slice_index line i)) = subst (λ n. IsTrue (s (slice_index line n))) place (takes 0 (omega arith)) in
+    let place : i + 0 ≡ i = omega arith in let end : i + 1 + length run ≡ i + suc (length run) = omega arith in
+    let has = rw place at (takes 0 (omega arith)) in
     let later : TakesSets line (i + 1) run =
-    λ j below. let next : i + suc j ≡ i + 1 + j = omega arith in subst (λ n. IsTrue (set_at run j (slice_index line n))) next (takes (suc j) (omega (arith, below))) in
+    λ j below. let next : i + suc j ≡ i + 1 + j = omega arith in rw next at (takes (suc j) (omega arith)) in
     (i + 1, (slice_index line i, slice_get-get_or line i 0 (omega (arith, fits)), has, refl), subst (λ n. Fits line (map Some run) (i + 1) n) end (take_fit line run (i + 1) (omega (arith, fits)) later))
 
-stands_fit : (line : Text) (run : List Bytes) (i : ℕ) → RunIsAt line i run → Fits line (map Some run) i (i + length run)
-stands_fit line run i is = take_fit line run i is.fits is.takes
+stands_fit : {line : Text} {run : List Bytes} (i : ℕ) → RunIsAt line i run → Fits line (map Some run) i (i + length run)
+stands_fit i is = take_fit _ _ i is.fits is.takes
 
 -- ---- outlines of parts and of wholes
 
 pub cat_join : (line : Text) (xs ys : List Expression) (i k j : ℕ) → Holds line (cat xs) i k → Holds line (cat ys) k j → Holds line (cat (xs ++ ys)) i j
-cat_join line [] ys i k j same h = subst (λ n. Holds line (cat ys) n j) (sym same) h
+cat_join line [] ys i k j same h = rw same h
 cat_join line (x ∷ xs) ys i k j (m, first, later) h = (m, first, cat_join line xs ys m k j later h)
 
-outline_one : (xs : List (Option Bytes)) (e : Expression) → IsOutline xs e → IsOutline xs (cat (e ∷ []))
-outline_one xs e is = record { fits = λ line i j (n, here, end). subst (λ x. Fits line xs i x) end (is.fits line i n here); holds = λ sets line i j f. (j, is.holds sets line i j f, refl) }
+outline_one : {xs : List (Option Bytes)} {e : Expression} → IsOutline xs e → IsOutline xs (cat (e ∷ []))
+outline_one is = record { fits = λ line i j (n, here, end). rw end at (is.fits line i n here); holds = λ sets line i j f. (j, is.holds sets line i j f, refl) }
 
-outline_join : (xs ys : List (Option Bytes)) (es fs : List Expression) → IsOutline xs (cat es) → IsOutline ys (cat fs) → IsOutline (xs ++ ys) (cat (es ++ fs))
-outline_join xs ys es fs front back = record {
+outline_join : {xs ys : List (Option Bytes)} (es fs : List Expression) → IsOutline xs (cat es) → IsOutline ys (cat fs) → IsOutline (xs ++ ys) (cat (es ++ fs))
+outline_join {xs} {ys} es fs front back = record {
   fits = λ line i j h.
       let (k, first, later) = cat_cut line es fs i j h in
       fits_join line xs ys i k j (front.fits line i k first) (back.fits line k j later);
   holds = λ sets line i j f.
-      let (k, first, later) = fits_cut line xs ys i j f in
-      let both = sets_cut xs ys sets in
+      let (k, first, later) = fits_cut line xs ys i j f in let both = sets_cut xs ys sets in
       cat_join line es fs i k j (front.holds both.0 line i k first) (back.holds both.1 line k j later);
 }
 
 outline_set : (s : Bytes) → IsOutline (Some s ∷ []) (one_of s)
-outline_set s = record {
-  fits = λ line i j h. (j, h, refl);
-  holds = λ sets line i j (k, first, same). subst (λ n. Holds line (one_of s) i n) same first;
-}
+outline_set s = record { fits = λ line i j h. (j, h, refl); holds = λ sets line i j (k, first, same). rw same at first }
 
 outline_stretch : (e : Expression) → IsOutline (None ∷ []) e
 outline_stretch e = record { fits = λ line i j h. (j, Holds-le line e i j h, refl); holds = λ sets. absurd sets.0 }
 
-outline_repeat : (xs : List (Option Bytes)) (e : Expression) (least : ℕ) (most : Option ℕ) → 1 ≤ least → IsOutline xs e → IsOutline (xs ++ None ∷ []) (repeat e least most)
-outline_repeat xs e least most some part = record {
-  fits = λ line i j (n, within, turns). once line i j n within.0 turns;
-  holds = λ sets. absurd (sets_cut xs (None ∷ []) sets).1.0;
-}
+outline_repeat : (xs : List (Option Bytes)) {e : Expression} (least : ℕ) (most : Option ℕ) → 1 ≤ least → IsOutline xs e → IsOutline (xs ++ None ∷ []) (repeat e least most)
+outline_repeat xs {e} least most some part = record { fits = λ line i j (n, within, turns). once line i j n within.0 turns; holds = λ sets. absurd (sets_cut xs _ sets).1.0 }
   where
     once : (line : Text) (i j n : ℕ) → least ≤ n → Turns (Holds line e) n i j → Fits line (xs ++ None ∷ []) i j
-    once line i j zero low turns = absurd (omega (arith, low, some))
-    once line i j (suc n) low (k, first, later) = fits_join line xs (None ∷ []) i k j (part.fits line i k first) (j, Turns-le (Holds line e) (Holds-le line e) n k j later, refl)
+    once line i j zero low turns = absurd (omega arith)
+    once line i j (suc n) low (k, first, later) = fits_join _ xs _ i k j (part.fits line i k first) (j, Turns-le (Holds line e) (Holds-le line e) n k j later, refl)
 
 -- ---- a set that is repeated
 
@@ -117,31 +102,27 @@ turns_fit line s (suc n) i j (k, first, later) = (k, first, turns_fit line s n k
 
 all_fit : (line : Text) (s : Bytes) (n m i j : ℕ) → n ≤ m → Turns (Holds line (one_of s)) m i j → Fits line (map Some (replicate n s) ++ None ∷ []) i j
 all_fit line s zero m i j few turns = (j, Turns-le (Holds line (one_of s)) (Holds-le line (one_of s)) m i j turns, refl)
-all_fit line s (suc n) zero i j few turns = absurd (omega (arith, few))
-all_fit line s (suc n) (suc m) i j few (k, first, later) = (k, first, all_fit line s n m k j (omega (arith, few)) later)
+all_fit line s (suc n) zero i j few turns = absurd (omega arith)
+all_fit line s (suc n) (suc m) i j few (k, first, later) = (k, first, all_fit line s n m k j (omega arith) later)
 
 all_hold : (line : Text) (s : Bytes) (n i j : ℕ) → Fits line (map Some (replicate n s)) i j → Turns (Holds line (one_of s)) n i j
 all_hold line s zero i j same = same
 all_hold line s (suc n) i j (k, first, later) = (k, first, all_hold line s n k j later)
 
 outline_turns : (s : Bytes) (n least : ℕ) (most : Option ℕ) → n ≤ least → IsOutline (map Some (replicate n s) ++ None ∷ []) (repeat (one_of s) least most)
-outline_turns s n least most few = record {
-  fits = λ line i j (m, within, turns). all_fit line s n m i j (omega (arith, few, within.0)) turns;
-  holds = λ sets. absurd (sets_cut (map Some (replicate n s)) (None ∷ []) sets).1.0;
-}
+outline_turns s n least most few = record { fits = λ line i j (m, within, turns). all_fit line s n m i j (omega arith) turns; holds = λ sets. absurd (sets_cut (map Some (replicate n s)) (None ∷ []) sets).1.0 }
 
 outline_just : (s : Bytes) (n : ℕ) → IsOutline (map Some (replicate n s)) (repeat (one_of s) n (Some n))
 outline_just s n = record {
   fits = λ line i j (m, within, turns).
-      let same : m ≡ n = omega (arith, within.0, within.1) in
-      turns_fit line s n i j (subst (λ x. Turns (Holds line (one_of s)) x i j) same turns);
+      let same : m ≡ n = omega arith in turns_fit line s n i j (rw same at turns);
   holds = λ sets line i j f. (n, (omega arith, omega arith), all_hold line s n i j f);
 }
 
 -- ---- what is added to the marks
 
 pub adds_set : (old new : List OutlineItem) (e : Expression) (set : ByteSet) → e ≡ one_of (members set) → new ≡ old ++ m.Set set ∷ [] → AddsOutline old e new
-adds_set old new e set is added = (m.Set set ∷ [], added, subst (λ x. IsOutline (Some (members set) ∷ []) x) (sym is) (outline_set (members set)))
+adds_set old new e set is added = (m.Set set ∷ [], added, rw is (outline_set _))
 
 pub adds_stretch : (old new : List OutlineItem) (e : Expression) → new ≡ old ++ m.Gap ∷ [] → AddsOutline old e new
 adds_stretch old new e added = (m.Gap ∷ [], added, outline_stretch e)
@@ -150,7 +131,7 @@ pub adds_repeat : (old middle new : List OutlineItem) (part e : Expression) (lea
 adds_repeat old middle new part e least most is some (more, same, outline) added = (
   more ++ m.Gap ∷ [],
   added ∙ ap (λ l. l ++ m.Gap ∷ []) same ∙ append_assoc old more (m.Gap ∷ []),
-  subst (λ x. IsOutline x e) (sym (map-append shown more (m.Gap ∷ []))) (subst (λ x. IsOutline (map shown more ++ None ∷ []) x) (sym is) (outline_repeat (map shown more) part least most some outline)),
+  rw (map-append shown more (m.Gap ∷ [])) (rw is (outline_repeat _ _ _ some outline)),
 )
 
 -- n marks of a set that is repeated at least n times, and a stretch
@@ -158,12 +139,12 @@ pub adds_least : (old middle new : List OutlineItem) (s : Bytes) (n least : ℕ)
 adds_least old middle new s n least most few (more, same, sets) added = (
   more ++ m.Gap ∷ [],
   added ∙ ap (λ l. l ++ m.Gap ∷ []) same ∙ append_assoc old more (m.Gap ∷ []),
-  subst (λ l. IsOutline l (repeat (one_of s) least most)) (sym (map-append shown more (m.Gap ∷ []) ∙ ap (λ l. l ++ None ∷ []) sets)) (outline_turns s n least most few),
+  rw (map-append shown more (m.Gap ∷ []) ∙ ap (λ l. l ++ None ∷ []) sets) (outline_turns s n _ _ few),
 )
 
 -- n marks of a set that is repeated exactly n times
-pub adds_just : (old new : List OutlineItem) (s : Bytes) (n least : ℕ) (most : Option ℕ) → n ≡ least → most ≡ Some least → AddsTurns old s n new → AddsOutline old (repeat (one_of s) least most) new
-adds_just old new s n least most same just (more, is, sets) = (
+pub adds_just : (old new : List OutlineItem) (s : Bytes) (n least : ℕ) {most : Option ℕ} → n ≡ least → most ≡ Some least → AddsTurns old s n new → AddsOutline old (repeat (one_of s) least most) new
+adds_just old new s n least same just (more, is, sets) = (
   more,
   is,
   subst (λ x. IsOutline (map shown more) (repeat (one_of s) least x)) (sym just)
@@ -171,8 +152,8 @@ adds_just old new s n least most same just (more, is, sets) = (
 )
 
 -- one mark of the set more
-pub adds_turn : (old middle new : List OutlineItem) (set : ByteSet) (n : ℕ) → AddsTurns old (members set) n middle → new ≡ middle ++ m.Set set ∷ [] → AddsTurns old (members set) (n + 1) new
-adds_turn old middle new set n (more, same, sets) added = (
+pub adds_turn : {new : List OutlineItem} (old middle : List OutlineItem) (set : ByteSet) (n : ℕ) → AddsTurns old (members set) n middle → new ≡ middle ++ m.Set set ∷ [] → AddsTurns old (members set) (n + 1) new
+adds_turn old middle set n (more, same, sets) added = (
   more ++ m.Set set ∷ [],
   added ∙ ap (λ l. l ++ m.Set set ∷ []) same ∙ append_assoc old more (m.Set set ∷ []),
   map-append shown more (m.Set set ∷ []) ∙ ap (λ l. l ++ Some (members set) ∷ []) sets ∙ sym (map-append Some (replicate n (members set)) (members set ∷ [])) ∙ ap (map Some) (replicate_more n (members set)),
@@ -181,22 +162,22 @@ adds_turn old middle new set n (more, same, sets) added = (
 pub adds_more : (old middle new : List OutlineItem) (parts : List Tree) (i : ℕ) (part : Tree) → i < length parts → part ≡ get_or parts i part
     → AddsOutline old (cat (map expression_of (take i parts))) middle → AddsOutline middle (expression_of part) new → AddsOutline old (cat (map expression_of (take (i + 1) parts))) new
 adds_more old middle new parts i part lt is (xs, first, front) (ys, second, back) =
-    let grown = parts_grown parts i part lt is in (
+    let grown = parts_grown parts i lt is in (
       xs ++ ys,
       second ∙ ap (λ l. l ++ ys) first ∙ append_assoc old xs ys,
-      subst (λ l. IsOutline l (cat (map expression_of (take (i + 1) parts)))) (sym (map-append shown xs ys))
-          (subst (λ es. IsOutline (map shown xs ++ map shown ys) (cat es)) (sym grown) (outline_join (map shown xs) (map shown ys) (map expression_of (take i parts)) (expression_of part ∷ []) front (outline_one (map shown ys) (expression_of part) back))),
+      rw (map-append shown xs ys)
+          (rw grown (outline_join _ _ front (outline_one back))),
     )
 
 -- the marks of parts before an expression, its own, and those of parts after it
-pub outline_around : (a b c d : List OutlineItem) (before : List Tree) (e : Expression) (after : List Tree) → a ≡ [] → AddsOutline a (cat (map expression_of before)) b → AddsOutline b e c → AddsOutline c (cat (map expression_of after)) d
+pub outline_around : {a : List OutlineItem} (b c d : List OutlineItem) (before : List Tree) (e : Expression) (after : List Tree) → a ≡ [] → AddsOutline a (cat (map expression_of before)) b → AddsOutline b e c → AddsOutline c (cat (map expression_of after)) d
     → IsOutline (map shown d) (branch_within before e after)
-outline_around a b c d before e after none (xs, one, front) (ys, two, here) (zs, three, back) =
-    let is : d ≡ xs ++ (ys ++ zs) = three ∙ ap (λ l. l ++ zs) (two ∙ ap (λ l. l ++ ys) (one ∙ ap (λ l. l ++ xs) none)) ∙ append_assoc xs ys zs in
-    let marks : map shown d ≡ map shown xs ++ (map shown ys ++ map shown zs) = ap (map shown) is ∙ map-append shown xs (ys ++ zs) ∙ ap (λ l. map shown xs ++ l) (map-append shown ys zs) in
+outline_around b c d before e after none (xs, one, front) (ys, two, here) (zs, three, back) =
+    let is : d ≡ xs ++ (ys ++ zs) = cc (two ∙ ap (λ l. l ++ ys) (one ∙ ap (λ l. l ++ xs) none), append_assoc xs ys zs) in
+    let marks : map shown d ≡ map shown xs ++ (map shown ys ++ map shown zs) = cc (map-append shown xs (ys ++ zs), map-append shown ys zs) in
     subst (λ l. IsOutline l (branch_within before e after)) (sym marks)
-    (outline_join (map shown xs) (map shown ys ++ map shown zs) (map expression_of before) (e ∷ map expression_of after) front
-    (outline_join (map shown ys) (map shown zs) (e ∷ []) (map expression_of after) (outline_one (map shown ys) e here) back))
+    (outline_join _ _ front
+    (outline_join (e ∷ []) (map expression_of after) (outline_one here) back))
 
 -- of a call that went well
 pub ok_with : {A E : Type 0} {P Q : Type 0} (r : Result A E) → (P → Q) → IfOk r (λ _. P) → IfOk r (λ _. Q)
@@ -207,47 +188,37 @@ ok_with (Err e) f h = tt
 
 module _ (marks : List (Option Bytes)) (e : Expression) (outline : IsOutline marks e) (run : List Bytes) (rest : List (Option Bytes)) (start : ℕ) (stands : drop start marks ≡ map Some run ++ rest) where
   cut : marks ≡ take start marks ++ (map Some run ++ rest)
-  cut = sym (take-append-drop start marks) ∙ ap (λ l. take start marks ++ l) stands
+  cut = cc (take-append-drop start marks)
 
   -- sets that are neighbours in the outline are needed
   pub run_needed : RunIsNeeded (one_run run) e
   run_needed line i j within h =
-      let (k, before, later) = fits_cut line (take start marks) (map Some run ++ rest) i j (subst (λ l. Fits line l i j) cut (outline.fits line i j h)) in
+      let (k, before, later) = fits_cut line (take start marks) (map Some run ++ rest) i j (rw cut at (outline.fits line i j h)) in
       let (n, here, beyond) = fits_cut line (map Some run) rest k j later in
-      let low : i ≤ k = fits_le line (take start marks) i k before in
-      let high : n ≤ j = fits_le line rest n j beyond in
+      let low : i ≤ k = fits_le line (take start marks) i k before in let high = fits_le line rest n j beyond in
       let found = sets_stand line run k n (omega (arith, high, within)) here in
-      let end : n ≡ k + length run = found.1 in
-      let near : k + length run ≤ j = omega (arith, end, high) in
+      let end : n ≡ k + length run = found.1 in let near : k + length run ≤ j = omega (arith, end, high) in
       (k, low, Any-first (λ r. RunIsAt line k r × (k + length r ≤ j)) run [] (found.0, near))
 
   -- and where they are the first sets each match begins with them
   pub run_begins : start ≡ 0 → RunBegins (one_run run) e
   run_begins first line i j within h =
-      let is : marks ≡ map Some run ++ rest = subst (λ n. drop n marks ≡ map Some run ++ rest) first stands in
-      let (n, here, beyond) = fits_cut line (map Some run) rest i j (subst (λ l. Fits line l i j) is (outline.fits line i j h)) in
-      one_stands run line i (sets_stand line run i n (omega (arith, fits_le line rest n j beyond, within)) here).0
+      let is = rw first at stands in
+      let (n, here, beyond) = fits_cut line (map Some run) rest i j (rw is at (outline.fits line i j h)) in
+      one_stands run line i (sets_stand _ _ i n (omega (arith, fits_le _ _ n j beyond)) here).0
 
   lengths : length marks - start ≡ length run + length rest
-  lengths = sym (length-drop start marks) ∙ ap length stands ∙ length-append (map Some run) rest ∙ ap (λ n. n + length rest) (length-map run Some)
+  lengths = cc (length-drop start marks, length-append (map Some run) rest, length-map run Some)
 
   -- where they are all of it, the expression holds exactly where they are
   pub just_run : 1 ≤ length run → length run ≡ length marks → IsJustRun (one_run run) e
-  just_run some all = record {
-    stands = λ line i j within h. Any-first (λ r. RunIsAt line i r × (j ≡ i + length r)) run [] (sets_stand line run i j within (subst (λ l. Fits line l i j) is (outline.fits line i j h)));
-    holds = holds;
-  }
+  just_run some all = record { stands = λ line i j within h. Any-first (λ r. RunIsAt line i r × (j ≡ i + length r)) run [] (sets_stand _ _ i j within (rw is at (outline.fits line i j h))); holds = holds }
     where
       first : start ≡ 0
-      first = omega (arith, lengths, some, all)
-
-      nothing_more : (xs : List (Option Bytes)) → length xs ≡ 0 → map Some run ++ xs ≡ map Some run
-      nothing_more [] none = append-nil (map Some run)
-      nothing_more (x ∷ xs) none = absurd (omega (arith, none))
+      first = omega (arith, lengths)
 
       is : marks ≡ map Some run
-      is = subst (λ n. drop n marks ≡ map Some run ++ rest) first stands ∙ nothing_more rest (omega (arith, lengths, some, all))
+      is = rw first at stands ∙ ap (λ xs. map Some run ++ xs) (nil_from_length rest (omega (arith, lengths))) ∙ append-nil (map Some run)
 
       holds : (line : Text) (k : ℕ) → All (λ r. RunIsAt line k r → Holds line e k (k + length r)) (one_run run)
-      holds line k zero d lt there = outline.holds (subst AreSetMarks (sym is) (all_sets run)) line k (k + length run) (subst (λ l. Fits line l k (k + length run)) (sym is) (stands_fit line run k there))
-      holds line k (suc n) d lt there = absurd (omega (arith, lt))
+      holds line k = All-cons (λ r. RunIsAt line k r → Holds line e k (k + length r)) run [] (λ there. outline.holds (rw is (all_sets run)) line k (k + length run) (rw is (stands_fit k there))) (λ n d lt. absurd (omega arith))

@@ -1,8 +1,7 @@
 -- A run of each branch of a choice, which may have parts before and after it.
-use Rattle.std.specs.Prelude.{Bool, IsTrue, List, ◌++◌, ◌∷◌, map}
-use Rattle.std.specs.List.{AllZip}
-use Rattle.re_trees.specs.{Bytes.Bytes, Expression.Expression, Expression.alt, Expression.cat}
-use Rattle.re_trees.specs.{Working.Trees.expression_of, declared.tree.Tree.Tree}
+use Rattle.std.specs.{Prelude.{Bool, IsTrue, List, ◌++◌, ◌∷◌, map}, List.AllZip}
+use Rattle.re_trees.specs.{declared.tree.Tree.Tree, Working.Trees.expression_of, Bytes.Bytes}
+use Rattle.re_trees.specs.Expression.{cat, alt, Expression}
 use Rattle.re_needle.specs.Working.Needles.{RunIsNeeded, RunBegins, IsJustRun}
 use Rattle.re_needle.specs.declared.choice_needle.BranchRuns.{BranchRuns}
 use Rattle.re_runs.specs.Working.Runs.{one_run, sets_of_each}

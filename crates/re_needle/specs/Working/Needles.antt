@@ -1,12 +1,11 @@
 -- Strings, and choices of runs of sets, that each stretch on which an expression holds contains.
-use Rattle.std.specs.Prelude.{◌≡◌, ℕ, ◌+◌, ◌≤◌, IsTrue, IfSome, All, Any, List, Option, length, ◌⊎◌, Bool, true, false, ⊤}
-use Rattle.re_trees.specs.Bytes.{Bytes, Text}
-use Rattle.re_trees.specs.Expression.{Expression, begin, cat_more, alt_more, repeat}
-use Rattle.re_trees.specs.Holds.{Holds}
-use Rattle.memchr.specs.Find.{OccursAt}
-use Rattle.re_needle.specs.declared.needle.Needle.{Needle}
-use Rattle.re_runs.specs.Working.Runs.{Runs, one_run, IsNoWider, RunIsAt, RunStandsAt, LacksRun, BeginsWithout}
-use Rattle.re_runs.specs.Working.Finders.{runs_of}
+use Rattle.std.specs.Prelude.{◌⊎◌, false, IfSome, List, ◌+◌, ℕ, ◌≤◌, Any, IsTrue, Bool, ⊤, true}
+use Rattle.std.specs.Prelude.{◌≡◌, length, All, Option}
+use Rattle.re_trees.specs.{Holds.Holds, Expression.{Expression, begin, cat_more, alt_more, repeat}}
+use Rattle.{re_trees.specs.Bytes.{Text, Bytes}, memchr.specs.Find.OccursAt}
+use Rattle.{re_needle.specs.declared.needle.Needle.Needle, re_runs.specs.Working.Finders.runs_of}
+use Rattle.re_runs.specs.Working.Runs.{Runs, one_run, IsNoWider, RunIsAt, RunStandsAt, LacksRun}
+use Rattle.re_runs.specs.Working.Runs.{BeginsWithout}
 
 -- the text is in the line between the places i and j
 abbrev pub StandsBetween : Text → Text → ℕ → ℕ → Type 0

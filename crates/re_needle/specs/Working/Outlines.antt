@@ -2,8 +2,8 @@
 -- anything.
 use Rattle.std.specs.Prelude.{◌≡◌, ℕ, ◌+◌, ◌<◌, ◌≤◌, ⊤, IsTrue, List, [], ◌∷◌, ◌++◌, length, map}
 use Rattle.std.specs.Prelude.{min, replicate, slice_get, Option, None, Some}
-use Rattle.re_trees.specs.{Bytes.Bytes, Bytes.Text, Expression.Expression, Expression.one_of}
-use Rattle.re_trees.specs.{Holds.Holds, Working.Trees.members}
+use Rattle.re_trees.specs.{Holds.Holds, Bytes.{Bytes, Text}, Working.Trees.members}
+use Rattle.re_trees.specs.Expression.{Expression, one_of}
 use Rattle.re_needle.specs.declared.outline_item.OutlineItem.{OutlineItem}
 use Rattle.re_runs.specs.Working.Runs.{set_at}
 use Rattle.re_needle.specs.declared.outline_item.OutlineItem.TheVariants as m

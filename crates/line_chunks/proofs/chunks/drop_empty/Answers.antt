@@ -2,7 +2,7 @@ use Rattle.line_chunks.proofs.{Prelude.{arith, ap, ◌+◌, length, get_or, [], 
 use Rattle.line_chunks.proofs.chunks.drop_empty.Goals as goal
 
 pub returns-clause-lines : goal.returns-clause-lines
-returns-clause-lines c = without_empty (chunks_of c.args.entries.now.items) _ c.args.k (omega (arith, ap (λ all. length (get_or (chunks_of all) c.args.k [])) c.deref.ensures.value)) (chunks_of-without c.args.entries.now.items _ c.args.k (c.args.k + 1) c.remove_chunks.ensures.items)
+returns-clause-lines c = without_empty (chunks_of c.args.entries.now.items) c.args.k (omega (arith, ap (λ all. length (get_or (chunks_of all) c.args.k [])) c.deref.ensures.value)) (chunks_of-without c.args.entries.now.items c.args.k (c.args.k + 1) c.remove_chunks.ensures.items)
 
 pub returns-then-k-len-clause-filled : goal.returns-then-k-len-clause-filled
 returns-then-k-len-clause-filled c = λ n order before after.
@@ -14,4 +14,4 @@ returns-then-size_at-gt0-clause-filled c = λ n order before after.
 
 pub returns-clause-filled : goal.returns-clause-filled
 returns-clause-filled c = λ n order before after.
-    dropped_at (chunks_of c.args.entries.now.items) c.args.k n order before after (omega (arith, length-chunks_of c.args.entries.now.items)) (chunks_of c.remove_chunks.new.entries.items) (chunks_of-without c.args.entries.now.items _ c.args.k (c.args.k + 1) c.remove_chunks.ensures.items)
+    dropped_at (chunks_of c.args.entries.now.items) c.args.k n order before after (omega (arith, length-chunks_of c.args.entries.now.items)) (chunks_of-without c.args.entries.now.items c.args.k (c.args.k + 1) c.remove_chunks.ensures.items)

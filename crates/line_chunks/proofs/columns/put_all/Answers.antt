@@ -9,7 +9,7 @@ loop-k-init c = record {
 }
 
 pub put_next-requires : goal.put_next-requires
-put_next-requires c = next_fits c.loop-k.entries.items (chunks_of c.args.entries.now.items) c.loop-k.k _ c.index_mut.result.now (omega arith) c.index_mut.ensures.value (into_iter_items c.args.found.now) _ c.loop-k.invariant.chunks (c.loop-k.invariant.many ∙ sym (length-chunks_of c.args.entries.now.items)) c.loop-k.invariant.rest c.requires
+put_next-requires c = next_fits c.loop-k.entries.items (chunks_of c.args.entries.now.items) c.loop-k.k _ c.index_mut.result.now (omega arith) c.index_mut.ensures.value (into_iter_items c.args.found.now) c.loop-k.invariant.chunks (c.loop-k.invariant.many ∙ sym (length-chunks_of c.args.entries.now.items)) c.loop-k.invariant.rest c.requires
 
 pub loop-k-preserved : goal.loop-k-preserved
 loop-k-preserved c =
@@ -17,7 +17,7 @@ loop-k-preserved c =
     let found = into_iter_items c.args.found.now in
     record {
       many = length-set es c.loop-k.k c.put_next.new.entry ∙ c.loop-k.invariant.many;
-      chunks = next_put es (chunks_of c.args.entries.now.items) c.loop-k.k _ c.put_next.new.entry (omega arith) c.index_mut.ensures.value found _ c.loop-k.invariant.chunks (c.loop-k.invariant.many ∙ sym (length-chunks_of c.args.entries.now.items)) c.loop-k.invariant.rest c.put_next.ensures.chunk;
+      chunks = next_put es (chunks_of c.args.entries.now.items) c.loop-k.k _ c.put_next.new.entry (omega arith) c.index_mut.ensures.value found c.loop-k.invariant.chunks (c.loop-k.invariant.many ∙ sym (length-chunks_of c.args.entries.now.items)) c.loop-k.invariant.rest c.put_next.ensures.chunk;
       rest = cc (c.put_next.ensures.rest, c.loop-k.invariant.rest, drop_drop c.loop-k.k found, add-one c.loop-k.k);
     }
 

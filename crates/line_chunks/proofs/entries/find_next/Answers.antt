@@ -23,7 +23,7 @@ loop-k-preserved c = record {
 }
 
 pub returns-clause-within : goal.returns-clause-within
-returns-clause-within c = omega (arith, all_passed c.args.entries.now _ _ _ c.loop-k.invariant.is (omega arith))
+returns-clause-within c = omega (arith, all_passed c.args.entries.now c.loop-k.invariant.is (omega arith))
 
 pub returns-clause-there : goal.returns-clause-there
-returns-clause-there c = λ more. absurd (omega (arith, all_passed c.args.entries.now _ _ _ c.loop-k.invariant.is (omega arith)))
+returns-clause-there c = λ more. absurd (omega (arith, all_passed c.args.entries.now c.loop-k.invariant.is (omega arith)))

@@ -8,9 +8,8 @@ matched_before-requires c =
 
 pub overflow_add-result : goal.overflow_add-result
 overflow_add-result c =
-    let is = matched_to c.args.entries.now c.args.place c.find_seam-chunk.result.0 c.find_seam-chunk.result.1
-    c.matched_before.result c.count_matched.result c.index-entries-chunk.result (c.find_seam-chunk.ensures.inside (omega arith)) c.index-entries-chunk.is c.find_seam-chunk.ensures.place c.matched_before.ensures c.count_matched.ensures in
+    let is = matched_to c.args.entries.now (c.find_seam-chunk.ensures.inside (omega arith)) c.index-entries-chunk.is c.find_seam-chunk.ensures.place c.matched_before.ensures c.count_matched.ensures in
     omega (arith, matched_within (all_of (chunks_of c.args.entries.now)) c.args.place)
 
 pub returns : goal.returns
-returns c = matched_to c.args.entries.now _ _ _ _ _ _ (c.find_seam-chunk.ensures.inside (omega arith)) c.index-entries-chunk.is c.find_seam-chunk.ensures.place c.matched_before.ensures c.count_matched.ensures
+returns c = matched_to c.args.entries.now (c.find_seam-chunk.ensures.inside (omega arith)) c.index-entries-chunk.is c.find_seam-chunk.ensures.place c.matched_before.ensures c.count_matched.ensures

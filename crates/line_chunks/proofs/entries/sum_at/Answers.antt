@@ -11,4 +11,4 @@ pub returns-clause-chunks : goal.returns-clause-chunks
 returns-clause-chunks c = stay_same _ _ _ c.args.k _ _ _ c.requires.there c.deref.ensures.value c.deref-2.ensures.value c.index_mut.ensures.value c.lines_before-lines.ensures c.matched_before-hits.ensures _ c.set_sums.ensures
 
 pub returns-clause-summed : goal.returns-clause-summed
-returns-clause-summed c = summed_here _ _ _ _ _ _ _ c.requires.there c.deref.ensures.value c.deref-2.ensures.value c.index_mut.ensures.value c.lines_before-lines.ensures c.matched_before-hits.ensures _ c.requires.summed c.set_sums.ensures
+returns-clause-summed c = summed_here _ _ _ _ _ _ _ c.requires.there c.deref.ensures.value c.deref-2.ensures.value c.index_mut.ensures.value c.lines_before-lines.ensures c.matched_before-hits.ensures c.requires.summed c.set_sums.ensures

@@ -4,12 +4,12 @@ use Rattle.line_chunks.proofs.new_chunks.build.Goals as goal
 pub returns-clause-filled : goal.returns-clause-filled
 returns-clause-filled c =
     let front = slice_range (get_or (chunks_of c.args.entries.now) c.args.seams.first []) 0 c.args.seams.before in
-    (adds_three _ _ _ front _ _ (rw c.new-fresh.ensures.items at c.in_ok-add_part.ensures) c.in_ok-add_all.ensures c.in_ok-add_part-2.ensures).1
+    (adds_three (rw c.new-fresh.ensures.items at c.in_ok-add_part.ensures) c.in_ok-add_all.ensures c.in_ok-add_part-2.ensures).1
 
 pub returns-clause-full : goal.returns-clause-full
 returns-clause-full c =
     let front = slice_range (get_or (chunks_of c.args.entries.now) c.args.seams.first []) 0 c.args.seams.before in
-    (adds_three _ _ _ front _ _ (rw c.new-fresh.ensures.items at c.in_ok-add_part.ensures) c.in_ok-add_all.ensures c.in_ok-add_part-2.ensures).2
+    (adds_three (rw c.new-fresh.ensures.items at c.in_ok-add_part.ensures) c.in_ok-add_all.ensures c.in_ok-add_part-2.ensures).2
 
 pub returns-clause-lines : goal.returns-clause-lines
 returns-clause-lines c =
@@ -21,4 +21,4 @@ returns-clause-lines c =
     let left = slice_range last c.args.seams.after c.size_at-size.result in
     let back = take_all (c.size_at-size.result - c.args.seams.after) (drop c.args.seams.after last)
     (omega (arith, length-drop c.args.seams.after last)) in
-    (adds_three _ _ _ (slice_range first 0 c.args.seams.before) _ _ (rw c.new-fresh.ensures.items at c.in_ok-add_part.ensures) c.in_ok-add_all.ensures c.in_ok-add_part-2.ensures).0 ∙ ap (λ n. take n first ++ (added ++ left)) before ∙ ap (λ t. take c.args.seams.before first ++ (added ++ t)) back
+    (adds_three (rw c.new-fresh.ensures.items at c.in_ok-add_part.ensures) c.in_ok-add_all.ensures c.in_ok-add_part-2.ensures).0 ∙ ap (λ n. take n first ++ (added ++ left)) before ∙ ap (λ t. take c.args.seams.before first ++ (added ++ t)) back

@@ -1,17 +1,13 @@
-use Rattle.re_needle.proofs.Prelude.{◌≡◌, ◌≤◌, ◌++◌, IsTrue, length, map, drop, nat_eq, Some, refl, ◌∙◌, arith, eqb-true, take_rest, drop-map, length-map, only, shown}
+use Rattle.re_needle.proofs.{Prelude.{◌≡◌, ◌≤◌, IsTrue, length, map, nat_eq, refl, ◌∙◌, arith, eqb-true, take_rest, drop-map, length-map, only, shown}, lemmas.NeedleLaws.run_is_needle}
 use Rattle.re_runs.specs.declared.run_finder.RunFinder.TheVariants as r
-use Rattle.re_needle.proofs.lemmas.NeedleLaws.{run_is_needle}
 use Rattle.re_needle.proofs.needle.text_needle.Goals as goal
 
 pub returns : goal.returns
 returns c =
-    let bytes = c.in_ok-bytes.bytes.items in
-    let marks = c.args.marks.now in
-    let run = rw take_rest at (c.in_ok-bytes.ensures) in
-    let stands : drop c.args.start (map shown marks) ≡ map Some (map only bytes) ++ run.0 = drop-map shown c.args.start marks ∙ run.1 in
-    let some : 1 ≤ length (map only bytes) = omega (arith, c.requires.some, c.if-len-least.false, c.len.ensures, length-map bytes only) in
+    let bytes = c.in_ok-bytes.bytes.items in let marks = c.args.marks.now in
+    let run = rw take_rest at (c.in_ok-bytes.ensures) in let stands = drop-map shown c.args.start marks ∙ run.1 in
+    let some : 1 ≤ length (map only bytes) = omega (arith, length-map bytes only) in
     let all : IsTrue (nat_eq c.len-2.result (length marks)) → length (map only bytes) ≡ length (map shown marks) =
-    λ reported. omega (arith, eqb-true c.len-2.result (length marks) reported, c.len-2.ensures, length-map bytes only, length-map marks shown) in
-    let first : IsTrue (nat_eq c.args.start 0) → c.args.start ≡ 0 = λ reported. eqb-true c.args.start 0 reported in
+    λ reported. omega (arith, eqb-true c.len-2.result (length marks) reported, length-map bytes only, length-map marks shown) in
     rw (c.in_ok-finder.ensures, c.new.ensures, c.deref-2.ensures.value)
-    (run_is_needle (map shown marks) (r.Text bytes) (nat_eq c.args.start 0) (nat_eq c.len-2.result (length marks)) c.if-not-is_all.is_common (map only bytes) run.0 c.args.start refl stands some first all)
+    (run_is_needle (map shown marks) (r.Text bytes) (nat_eq c.args.start 0) (nat_eq c.len-2.result (length marks)) c.if-not-is_all.is_common (map only bytes) run.0 c.args.start refl stands some (eqb-true c.args.start 0) all)

@@ -1,5 +1,4 @@
-use Rattle.grep_io.proofs.Prelude.{arith, rules}
-use Rattle.grep_io.proofs.lemmas.WriteLemmas.{written_further}
+use Rattle.grep_io.proofs.{Prelude.{arith, rules}, lemmas.WriteLemmas.written_further}
 use Rattle.grep_io.proofs.devices.push.push_most.Goals as goal
 
 pub loop-at-preserved : goal.loop-at-preserved

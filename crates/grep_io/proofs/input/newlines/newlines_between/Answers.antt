@@ -1,15 +1,13 @@
-use Rattle.grep_io.proofs.Prelude.{◌+◌, ◌-◌, length, ap, sym, ◌∙◌, arith, eq-eqb, eqb-true, is_byte, newline}
-use Rattle.memchr.proofs.lemmas.PlaceLemmas.{places_between-none, length-places_from, length-places_between-hit, length-places_between-miss}
-use Rattle.grep_io.proofs.input.newlines.newlines_between.Goals.{then-bytes-place-eq10, else-bytes-place-eq10}
+use Rattle.{grep_io.proofs.{Prelude.{◌+◌, ◌-◌, ap, sym, ◌∙◌, arith, eq-eqb, eqb-true, is_byte, newline}, input.newlines.newlines_between.Goals.{then-bytes-place-eq10, else-bytes-place-eq10}}, memchr.proofs.lemmas.PlaceLemmas.{places_between-none, length-places_from, length-places_between-hit, length-places_between-miss}}
 use Rattle.grep_io.proofs.input.newlines.newlines_between.Goals as goal
 
 pub places-init : goal.places-init
-places-init c = (omega arith, sym (ap length (places_between-none (is_byte newline) c.args.bytes.now c.args.from c.args.from (omega arith) (λ k a b. absurd (omega arith)))))
+places-init c = (omega arith, sym (rw (places_between-none (is_byte newline) c.args.bytes.now c.args.from c.args.from (omega arith) (λ k a b. absurd (omega arith)))))
 
 pub overflow_add-count : goal.overflow_add-count
 overflow_add-count c =
     let bound = length-places_from (is_byte newline) c.args.bytes.now c.args.from (c.places.place - c.args.from) in
-    omega (arith, bound, c.places.invariant.0, c.places.invariant.1, c.places-test.true, c.requires.few)
+    omega arith
 
 pub places-preserved : goal.places-preserved
 places-preserved c =

@@ -2,4 +2,4 @@ use Rattle.line_chunks.proofs.{Prelude.{◌∙◌, ap, get_or, no_line, all_of},
 use Rattle.line_chunks.proofs.kept.KeptLines.line.Goals as goal
 
 pub returns-clause-line : goal.returns-clause-line
-returns-clause-line g c = cc (c.line.ensures.line, line_found _ _ _ _ _ _ c.deref.ensures.value c.find_line-at.ensures.there c.find_line-at.ensures.within c.find_line-at.ensures.place c.index-entry.ensures ∙ ap (λ all. get_or (all_of all) c.args.place no_line) c.self.view_is)
+returns-clause-line g c = cc (c.line.ensures.line, line_found c.deref.ensures.value c.find_line-at.ensures.there c.find_line-at.ensures.within c.find_line-at.ensures.place c.index-entry.ensures ∙ ap (λ all. get_or (all_of all) c.args.place no_line) c.self.view_is)

@@ -1,6 +1,4 @@
-use Rattle.grep_io.proofs.Prelude.{[], ◌≤◌, ◌+◌, length, refl, sym, ap, ◌∙◌, arith, most_lines}
-use Rattle.re_trees.proofs.lemmas.LinesLaws.{all_none, lines_of-terminated}
-use Rattle.grep_io.proofs.lemmas.PassedLemmas.{count_block}
+use Rattle.{grep_io.proofs.{Prelude.{[], ◌≤◌, ◌+◌, length, refl, sym, ap, ◌∙◌, arith, most_lines}, lemmas.PassedLemmas.count_block}, re_trees.proofs.lemmas.LinesLaws.{all_none, lines_of-terminated}}
 use Rattle.grep_io.proofs.input.lines.Lines.ready_lines.Goals as goal
 
 pub returns-then-count-self : goal.returns-then-count-self

@@ -1,6 +1,4 @@
-use Rattle.grep_io.proofs.Prelude.{◌≡◌, ◌-◌, ◌<◌, ◌≤◌, ◌++◌, length, get_or, take, drop, slice_range, refl, sym, ap, ◌∙◌, length-take, subst, rules, arith, Text, newline, HasNoNewline, IsOneLineAndFew, Held}
-use Rattle.grep_io.proofs.lemmas.WindowLemmas.{one_line, at_failure}
-use Rattle.grep_io.proofs.lemmas.WindowBlocks.{fresh_ended, fresh_cut_off}
+use Rattle.grep_io.proofs.{Prelude.{◌≡◌, ◌≤◌, ◌++◌, length, slice_range, refl, ◌∙◌, length-take, rules, arith, Text}, lemmas.{WindowLemmas.{one_line, at_failure}, WindowBlocks.{fresh_ended, fresh_cut_off}}}
 use Rattle.grep_io.proofs.input.window.Window.refill.Goals as goal
 
 pub invariant_of-self-in-Some : goal.invariant_of-self-in-Some
@@ -11,17 +9,15 @@ invariant_of-self-in-Some g c =
     let full : length buffer ≡ 65536 = search rules in
     let bound : count ≤ length buffer = search rules in
     let same : c.deref-in-Some.result.now ≡ buffer = c.deref-in-Some.ensures.value in
-    let inside : last ≤ length (take count buffer) = subst (λ (b : Text). last ≤ length (take count b)) same c.lines_end-self-inside.ensures.within in
-    let ended : 0 < last → get_or (take count buffer) (last - 1) 0 ≡ newline =
-    subst (λ (b : Text). 0 < last → get_or (take count b) (last - 1) 0 ≡ newline) same c.lines_end-self-inside.ensures.ended in
-    let cut_off : HasNoNewline (drop last (take count buffer)) =
-    subst (λ (b : Text). HasNoNewline (drop last (take count b))) same c.lines_end-self-inside.ensures.cut_off in
-    let before_end : last ≤ count = omega (arith, inside, length-take count buffer) in
+    let inside = rw same at c.lines_end-self-inside.ensures.within in
+    let ended = rw same at c.lines_end-self-inside.ensures.ended in
+    let cut_off = rw same at c.lines_end-self-inside.ensures.cut_off in
+    let before_end : last ≤ count = omega (arith, length-take count buffer) in
     record {
       full = full;
       ordered = omega arith;
       before_end = before_end;
-      within = omega (arith, full, bound);
+      within = omega arith;
       ended = fresh_ended buffer last count before_end ended;
       cut_off = fresh_cut_off buffer last count before_end cut_off;
       shown_fits = tt;
@@ -31,13 +27,11 @@ invariant_of-self-in-Some g c =
 pub returns-in_err-extend_from_slice-clause-err : goal.returns-in_err-extend_from_slice-clause-err
 returns-in_err-extend_from_slice-clause-err g c =
     let a = c.self.inside in
-    let same : c.extend_from_slice.new.self.items ++ slice_range a.buffer.items a.start a.end ≡ c.args.self.now.ahead =
-    ap (λ l. l ++ slice_range a.buffer.items a.start a.end) (◌∙◌ {A = Text} c.in_err-extend_from_slice.ensures.items c.empty_where_shown.ensures) ∙ ap (λ (h : Held). h.ahead) c.self.view_is in
+    let same : c.extend_from_slice.new.self.items ++ slice_range a.buffer.items a.start a.end ≡ c.args.self.now.ahead = cc (◌∙◌ {A = Text} c.in_err-extend_from_slice.ensures.items c.empty_where_shown.ensures, c.self.view_is) in
     at_failure c.from_residual.result _ (same, refl)
 
 pub returns-in_err-extend_from_slice-clause-err_few : goal.returns-in_err-extend_from_slice-clause-err_few
 returns-in_err-extend_from_slice-clause-err_few g c =
     let a = c.self.inside in
-    let same : c.extend_from_slice.new.self.items ++ slice_range a.buffer.items a.start a.end ≡ c.args.self.now.ahead =
-    ap (λ l. l ++ slice_range a.buffer.items a.start a.end) (◌∙◌ {A = Text} c.in_err-extend_from_slice.ensures.items c.empty_where_shown.ensures) ∙ ap (λ (h : Held). h.ahead) c.self.view_is in
-    at_failure c.from_residual.result _ (subst IsOneLineAndFew (sym same) (one_line c.args.self.now.ahead c.requires.no_line))
+    let same : c.extend_from_slice.new.self.items ++ slice_range a.buffer.items a.start a.end ≡ c.args.self.now.ahead = cc (◌∙◌ {A = Text} c.in_err-extend_from_slice.ensures.items c.empty_where_shown.ensures, c.self.view_is) in
+    at_failure c.from_residual.result _ (rw same (one_line c.args.self.now.ahead c.requires.no_line))
