@@ -1,13 +1,10 @@
 -- The words of specs and of std that proofs of this crate use, passed on from one place. Declares nothing.
 pub use Rattle.{
   grep_cmd.specs.Editor.{AreButTexts, ArePresent, EditorsFollow, EndsWithStatus, HaveTexts, IsHeld, IsHeldChange, IsHeldHit, IsHeldPart, IsOneReply, ListsAfter, ListsAfterAll, MayLackText, ReadsChanges, Took, bytes_of, has_status, read_change, read_hit},
-  grep_cmd.specs.Working.Reported.{LeavesReport, WritesHits, WritesReport},
-  grep_cmd.specs.Replies.{AnswersScript, AreShown, BeginsScript, GaveLines, HasAllButLast, IsAnswered, IsUpToReport, ReadsScript, Replies, RepliesTo, ReportsChanges, ReportsPage, ScriptGives, ScriptState, SearchesAtMost, Shows, bad_command, end_for, is_refusal, new_state, refused_for, reply_to, status_line, truncated, version_line, with_margin},
-}
-unfoldable pub use Rattle.grep_cmd.specs.Replies.{cause}
-pub use Rattle.{
-  grep_cmd.specs.Script.{IsBegun, IsStep, IsUnfinished, Step, Steps, does, is_bad, is_truncated, reports, reports_changes, reports_page, sets_text, text_after, tells_version},
+  grep_cmd.specs.Replies.{AnswersScript, AreShown, BeginsScript, GaveLines, HasAllButLast, IsAnswered, IsUpToReport, ReadsScript, Replies, RepliesTo, ReportsChanges, ReportsPage, ScriptGives, ScriptState, SearchesAtMost, Shows, bad_command, end_for, is_refusal, new_state, reply_to, status_line, truncated, version_line, with_margin},
+  grep_cmd.specs.Script.{IsBegun, IsStep, IsUnfinished, Step, Steps, does, is_bad, is_truncated, reports, reports_changes, reports_page, sets_text, tells_version, text_after},
   grep_cmd.specs.Working.Answered.{AnsweredSoFar, AnswersLine, AreDone, DoesStep, FlushesAfter, FlushesFor, HasRead, ReadsNext, Replied, TakesLines, WantsLines, answer_for, state_of, was_refused},
+  grep_cmd.specs.Working.Reported.{LeavesReport, WritesHits, WritesReport},
   grep_cmd.specs.declared.script.ScriptEnd.{ScriptEnd},
   grep_cmd.specs.declared.script.ScriptEnd.TheVariants.{Clean},
   grep_cmd.specs.declared.script.ScriptFault.{ScriptFault},
@@ -40,21 +37,15 @@ pub use Rattle.{
   grep_session.specs.Listed.{ListedParts},
   grep_session.specs.Marks.{AreFit, IsFit, MarksAfter, MarksGiven, Watched, all_known, changes_hits, mark_at},
   grep_session.specs.declared.fault.EditFault.{EditFault},
+  grep_utility.specs.Words.{number_of},
   line_marks.specs.Stretches.{Fits, Marked, lost, new_mark, whole_mark},
   line_marks.specs.declared.stretch.Stretch.{Stretch},
-  grep_utility.specs.Words.{number_of},
   re_syntax.specs.Bytes.{Text},
   re_syntax.specs.Expression.{Expression},
   re_syntax.specs.Lines.{HasNoNewline, joined},
-}
-unfoldable pub use Rattle.re_syntax.specs.Lines.{lines_of}
-pub use Rattle.{
   re_syntax.specs.Parts.{AreParts, ArePartsFrom},
   script_commands.specs.Commands.{Command, alone, asks_version, close_command, context_command, counts, drop_command, edits, file_command, flag_command, flag_of, from_number, line_command, lists_changes, lists_page, missing_command, name_of, page_command, pattern_command, patterns_command, shows, splice_command, switch_of, switches_text, syntax_command, syntax_of, text_command},
   script_commands.specs.Working.ReadCommands.{counted_meant, file_meant, line_meant},
-}
-unfoldable pub use Rattle.script_commands.specs.Commands.{asking_command, command_of, unnamed_command, words_of}
-pub use Rattle.{
   std.proofs.Common.{All, Bool, Err, IfErr, IsErr, List, MatchBool, None, Ok, Option, Result, Some, [], ap, append-nil, append_assoc, arith, bytes_eq, codes, cond, decimal, drop, eqb, false, flat_map, get_or, if◌then◌else◌, inl, inr, length, length-append, length-drop, length-set, length-take, lt-ltb, map, min, nat_eq, nat_le, nat_lt, ne_eqb, option_and_then, option_map, pow-suc, refl, remove, rules, slice_range, slice_set, subst, suc, sum_by, sym, take, take-take, take_at, true, true≢false, zero, ℕ, ◌%◌, ◌++◌, ◌+◌, ◌-◌, ◌/◌, ◌<◌, ◌^◌, ◌||◌, ◌∙◌, ◌∷◌, ◌≡◌, ◌≢◌, ◌≤◌, ◌⊎◌},
   std.proofs.lemmas.Bool.{cases_lt, or_parts, or_right},
   std.proofs.lemmas.Fmt.{decimal_is_IsNumeral_wide, length-decimal-le},
@@ -65,4 +56,9 @@ pub use Rattle.{
   std.specs.Fmt.{digit_glyph, digits_onto},
   std.specs.List.{AllZip, filter, list_any, splice},
   std.specs.Str.Parse.{digits_value},
+}
+unfoldable pub use Rattle.{
+  grep_cmd.specs.Replies.{cause},
+  re_syntax.specs.Lines.{lines_of},
+  script_commands.specs.Commands.{asking_command, command_of, unnamed_command, words_of},
 }

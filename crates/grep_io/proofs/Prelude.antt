@@ -17,9 +17,6 @@ pub use Rattle.{
   re_runs.specs.Working.Blocks.{IsBlock, PassesAll},
   re_trees.specs.Bytes.{Text},
   re_trees.specs.Lines.{HasNoNewline, newline, terminated},
-}
-unfoldable pub use Rattle.re_trees.specs.Lines.{ended_lines_of, lines_of}
-pub use Rattle.{
   std.proofs.Common.{All, Bool, Err, Fits, IfOk, IfSome, IsErr, List, MatchResult, None, Ok, OnErr, Option, Result, Some, [], ap, append-nil, append_assoc, arith, drop, drop-cons, drop-drop, eq-eqb, eqb, eqb-true, false, get_or, get_or-append-add, get_or-drop, if◌then◌else◌, inl, inr, le-leb, length, length-append, length-drop, length-take, length-take-le, lit≤, ltb-false, ltb-true, map, map-id, nat_le, nat_lt, refl, replicate, rules, slice_range, subst, suc, sym, take, take-append-drop, take-take, take_all, true, w16, w8, zero, zero-le, ℕ, ⊎_elim, ◌*◌, ◌++◌, ◌+◌, ◌-◌, ◌<◌, ◌==◌, ◌^◌, ◌∙◌, ◌∷◌, ◌≡◌, ◌≢◌, ◌≤◌, ◌⊎◌},
   std.proofs.KnownBytes.{Appends-kept, Appends-nil, Appends-trans, Consumes-kept, Consumes-nil, Consumes-trans, Keeps-refl, Keeps-trans, append_known-grown, append_known-moved, append_known-passed, prepend_known-nil, prepend_known-read},
   std.proofs.Math.Seq.{drop-append_seam, take-append-add, take-append_seam},
@@ -31,3 +28,4 @@ pub use Rattle.{
   std.specs.Prelude.{⊤},
   std.specs.Simd.Lanes.{Each1, sel_l, sum_l, zip2},
 }
+unfoldable pub use Rattle.re_trees.specs.Lines.{ended_lines_of, lines_of}

@@ -3,10 +3,10 @@ pub use Rattle.{
   grep_core.specs.Choose.{EachGives, IfHolds},
   grep_core.specs.Files.{AreMeant, File, HasSelected, Inputs, Mean, Selected},
   grep_core.specs.Messages.{AnySelected},
+  grep_core.specs.Options.{option_of, with_option},
   grep_core.specs.Output.{written},
   grep_core.specs.Row.{output_line},
   grep_core.specs.Run.{file_at},
-  grep_core.specs.Options.{option_of, with_option},
   grep_core.specs.Written.{GoesOut, StopsWithin, Writes},
   grep_core.specs.declared.options.Context.{Context},
   grep_core.specs.declared.options.Flag.{Flag},
@@ -34,12 +34,9 @@ pub use Rattle.{
   re_syntax.specs.Bytes.{Text},
   re_syntax.specs.Expression.{Expression},
   re_syntax.specs.Lines.{newline},
-}
-unfoldable pub use Rattle.re_syntax.specs.Lines.{list_of}
-pub use Rattle.{
   re_syntax.specs.Parts.{AreParts},
-  re_trees.specs.declared.span.Span.{Span},
   re_syntax.specs.declared.syntax.Syntax.{Syntax},
+  re_trees.specs.declared.span.Span.{Span},
   std.proofs.Common.{Bool, Decides, Err, IfOk, List, MatchBool, MatchOption, MatchResult, Ok, Option, Result, Some, [], ap, append-nil, append_assoc, arith, codes, cond, decimal, drop, drop-cons, drop-drop, false, filter, flat_map, get_or, get_or-append-add, get_or-drop, get_or-set_other, get_or-set_same, get_or-take, if◌then◌else◌, inl, inr, le-leb, le-ltb, length, length-append, length-drop, length-set, length-take, length-take-le, lt-ltb, map, min, nat_eq, nat_le, refl, remove, set, slice_range, slice_set, subst, suc, sym, take, take-add, take-append-drop, take_all, true, zero, ℕ, ◌&&◌, ◌++◌, ◌+◌, ◌-◌, ◌<◌, ◌^◌, ◌∙◌, ◌∷◌, ◌≡◌, ◌≤◌, ◌⊎◌},
   std.proofs.lemmas.Bool.{cases_eq, cases_lt},
   std.proofs.lemmas.Bool.Decides.{nat_tests},
@@ -48,3 +45,4 @@ pub use Rattle.{
   std.proofs.lemmas.List.Elements.{filter-append},
   std.specs.List.{AllZip, enumerate_from, splice},
 }
+unfoldable pub use Rattle.re_syntax.specs.Lines.{list_of}

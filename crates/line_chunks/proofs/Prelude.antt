@@ -10,9 +10,6 @@ pub use Rattle.{
   line_finds.specs.Working.Pieces.{all_items},
   re_trees.specs.Bytes.{Text},
   re_trees.specs.Lines.{HasNoNewline, newline, terminated},
-}
-unfoldable pub use Rattle.re_trees.specs.Lines.{lines_of}
-pub use Rattle.{
   std.proofs.Common.{All, Bool, Err, IfOk, List, None, Ok, OnErr, Option, Result, Some, [], add-one, add-zero, ap, append-nil, append_assoc, arith, drop, drop-drop, drop-set-lt, drop_at, eqb-true, false, get_or, get_or-append-add, get_or-set_other, if◌then◌else◌, inl, inr, length, length-append, length-drop, length-set, length-take, map, map-id, not, refl, rules, set, slice_range, suc, sym, take, take-add, take-append-drop, take-take, take_all, take_at, true, zero, ℕ, ◌++◌, ◌+◌, ◌-◌, ◌<◌, ◌==◌, ◌^◌, ◌∙◌, ◌∷◌, ◌≡◌, ◌≢◌, ◌≤◌},
   std.proofs.Math.Bool.{beq},
   std.proofs.Math.Seq.{drop-append-add, map-set_same, take-append-add},
@@ -26,3 +23,4 @@ pub use Rattle.{
   std.specs.Vec.Iter.{into_iter_items, into_iter_len, into_iter_steps},
   std.specs.declared.vec.IntoIter.{IntoIter},
 }
+unfoldable pub use Rattle.re_trees.specs.Lines.{lines_of}

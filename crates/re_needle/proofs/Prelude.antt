@@ -1,13 +1,13 @@
 -- The words of specs and of std that proofs of this crate use, passed on from one place. Declares nothing.
 pub use Rattle.{
-  re_runs.specs.Working.Blocks.{CountsMatched, FindsMatched, FindsNext, HoldsOfMany, Lacks, PassesAll, PassesUnmatched, StandsIn},
-  re_needle.specs.Working.Needles.{HasNoBegin, IsJustRun, IsNeeded, IsNeedleFor, IsNeedleOf, IsRunNeedleFor, IsSettled, RunBegins, RunIsNeeded, StandsBetween},
-  re_runs.specs.Working.Finders.{runs_of},
-  re_needle.specs.Working.Outlines.{AddsOutline, AddsSets, AddsTurns, AreJoined, AreSetMarks, BeginsWith, Fits, IsOutline, Leads, MarkFits, shown},
-  re_runs.specs.Working.Runs.{FindsRun, IsLongestRun, IsNoWider, LacksRun, RunIsAt, RunStandsAt, Runs, front_of, members_of, most_sets, one_run, set_at, sets_of_each},
   re_needle.specs.Working.Branches.{AreRunsOf, IsRunOf, branch_within, branches_within, choice_within},
+  re_needle.specs.Working.Needles.{HasNoBegin, IsJustRun, IsNeeded, IsNeedleFor, IsNeedleOf, IsRunNeedleFor, IsSettled, RunBegins, RunIsNeeded, StandsBetween},
+  re_needle.specs.Working.Outlines.{AddsOutline, AddsSets, AddsTurns, AreJoined, AreSetMarks, BeginsWith, Fits, IsOutline, Leads, MarkFits, shown},
   re_needle.specs.declared.needle.Needle.{Needle},
   re_needle.specs.declared.outline_item.OutlineItem.{OutlineItem},
+  re_runs.specs.Working.Blocks.{CountsMatched, FindsMatched, FindsNext, HoldsOfMany, Lacks, PassesAll, PassesUnmatched, StandsIn},
+  re_runs.specs.Working.Finders.{runs_of},
+  re_runs.specs.Working.Runs.{FindsRun, IsLongestRun, IsNoWider, LacksRun, RunIsAt, RunStandsAt, Runs, front_of, members_of, most_sets, one_run, set_at, sets_of_each},
   re_runs.specs.declared.run_finder.RunFinder.{RunFinder},
   re_trees.specs.Bytes.{Bytes, Text, nothing, only},
   re_trees.specs.Expression.{Expression, alt, byte, cat, one_of, repeat, sequence},
@@ -23,6 +23,5 @@ pub use Rattle.{
   std.proofs.lemmas.Grind.{get_or-set_at},
   std.proofs.lemmas.List.{drop-map, length-map, map-append, map-set, replicate_more, take_more, take_rest},
   std.proofs.lemmas.Option.{get_or_from_slice_get, slice_get-get_or},
-  std.specs.List.{take-map},
-  std.specs.List.{AllZip},
+  std.specs.List.{AllZip, take-map},
 }
