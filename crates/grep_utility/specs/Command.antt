@@ -1,21 +1,18 @@
 -- The whole command: what it writes for its words, and its exit status (XCU grep).
 use Rattle.std.specs.Prelude.{◌≡◌, ℕ, nat_lt, List, [], ◌∷◌, ◌++◌, ◌⊎◌, length, All, Option, Result}
 use Rattle.std.specs.Prelude.{Ok, Err, MatchBool, MatchResult}
-use Rattle.re_syntax.specs.{declared.fault.PatternFault.PatternFault, Bytes.Text}
-use Rattle.re_syntax.specs.{Expression.Expression, Profile.most_patterns}
-use Rattle.re_search.specs.Reading.{IsReadable}
+use Rattle.re_syntax.specs.{declared.fault.PatternFault.PatternFault, Profile.most_patterns}
+use Rattle.{re_syntax.specs.{Expression.Expression, Bytes.Text}, re_search.specs.Reading.IsReadable}
 use Rattle.grep_core.specs.declared.status.Status.TheVariants.{Selected, NoneSelected, Error}
-use Rattle.grep_core.specs.declared.status.RunFault.TheVariants.{Write, MessageWrite, Memory}
-use Rattle.grep_core.specs.{declared.options.Options.Options, Files.AreMeant, Reading.Source}
-use Rattle.grep_core.specs.{declared.status.Status.Status, declared.status.RunFault.RunFault}
-use Rattle.grep_core.specs.{Counted.one_more, Run.Writer, Run.Devices, Run.TakesAll, Run.TakesFront}
-use Rattle.grep_core.specs.{Run.count_more, Run.RunGives, Matchers.IsFirstRefused}
-use Rattle.grep_utility.specs.Patterns.{Unread, folder_after_all, GivePatterns, FirstUnread}
-use Rattle.grep_utility.specs.Patterns.{OneReaderEach}
-use Rattle.grep_utility.specs.{Folder.Folder, Folder.sources_named, Folder.searched}
-use Rattle.grep_utility.specs.{Texts.usage_texts, Texts.out_of_memory, Texts.write_error}
-use Rattle.grep_utility.specs.{Texts.too_many_patterns, Texts.pattern_refused, Words.Asked}
-use Rattle.grep_utility.specs.{Words.PatternsFrom, Words.read}
+use Rattle.grep_core.specs.declared.status.{Status.Status, RunFault.RunFault}
+use Rattle.grep_core.specs.declared.status.RunFault.TheVariants.{MessageWrite, Write, Memory}
+use Rattle.grep_core.specs.{declared.options.Options.Options, Files.AreMeant, Counted.one_more}
+use Rattle.grep_core.specs.Run.{RunGives, TakesAll, TakesFront, count_more, Devices, Writer}
+use Rattle.grep_core.specs.{Reading.Source, Matchers.IsFirstRefused}
+use Rattle.grep_utility.specs.{Words.{Asked, PatternsFrom, read}, Texts.usage_texts}
+use Rattle.grep_utility.specs.Texts.{out_of_memory, write_error, too_many_patterns, pattern_refused}
+use Rattle.grep_utility.specs.Patterns.{Unread, OneReaderEach, FirstUnread, GivePatterns}
+use Rattle.grep_utility.specs.{Patterns.folder_after_all, Folder.{sources_named, Folder, searched}}
 
 -- the exit status (XCU grep, EXIT STATUS)
 abbrev pub status_number : Status → ℕ

@@ -1,8 +1,7 @@
 -- The files that a command may name, and its standard input (XCU grep, OPERANDS and STDIN).
 use Rattle.std.specs.Prelude.{Bool, true, List, [], ◌∷◌, codes, bytes_eq, Option, Some}
 use Rattle.std.specs.Prelude.{if◌then◌else◌}
-use Rattle.re_syntax.specs.Bytes.{Text}
-use Rattle.grep_core.specs.Reading.{Source}
+use Rattle.{re_syntax.specs.Bytes.Text, grep_core.specs.Reading.Source}
 
 -- what is known of the files by their names, whether each can be opened and its bytes, and of the
 -- bytes that standard input has left

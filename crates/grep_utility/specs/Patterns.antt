@@ -1,11 +1,10 @@
 -- The patterns of a request (XCU grep, options `-e` and `-f`, and the operand pattern_list).
-use Rattle.std.specs.Prelude.{◌≡◌, ℕ, List, [], ◌∷◌, ◌++◌, ◌⊎◌, Option, Result, Ok, Err}
-use Rattle.re_syntax.specs.{Bytes.Text, Lines.list_of}
-use Rattle.grep_core.specs.{Files.File, Files.Ending, Files.whole, Files.missing, Files.broken}
-use Rattle.grep_core.specs.{Messages.cannot_open, Messages.read_error, Reading.Reading}
-use Rattle.grep_core.specs.{Reading.IsReadingOf, Reading.file_of, Reading.failures_of}
-use Rattle.grep_utility.specs.{Folder.Folder, Folder.source_named, Folder.after_use}
-use Rattle.grep_utility.specs.{Words.PatternsFrom, Words.list, Words.file}
+use Rattle.std.specs.Prelude.{◌⊎◌, Option, Ok, ◌++◌, [], Result, ◌≡◌, List, ℕ, ◌∷◌, Err}
+use Rattle.{re_syntax.specs.{Lines.list_of, Bytes.Text}, grep_core.specs.Messages.cannot_open}
+use Rattle.grep_core.specs.{Messages.read_error, Files.{File, Ending, whole, missing, broken}}
+use Rattle.grep_core.specs.Reading.{IsReadingOf, file_of, failures_of, Reading}
+use Rattle.grep_utility.specs.{Folder.{Folder, source_named, after_use}, Words.{PatternsFrom, list}}
+use Rattle.grep_utility.specs.Words.{file}
 use Rattle.grep_core.specs.Reading as reading
 
 -- a pattern file that was not read: the message on it, and how often the devices failed in it

@@ -1,12 +1,10 @@
 -- The fixed texts on standard error (XCU grep, STDERR).
-use Rattle.std.specs.Prelude.{ℕ, ◌+◌, List, [], ◌∷◌, ◌++◌, codes, encode_utf8}
-use Rattle.std.specs.Fmt.{decimal}
-use Rattle.re_syntax.specs.declared.fault.FaultKind.{FaultKind}
-use Rattle.re_syntax.specs.{declared.fault.PatternFault.PatternFault, Bytes.Text}
-use Rattle.grep_utility.specs.declared.words.UsageFault.TheVariants.{UnknownOption, MissingArgument}
-use Rattle.grep_utility.specs.declared.words.UsageFault.TheVariants.{BadNumber, TwoSyntaxes}
-use Rattle.grep_utility.specs.declared.words.UsageFault.TheVariants.{NoPattern, Memory}
-use Rattle.grep_utility.specs.declared.words.UsageFault.{UsageFault}
+use Rattle.std.specs.{Prelude.{List, ◌+◌, ◌∷◌, codes, [], ◌++◌, ℕ, encode_utf8}, Fmt.decimal}
+use Rattle.re_syntax.specs.declared.fault.{FaultKind.FaultKind, PatternFault.PatternFault}
+use Rattle.re_syntax.specs.Bytes.{Text}
+use Rattle.grep_utility.specs.declared.words.UsageFault.TheVariants.{MissingArgument, TwoSyntaxes}
+use Rattle.grep_utility.specs.declared.words.UsageFault.TheVariants.{Memory, BadNumber, NoPattern}
+use Rattle.grep_utility.specs.declared.words.UsageFault.{TheVariants.UnknownOption, UsageFault}
 use Rattle.re_syntax.specs.declared.fault.FaultKind.TheVariants as kind
 
 abbrev pub out_of_memory : Text

@@ -1,28 +1,24 @@
 -- The words of a command (XBD 12.2, Guidelines 3 to 7, 10, 11 and 13; XCU grep, OPTIONS and
 -- OPERANDS). An option after an operand is still an option, as GNU grep has it; Guideline 9 has
 -- all options before the operands.
-use Rattle.std.specs.Prelude.{ℕ, ◌-◌, ◌^◌, nat_eq, nat_lt, min, Bool, true, false, ◌&&◌}
-use Rattle.std.specs.Prelude.{if◌then◌else◌, List, [], ◌∷◌, ◌++◌, map, codes, bytes_eq, Option}
-use Rattle.std.specs.Prelude.{Some, None, Result, Ok, Err, String}
-use Rattle.std.specs.{List.list_all, Option.option_or, Option.unwrap_or, Str.byte, Str.chars}
-use Rattle.std.specs.{Str.encode_utf8_all, String.string_bytes}
+use Rattle.std.specs.{Str.{byte, chars, encode_utf8_all}, List.list_all, String.string_bytes}
+use Rattle.std.specs.{Prelude.{nat_lt, bytes_eq, String, codes}, Option.{unwrap_or, option_or}}
+use Rattle.std.specs.Prelude.{Bool, Some, Ok, false, if◌then◌else◌, [], ℕ, ◌++◌, true, None, map}
+use Rattle.std.specs.Prelude.{min, List, Option, Result, ◌&&◌, ◌∷◌, ◌-◌, Err, nat_eq, ◌^◌}
 use Rattle.re_trees.specs.declared.class.Class.TheVariants.{Digit}
-use Rattle.re_syntax.specs.declared.syntax.Syntax.TheVariants.{Basic, Extended, Fixed}
-use Rattle.re_syntax.specs.{Bytes.Text, Bytes.in_class, Intervals.value}
-use Rattle.re_syntax.specs.declared.syntax.Syntax.{Syntax}
+use Rattle.re_syntax.specs.declared.syntax.Syntax.{Syntax, TheVariants.{Basic, Extended, Fixed}}
+use Rattle.re_syntax.specs.{Bytes.{in_class, Text}, Intervals.value}
 use Rattle.grep_core.specs.declared.options.Flag.TheVariants.{Count, IgnoreCase, FilesWithMatches}
 use Rattle.grep_core.specs.declared.options.Flag.TheVariants.{LineNumber, OnlyMatching, Quiet}
 use Rattle.grep_core.specs.declared.options.Flag.TheVariants.{NoMessages, InvertMatch, LineRegexp}
-use Rattle.grep_core.specs.{declared.options.Context.Context, declared.options.Options.Options}
-use Rattle.grep_core.specs.{Options.no_options, Options.with_option, declared.options.Flag.Flag}
-use Rattle.grep_utility.specs.declared.words.UsageFault.TheVariants.{UnknownOption, MissingArgument}
-use Rattle.grep_utility.specs.declared.words.UsageFault.TheVariants.{BadNumber, TwoSyntaxes}
-use Rattle.grep_utility.specs.declared.words.UsageFault.TheVariants.{NoPattern}
-use Rattle.grep_utility.specs.declared.words.around.Side.TheVariants.{After, Before, Both}
-use Rattle.grep_utility.specs.declared.words.UsageFault.{UsageFault}
-use Rattle.grep_utility.specs.{declared.words.around.Side.Side, declared.words.around.Around.Around}
-use Rattle.grep_utility.specs.declared.words.tokens.Argument.{Argument}
-use Rattle.grep_utility.specs.declared.words.tokens.Meaning.{Meaning}
+use Rattle.grep_core.specs.declared.options.{Flag.Flag, Context.Context, Options.Options}
+use Rattle.grep_core.specs.Options.{no_options, with_option}
+use Rattle.grep_utility.specs.declared.words.tokens.{Argument.Argument, Meaning.Meaning}
+use Rattle.grep_utility.specs.declared.words.UsageFault.TheVariants.{TwoSyntaxes, BadNumber}
+use Rattle.grep_utility.specs.declared.words.UsageFault.TheVariants.{UnknownOption, NoPattern}
+use Rattle.grep_utility.specs.declared.words.UsageFault.{TheVariants.MissingArgument, UsageFault}
+use Rattle.grep_utility.specs.declared.words.around.Side.{Side, TheVariants.{Before, After, Both}}
+use Rattle.grep_utility.specs.declared.words.around.Around.{Around}
 use Rattle.grep_utility.specs.declared.words.tokens.Argument.TheVariants as argument
 use Rattle.grep_utility.specs.declared.words.tokens.Meaning.TheVariants as meaning
 

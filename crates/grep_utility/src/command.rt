@@ -1,19 +1,18 @@
 //! The whole command (XCU grep).
-ghost use Rattle.std.specs.Prelude.{◌≡◌, List};
-ghost use Rattle.re_search.specs.declared.matcher.Matcher.{Matcher};
+ghost use Rattle.std.specs.Prelude.{List, ◌≡◌};
 ghost use Rattle.re_search.specs.Working.Matchers.{AreAlike, expressions_of};
-ghost use Rattle.grep_core.specs.Run.{writer, devices};
-ghost use Rattle.grep_core.specs.Sources.{Returns};
-ghost use Rattle.grep_utility.specs.Command.{SearchEnds, CommandGives};
-ghost use Rattle.grep_utility.specs.Folder.{searched, sources_named};
-ghost use Rattle.grep_utility.specs.Words.{texts_of};
+ghost use Rattle.re_search.specs.declared.matcher.Matcher.{Matcher};
+ghost use Rattle.grep_core.specs.{Sources.Returns, Run.{writer, devices}};
+ghost use Rattle.grep_utility.specs.{Folder.{sources_named, searched}, Words.texts_of};
+ghost use Rattle.grep_utility.specs.Command.{CommandGives, SearchEnds};
 
 use crate::files::Files;
-use crate::message_texts::{end_search, report_fault, report_usage};
+use crate::message_texts::{end_search, write_command_fault};
 use crate::operands::Operands;
-use crate::prepare::{Task, prepare};
+use crate::prepare::prepare;
 use crate::texts::FAILED;
-use crate::words::read_words;
+use crate::usage::write_usage_fault;
+use crate::words::{Request, read_words};
 use grep_core::{CountedWrite, SearchRequest, Sources, search_all};
 use re_search::{Matcher, Meter};
 use std::alloc::Global;
@@ -39,7 +38,7 @@ impl Matchers for Vec<Matcher> {
 
 /// Searches sources, and returns the exit status.
 fn search_sources<S: Sources, L: Matchers, W: CountedWrite, N: CountedWrite>(
-    task: &Task<'_>,
+    search: &SearchRequest,
     matchers: &mut L,
     sources: &mut S,
     out: &mut W,
@@ -47,44 +46,45 @@ fn search_sources<S: Sources, L: Matchers, W: CountedWrite, N: CountedWrite>(
     meter: &mut Meter,
 ) -> u8
     requires in_order { S.stands_at sources.old 0 }
-    requires alike { AreAlike task.now.request.now.options.line_regexp (L.items matchers.old) }
+    requires alike { AreAlike search.now.options.line_regexp (L.items matchers.old) }
     ensures same_loan { S.loan sources.new ≡ S.loan sources.old }
-    ensures ends { SearchEnds (expressions_of (L.items matchers.old)) task.now.request.now.options
+    ensures ends { SearchEnds (expressions_of (L.items matchers.old)) search.now.options
         (S.listed sources.old) (Returns S.returned_readers sources.old sources.new)
         (devices (writer W.contents W.failures out.old) (writer N.contents N.failures messages.old)
         (S.failures sources.old) meter.old)
         (devices (writer W.contents W.failures out.new) (writer N.contents N.failures messages.new)
         (S.failures sources.new) meter.new) result }
 {
-    let search = SearchRequest {
-        alloc: task.alloc,
-        options: task.request.options,
-    };
-    let found = search_all(&search, sources, matchers.lend(), out, messages, meter);
+    let found = search_all(search, sources, matchers.lend(), out, messages, meter);
     end_search(messages, found)
 }
 
 /// Searches the files of a request, and returns the exit status.
 fn search_request<F: Files, W: CountedWrite, N: CountedWrite>(
-    task: &Task<'_>,
+    alloc: Global,
+    request: &Request,
     matchers: &mut Vec<Matcher>,
     files: &mut F,
     out: &mut W,
     messages: &mut N,
     meter: &mut Meter,
 ) -> u8
-    requires alike { AreAlike task.now.request.now.options.line_regexp matchers.old.items }
-    ensures { SearchEnds (expressions_of matchers.old.items) task.now.request.now.options
-        (sources_named (F.folder files.old) (searched (texts_of task.now.request.now.files.items)))
+    requires alike { AreAlike request.now.options.line_regexp matchers.old.items }
+    ensures { SearchEnds (expressions_of matchers.old.items) request.now.options
+        (sources_named (F.folder files.old) (searched (texts_of request.now.files.items)))
         (Returns F.returned_readers files.old files.new)
         (devices (writer W.contents W.failures out.old) (writer N.contents N.failures messages.old)
         (F.failures files.old) meter.old)
         (devices (writer W.contents W.failures out.new) (writer N.contents N.failures messages.new)
         (F.failures files.new) meter.new) result }
 {
-    files.begin_search(&task.request.options);
-    let mut operands = Operands::new(&mut *files, &task.request.files);
-    let status = search_sources(task, matchers, &mut operands, out, messages, meter);
+    files.begin_search(&request.options);
+    let search = SearchRequest {
+        alloc,
+        options: request.options,
+    };
+    let mut operands = Operands::new(&mut *files, &request.files);
+    let status = search_sources(&search, matchers, &mut operands, out, messages, meter);
     let _files = operands.into_files();
     status
 }
@@ -133,18 +133,16 @@ pub fn run_grep<F: Files, W: CountedWrite, M: CountedWrite>(
     let request = match read_words(alloc, words) {
         Ok(request) => request,
         Err(fault) => {
-            report_usage(messages, fault);
+            let _ = write_usage_fault(messages, fault);
             return FAILED;
         }
     };
-    let task = Task {
-        alloc,
-        request: &request,
-    };
-    match prepare(&task, files) {
-        Ok(mut matchers) => search_request(&task, &mut matchers, files, out, messages, meter),
+    match prepare(alloc, &request, files) {
+        Ok(mut matchers) => {
+            search_request(alloc, &request, &mut matchers, files, out, messages, meter)
+        }
         Err(fault) => {
-            report_fault(messages, fault);
+            let _ = write_command_fault(messages, fault);
             FAILED
         }
     }

@@ -1,9 +1,8 @@
 //! The files that a command may name.
 ghost use Rattle.std.specs.Prelude.{◌≡◌, ℕ, ⊤, List, [], ◌∷◌, Option, IfSome};
-ghost use Rattle.grep_core.specs.Run.{count_more};
-ghost use Rattle.grep_core.specs.Sources.{Opens, Returns};
-ghost use Rattle.grep_utility.specs.Folder.{Folder, file_named, input_used, is_standard, display_name};
-ghost use Rattle.grep_utility.specs.Folder.{source_named, after_use};
+ghost use Rattle.grep_core.specs.{Run.count_more, Sources.{Opens, Returns}};
+ghost use Rattle.grep_utility.specs.Folder.{Folder, file_named, input_used, is_standard};
+ghost use Rattle.grep_utility.specs.Folder.{display_name, source_named, after_use};
 
 use grep_core::{CountedRead, Options};
 

@@ -1,10 +1,8 @@
 //! Patterns that are searched for as one.
-ghost use Rattle.std.specs.Prelude.{◌≡◌, ◌+◌, ◌≤◌, Bool, List, All, [], ◌∷◌, ◌++◌};
-ghost use Rattle.std.specs.Prelude.{IsTrue, IfOk, map};
-ghost use Rattle.re_syntax.specs.Expression.{Expression, alt};
-ghost use Rattle.re_syntax.specs.Holds.{positions};
-ghost use Rattle.re_syntax.specs.Profile.{most_positions};
-ghost use Rattle.re_syntax.specs.Working.Trees.{expression_of};
+ghost use Rattle.std.specs.Prelude.{◌≡◌, ◌+◌, ◌≤◌, Bool, List, All, [], ◌∷◌, ◌++◌, IsTrue, IfOk};
+ghost use Rattle.std.specs.Prelude.{map};
+ghost use Rattle.re_syntax.specs.{Expression.{Expression, alt}, Holds.positions};
+ghost use Rattle.re_syntax.specs.{Profile.most_positions, Working.Trees.expression_of};
 ghost use Rattle.re_search.specs.Working.Patterns.{pattern_expression, meant_by, IsCounted};
 ghost use Rattle.grep_utility.specs.Working.ServingMatchers.{AreGrouped};
 
@@ -52,7 +50,8 @@ impl Groups {
             return self.choice.add(alloc, pattern, fold);
         }
         let matcher = pattern.into_matcher(alloc, fold, options.line_regexp, MOST_STATES)?;
-        self.push(matcher)
+        self.matchers.push(matcher)?;
+        Ok(())
     }
 
     // Whether the pattern joins the choice.
@@ -76,14 +75,6 @@ impl Groups {
         }
         let choice = replace(&mut self.choice, Choice::new(alloc));
         let matcher = choice.into_matcher(alloc, whole, MOST_STATES)?;
-        self.push(matcher)
-    }
-
-    fn push(&mut self, matcher: Matcher) -> Result<(), AllocError>
-        ensures pushed { IfOk result
-            (λ _. self.new.matchers.items ≡ self.old.matchers.items ++ matcher ∷ []) }
-        ensures same { self.new.choice ≡ self.old.choice }
-    {
         self.matchers.push(matcher)?;
         Ok(())
     }

@@ -1,6 +1,6 @@
 //! Laws of the definitions, each the contract of a function that does nothing.
 ghost use Rattle.grep_utility.specs.Working.Known.{CountDecides, WordsDecide};
-ghost use Rattle.grep_utility.specs.Working.Worked.{RowFollows, BrokenFollows};
+ghost use Rattle.grep_utility.specs.Working.Worked.{BrokenFollows, RowFollows};
 
 use grep_core::Options;
 

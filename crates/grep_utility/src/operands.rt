@@ -1,7 +1,6 @@
 //! The files that a command searches (XCU grep, OPERANDS).
 ghost use Rattle.std.specs.Prelude.{◌≡◌, ◌<◌, [], get_or, length};
-ghost use Rattle.grep_utility.specs.Folder.{searched};
-ghost use Rattle.grep_utility.specs.Words.{texts_of};
+ghost use Rattle.grep_utility.specs.{Folder.searched, Words.texts_of};
 
 use crate::files::{Files, display_name, open_named};
 use grep_core::Sources;

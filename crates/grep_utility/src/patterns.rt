@@ -1,43 +1,17 @@
 //! The patterns of a request (XCU grep, options `-e` and `-f`, and the operand pattern_list).
-ghost use Rattle.std.specs.Prelude.{◌≡◌, List, Option, [], ◌∷◌, ◌++◌, IfOk, IfErr, OnErr, Ok, Err, map};
-ghost use Rattle.re_syntax.specs.Bytes.{Text};
-ghost use Rattle.re_syntax.specs.Lines.{newline, lines_of};
-ghost use Rattle.grep_io.specs.declared.input.lines.Stage.{Stage};
-ghost use Rattle.grep_core.specs.Sources.{Returns};
-ghost use Rattle.grep_utility.specs.Folder.{source_named, after_use};
-ghost use Rattle.grep_utility.specs.Patterns.{GivesPatterns, folder_after, folder_after_all, GivePatterns};
-ghost use Rattle.grep_utility.specs.Patterns.{FirstUnread, OneReaderEach};
-ghost use Rattle.grep_utility.specs.declared.patterns.FileRead.{FileRead};
-ghost use Rattle.grep_utility.specs.Working.CollectedTexts.{AddsLines, ReadsFile, AddsSource, StopsFor};
-ghost use Rattle.grep_utility.specs.Working.Tokens.{given_source};
+ghost use Rattle.std.specs.Prelude.{IfErr, ◌≡◌, IfOk, Option, ◌++◌, List, OnErr, [], Err, ◌∷◌, map};
+ghost use Rattle.re_syntax.specs.{Bytes.Text, Lines.{newline, lines_of}};
+ghost use Rattle.{grep_io.specs.declared.input.lines.Stage.Stage, grep_core.specs.Sources.Returns};
+ghost use Rattle.grep_utility.specs.Patterns.{GivesPatterns, folder_after, folder_after_all};
+ghost use Rattle.grep_utility.specs.Patterns.{GivePatterns, FirstUnread, OneReaderEach};
+ghost use Rattle.grep_utility.specs.{Folder.after_use, Words.file, Working.Tokens.given_source};
+ghost use Rattle.grep_utility.specs.Working.CollectedTexts.{AddsLines, AddsSource, StopsFor};
 
 use crate::files::{Files, open_named};
+use crate::prepare::CommandFault;
 use crate::words::PatternSource;
 use grep_core::{CountedRead, Lines, ReadFault};
 use std::alloc::{AllocError, Global};
-
-/// How a pattern file was read.
-#[derive(Clone, Copy, Drop)]
-pub enum FileRead {
-    /// It could not be opened.
-    Missing,
-    /// A read failed, or there were more lines than can be numbered.
-    Broken,
-    /// To its end.
-    Whole,
-}
-
-/// Why the patterns of a request were not read.
-#[derive(Clone, Copy, Drop)]
-pub enum PatternsFault<'a> {
-    /// The pattern file that this word names could not be opened.
-    Missing(&'a str),
-    /// A read of the pattern file that this word names failed, or it has more lines than can be
-    /// numbered.
-    Broken(&'a str),
-    /// An allocation failed.
-    Memory,
-}
 
 /// Adds a text and a newline.
 fn add_text(texts: &mut Vec<u8>, text: &[u8]) -> Result<(), AllocError>
@@ -92,28 +66,31 @@ fn add_all_lines<R: CountedRead>(
 }
 
 /// Adds the lines of the pattern file that the word names.
-fn add_pattern_file<F: Files>(
+fn add_pattern_file<'a, F: Files>(
     alloc: Global,
     files: &mut F,
-    word: &str,
+    word: &'a str,
     texts: &mut Vec<u8>,
-) -> Result<FileRead, AllocError>
+) -> Result<(), CommandFault<'a>>
     ensures used { F.folder files.new ≡ after_use (F.folder files.old) word.now }
-    ensures back { result ≡ Ok FileRead.Whole →
-        (rest : Option Text) × Returns F.returned_readers files.old files.new (rest ∷ []) }
-    ensures ok { IfOk result (λ read. ReadsFile (source_named (F.folder files.old) word.now)
-        (F.failures files.old) (F.failures files.new) texts.old.items texts.new.items read) }
-    ensures err { OnErr result (F.failures files.new ≡ F.failures files.old) }
+    ensures back { IfOk result (λ _.
+        (rest : Option Text) × Returns F.returned_readers files.old files.new (rest ∷ [])) }
+    ensures ok { IfOk result (λ _.
+        AddsSource (F.folder files.old) (file word.now) texts.old.items texts.new.items
+        × (F.failures files.new ≡ F.failures files.old)) }
+    ensures err { IfErr result (λ fault. StopsFor
+        (λ unread. GivesPatterns (F.folder files.old) (file word.now) (Err unread))
+        (F.failures files.old) (F.failures files.new) fault) }
 {
     let Some(reader) = open_named(files, word) else {
-        return Ok(FileRead::Missing);
+        return Err(CommandFault::Missing(word));
     };
     let (reader, read) = add_all_lines(alloc, reader, texts);
     files.close(reader);
     match read {
-        Ok(true) => Ok(FileRead::Whole),
-        Ok(false) => Ok(FileRead::Broken),
-        Err(fault) => Err(fault),
+        Ok(true) => Ok(()),
+        Ok(false) => Err(CommandFault::Broken(word)),
+        Err(_) => Err(CommandFault::Memory),
     }
 }
 
@@ -123,45 +100,36 @@ fn add_source<'a, F: Files>(
     files: &mut F,
     source: &'a PatternSource,
     texts: &mut Vec<u8>,
-) -> Result<(), PatternsFault<'a>>
+) -> Result<(), CommandFault<'a>>
     ensures used { F.folder files.new ≡ folder_after (F.folder files.old) (given_source source.now) }
     ensures back { IfOk result (λ _. (left : List (Option Text))
         × OneReaderEach (given_source source.now ∷ []) left
         × Returns F.returned_readers files.old files.new left) }
-    ensures ok { IfOk result
-        (λ _.
-        AddsSource (F.folder files.old) (given_source source.now) texts.old.items texts.new.items) }
-    ensures none_failed { IfOk result (λ _. F.failures files.new ≡ F.failures files.old) }
-    ensures err { IfErr result
-        (λ fault.
-        StopsFor
+    ensures ok { IfOk result (λ _.
+        AddsSource (F.folder files.old) (given_source source.now) texts.old.items texts.new.items
+        × (F.failures files.new ≡ F.failures files.old)) }
+    ensures err { IfErr result (λ fault. StopsFor
         (λ unread. GivesPatterns (F.folder files.old) (given_source source.now) (Err unread))
         (F.failures files.old) (F.failures files.new) fault) }
 {
     match source {
         PatternSource::List(list) => match add_text(texts, list.as_bytes()) {
             Ok(()) => Ok(()),
-            Err(_) => Err(PatternsFault::Memory),
+            Err(_) => Err(CommandFault::Memory),
         },
-        PatternSource::File(word) => match add_pattern_file(alloc, files, word, texts) {
-            Ok(FileRead::Whole) => Ok(()),
-            Ok(FileRead::Missing) => Err(PatternsFault::Missing(word)),
-            Ok(FileRead::Broken) => Err(PatternsFault::Broken(word)),
-            Err(_) => Err(PatternsFault::Memory),
-        },
+        PatternSource::File(word) => add_pattern_file(alloc, files, word, texts),
     }
 }
 
 /// The patterns of all sources, in order, each followed by a newline.
 ///
-/// Nothing is read after the first file that could not be opened or read, which
-/// `PatternsFault::Missing` and `PatternsFault::Broken` report. `PatternsFault::Memory` is returned
-/// if an allocation fails.
+/// Nothing is read after the first file that could not be opened or read, which `Missing` and
+/// `Broken` report. `Memory` is returned if an allocation fails.
 pub fn read_patterns<'a, F: Files>(
     alloc: Global,
     files: &mut F,
     sources: &'a [PatternSource],
-) -> Result<Vec<u8>, PatternsFault<'a>>
+) -> Result<Vec<u8>, CommandFault<'a>>
     ensures back { IfOk result (λ _. (left : List (Option Text))
         × OneReaderEach (map given_source sources.now) left
         × Returns F.returned_readers files.old files.new left) }

@@ -1,8 +1,6 @@
 //! What a program does round its command: it reads its words, and reports its own faults.
 ghost use Rattle.std.specs.Prelude.{◌≡◌, [], ◌∷◌, IfErr};
-ghost use Rattle.grep_core.specs.Output.{written};
-ghost use Rattle.grep_core.specs.Run.{writer};
-ghost use Rattle.grep_core.specs.Written.{Writes};
+ghost use Rattle.grep_core.specs.{Output.written, Run.writer, Written.Writes};
 ghost use Rattle.grep_utility.specs.Command.{ReportsLines};
 
 use crate::message_texts::fail;

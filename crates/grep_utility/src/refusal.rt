@@ -1,11 +1,7 @@
 //! The line on a pattern that is refused (XCU grep, STDERR).
-ghost use Rattle.std.specs.Prelude.{◌≡◌, ◌+◌, ◌-◌, ◌^◌, ◌<◌, ◌++◌, [], ◌∷◌, codes};
-ghost use Rattle.std.specs.Fmt.{decimal};
-ghost use Rattle.grep_core.specs.Row.{output_line};
-ghost use Rattle.grep_core.specs.Written.{Writes};
-ghost use Rattle.grep_core.specs.Run.{writer};
-ghost use Rattle.grep_utility.specs.Command.{ReportsLines};
-ghost use Rattle.grep_utility.specs.Texts.{kind_name, pattern_refused};
+ghost use Rattle.std.specs.{Prelude.{◌≡◌, ◌++◌, []}, Fmt.decimal};
+ghost use Rattle.grep_core.specs.{Row.output_line, Written.Writes};
+ghost use Rattle.grep_utility.specs.Texts.{kind_name};
 
 use grep_core::{CountedWrite, WriteFault, push_all, write_count, write_decimal};
 use re_syntax::{FaultKind, PatternFault};
@@ -87,15 +83,4 @@ pub fn write_pattern_refused<W: CountedWrite>(
 {
     write_number_and_kind(out, front, number, before_kind, kind_name(fault.kind))?;
     write_count(out, before_place, None, fault.at as u64)
-}
-
-/// Reports a pattern that is refused, by its place, counted from 0. A write that fails is not
-/// tried again.
-pub fn report_refused<M: CountedWrite>(messages: &mut M, place: usize, fault: PatternFault)
-    requires { place < 2 ^ 64 - 1 }
-    ensures { ReportsLines (writer M.contents M.failures messages.old)
-        (writer M.contents M.failures messages.new) (pattern_refused place fault ∷ []) }
-{
-    let number = (place + 1) as u64;
-    let _ = write_pattern_refused(messages, b"grep: pattern ", number, b": ", fault, b" at ");
 }

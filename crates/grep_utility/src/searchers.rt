@@ -1,8 +1,7 @@
 //! The matchers of a search, for all patterns together.
-ghost use Rattle.std.specs.Prelude.{◌≡◌, ◌+◌, ◌^◌, ◌<◌, ◌≤◌, ◌⊎◌, [], ◌∷◌, nat_lt, Bool};
-ghost use Rattle.std.specs.Prelude.{IfOk, IfErr, IfSome, length, map};
-ghost use Rattle.re_syntax.specs.Lines.{lines_of};
-ghost use Rattle.re_search.specs.Reading.{IsOutOfMemory};
+ghost use Rattle.std.specs.Prelude.{◌≡◌, ◌+◌, ◌^◌, ◌<◌, ◌≤◌, ◌⊎◌, [], ◌∷◌, nat_lt, Bool, IfOk};
+ghost use Rattle.std.specs.Prelude.{IfErr, IfSome, length, map};
+ghost use Rattle.{re_syntax.specs.Lines.lines_of, re_search.specs.Reading.IsOutOfMemory};
 ghost use Rattle.grep_core.specs.Matchers.{IsFirstRefused};
 ghost use Rattle.grep_utility.specs.Working.ServingMatchers.{ServeFor, IsJoined, AreReadAs};
 ghost use Rattle.grep_utility.specs.Working.ServingMatchers.{AreStrings};

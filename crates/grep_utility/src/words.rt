@@ -1,9 +1,9 @@
 //! The words of grep, and what they ask for (XBD 12.2; XCU grep, SYNOPSIS, OPTIONS, OPERANDS).
-ghost use Rattle.std.specs.Prelude.{◌≡◌, [], IfOk, MatchResult};
-ghost use Rattle.grep_utility.specs.Words.{completed, context_of, file, list, may_follow, no_numbers};
-ghost use Rattle.grep_utility.specs.Words.{nothing_asked, pieces, reads_on, texts_of, with_context};
-ghost use Rattle.grep_utility.specs.Words.{with_operand, with_piece, with_source};
-ghost use Rattle.grep_utility.specs.Working.Tokens.{AreRead, OrMemory, asked, drafted, token_of};
+ghost use Rattle.std.specs.Prelude.{◌≡◌, [], ◌∷◌, ◌++◌, IfOk, MatchResult};
+ghost use Rattle.grep_utility.specs.Working.Tokens.{token_of, OrMemory, AreRead, drafted, asked};
+ghost use Rattle.grep_utility.specs.Words.{completed, context_of, may_follow, no_numbers};
+ghost use Rattle.grep_utility.specs.Words.{with_piece, nothing_asked, pieces, reads_on, texts_of};
+ghost use Rattle.grep_utility.specs.Words.{with_context};
 
 pub mod around;
 pub mod tokens;
@@ -76,36 +76,15 @@ fn goes_with(before: Syntax, syntax: Syntax) -> bool
     }
 }
 
+/// Adds an element.
+fn push<T: Drop>(list: &mut Vec<T>, element: T) -> Result<(), AllocError>
+    ensures { IfOk result (λ _. list.new.items ≡ list.old.items ++ element ∷ []) }
+{
+    list.push(element)?;
+    Ok(())
+}
+
 impl Request {
-    /// Adds an argument of `-e`.
-    fn add_list(&mut self, alloc: Global, text: &str) -> Result<(), AllocError>
-        ensures { IfOk result (λ _. asked self.new
-            ≡ with_source (list text.now) (asked self.old)) }
-    {
-        self.sources
-            .push(PatternSource::List(String::from_str(alloc, text)?))?;
-        Ok(())
-    }
-
-    /// Adds an argument of `-f`.
-    fn add_file(&mut self, alloc: Global, name: &str) -> Result<(), AllocError>
-        ensures { IfOk result (λ _. asked self.new
-            ≡ with_source (file name.now) (asked self.old)) }
-    {
-        self.sources
-            .push(PatternSource::File(String::from_str(alloc, name)?))?;
-        Ok(())
-    }
-
-    /// Adds an operand.
-    fn add_operand(&mut self, alloc: Global, text: &str) -> Result<(), AllocError>
-        ensures { IfOk result (λ _. asked self.new
-            ≡ with_operand text.now (asked self.old)) }
-    {
-        self.files.push(String::from_str(alloc, text)?)?;
-        Ok(())
-    }
-
     /// Without `-e` and `-f` the first operand is the pattern list.
     ///
     /// Returns `NoPattern` where there is none, and `Memory` if an allocation fails.
@@ -119,9 +98,7 @@ impl Request {
                 return Err(UsageFault::NoPattern);
             }
             let list = self.files.remove(0);
-            if self.sources.push(PatternSource::List(list)).is_err() {
-                return Err(UsageFault::Memory);
-            }
+            push(&mut self.sources, PatternSource::List(list))?;
         }
         Ok(self)
     }
@@ -183,10 +160,16 @@ impl Draft {
             Token::Flag(flag) => request.options.set(flag, true),
             Token::Syntax(syntax) if goes_with(request.syntax, syntax) => request.syntax = syntax,
             Token::Syntax(_) => return Err(UsageFault::TwoSyntaxes),
-            Token::List(text) => request.add_list(alloc, text)?,
-            Token::File(name) => request.add_file(alloc, name)?,
+            Token::List(text) => {
+                let list = String::from_str(alloc, text)?;
+                push(&mut request.sources, PatternSource::List(list))?
+            }
+            Token::File(name) => {
+                let name = String::from_str(alloc, name)?;
+                push(&mut request.sources, PatternSource::File(name))?
+            }
             Token::Around(side, count) => self.around.set(side, count),
-            Token::Operand(text) => request.add_operand(alloc, text)?,
+            Token::Operand(text) => push(&mut request.files, String::from_str(alloc, text)?)?,
         }
         Ok(())
     }

@@ -1,11 +1,5 @@
 -- A command on a file with a failed read, worked by hand.
-use Rattle.grep_utility.proofs.Prelude.{◌≡◌, ℕ, true, false, List, [], ◌∷◌, Option, Some, Ok, refl, sym, ap, ◌∙◌, subst, arith, ◌⊎◌, inl, inr, codes, false≢true, All-nil, All-cons, Basic, Text, byte, list_of, ended_lines_of, IsReadable, Options, no_options, Error, File, broken, HasSelected, FaultMet, Messages, StatusOf, Out, Source, Reading, fails_after, Steps, Writer, devices, Devices, files_of, Finishes, count_more, CommandGives, Folder, sources_named, FailuresAre, Wrote, ReportsMemory, HasReturned, list, read, word_of, meaning_of, broken_words, broken_text, broken_output, broken_messages, BrokenFollows}
-use Rattle.std.specs.Str.{chars}
-use Rattle.std.specs.Fmt.{digits}
-use Rattle.re_syntax.proofs.lemmas.Decisions.{Any-first}
-use Rattle.grep_utility.proofs.lemmas.FullLemmas.{few_counted, command_gives}
-use Rattle.grep_utility.proofs.lemmas.KnownLemmas.{one_broken}
-use Rattle.grep_utility.proofs.lemmas.WorkedLemmas.{es, a_meant, selected_a, not_selected, not_quiet}
+use Rattle.{grep_utility.proofs.{Prelude.{◌≡◌, ℕ, true, false, List, [], ◌∷◌, Option, Some, Ok, refl, sym, ap, ◌∙◌, subst, arith, ◌⊎◌, inl, inr, codes, false≢true, All-nil, All-cons, Basic, Text, byte, list_of, ended_lines_of, IsReadable, Options, no_options, Error, File, broken, HasSelected, FaultMet, Messages, StatusOf, Out, Source, Reading, fails_after, Steps, Writer, devices, Devices, files_of, Finishes, count_more, CommandGives, Folder, sources_named, FailuresAre, Wrote, ReportsMemory, HasReturned, list, read, word_of, meaning_of, broken_words, broken_text, broken_output, broken_messages, BrokenFollows}, lemmas.{FullLemmas.{few_counted, command_gives}, KnownLemmas.one_broken, WorkedLemmas.{es, a_meant, selected_a, not_selected, not_quiet}}}, std.specs.{Str.chars, Fmt.digits}, re_syntax.proofs.lemmas.Decisions.Any-first}
 
 abbrev broken_options : Options
 broken_options = record no_options { line_number = true }
@@ -76,6 +70,4 @@ module _ (folder : Folder) (opens : folder.opens (codes "f") ≡ Some true) (byt
       → before ≡ 0 → words ≡ broken_words → CommandGives folder given (devices out messages before steps) (devices new_out new_messages after new_steps) status words
       → FailuresAre 1 (devices out messages 0 steps) (devices new_out new_messages after new_steps) → Wrote broken_output broken_messages Error (devices out messages 0 steps) (devices new_out new_messages after new_steps) status ⊎ ReportsMemory messages new_messages
   broken_given given reported_too out messages new_out new_messages before after steps new_steps status words at_first same_words h counts =
-      let of_words = subst (λ ws. CommandGives folder given (devices out messages before steps) (devices new_out new_messages after new_steps) status ws) same_words h in
-      let from_none = subst (λ n. CommandGives folder given (devices out messages n steps) (devices new_out new_messages after new_steps) status broken_words) at_first of_words in
-      broken_gives folder opens bytes given reported_too (devices out messages 0 steps) (devices new_out new_messages after new_steps) status counts from_none
+      broken_gives folder opens bytes given reported_too (devices out messages 0 steps) (devices new_out new_messages after new_steps) status counts (rw (same_words, at_first) at h)

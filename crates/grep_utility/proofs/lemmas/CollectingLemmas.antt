@@ -1,7 +1,5 @@
 -- The buffered patterns, with one more line of a file at a time.
-use Rattle.grep_utility.proofs.Prelude.{◌≡◌, ℕ, ◌-◌, ◌<◌, true, false, List, [], ◌∷◌, ◌++◌, All, Option, Ok, Err, sym, ap, subst, ◌∙◌, append_assoc, append-nil, arith, length_push, All-append, Text, newline, terminated, HasNoNewline, Device, Stage, Open, Ended, Failed, most_lines, AreHanded, Numbered, HasHanded, NextIs, Adds, AddsLines}
-use Rattle.re_syntax.proofs.lemmas.LinesLaws.{terminated-append, AreLines-lines_of}
-use Rattle.grep_core.proofs.lemmas.NumberedLemmas.{has_handed_none}
+use Rattle.{grep_utility.proofs.Prelude.{◌≡◌, ℕ, ◌-◌, ◌<◌, true, false, List, [], ◌∷◌, ◌++◌, All, Option, Ok, Err, sym, ap, subst, ◌∙◌, append_assoc, append-nil, arith, length_push, All-append, Text, newline, terminated, HasNoNewline, Device, Stage, Open, Ended, Failed, most_lines, AreHanded, Bool, Result, ReadFault, Numbered, HasHanded, NextIs, Adds, AddsLines}, re_syntax.proofs.lemmas.LinesLaws.{terminated-append, AreLines-lines_of}, grep_core.proofs.lemmas.NumberedLemmas.has_handed_none}
 
 -- some patterns were added, and then others
 pub Adds-trans : (old mid new : Text) (ts us : List Text) → Adds old mid ts → Adds mid new us → Adds old new (ts ++ us)
@@ -32,26 +30,32 @@ module _ {R : Type 0} (remaining : R → Option Text) (failures : R → ℕ) whe
     added : Adds before mid s.lines
     added = record { bytes = s.bytes; no_newlines = free_lines old.lines.stage s.handed.hands.given s.lines s.handed.hands.are_handed }
 
+    -- what the next call gives
+    abbrev Gives : Result Bool ReadFault → Type 0
+    Gives r = (reader : R) (lines : List Text) → HasHanded remaining failures reader old lines → NextIs remaining failures reader lines new r
+
     -- one more line
-    pub so_far_line : (after line : Text) → NextIs remaining failures reader s.lines new (Ok true) → line ≡ new.lines.line → after ≡ mid ++ (line ++ newline ∷ []) → LinesSoFar reader new before after
+    pub so_far_line : (after line : Text) → Gives (Ok true) → line ≡ new.lines.line → after ≡ mid ++ (line ++ newline ∷ []) → LinesSoFar reader new before after
     so_far_line after line next is pushed =
         let beyond : after ≡ mid ++ terminated (new.lines.line ∷ []) = pushed ∙ ap (λ l. mid ++ (l ++ newline ∷ [])) is in
         record {
           lines = s.lines ++ new.lines.line ∷ [];
-          handed = next;
+          handed = next reader s.lines s.handed;
           bytes =
               beyond ∙ ap (λ l. l ++ terminated (new.lines.line ∷ [])) s.bytes ∙ append_assoc before (terminated s.lines) (terminated (new.lines.line ∷ []))
               ∙ ap (λ l. before ++ l) (sym (terminated-append s.lines (new.lines.line ∷ [])));
         }
 
     -- no line is left
-    pub all_added : NextIs remaining failures reader s.lines new (Ok false) → AddsLines (remaining reader) (remaining new.lines.reader) (failures reader) (failures new.lines.reader) before mid true
-    all_added stands = record { texts = s.lines; adds = added; stands = stands }
+    pub all_added : Gives (Ok false) → AddsLines (remaining reader) (remaining new.lines.reader) (failures reader) (failures new.lines.reader) before mid true
+    all_added next = record { texts = s.lines; adds = added; stands = next reader s.lines s.handed }
 
     -- a read failed, or there is one line more than can be numbered
-    pub some_added : NextIs remaining failures reader s.lines new (Err Device) → AddsLines (remaining reader) (remaining new.lines.reader) (failures reader) (failures new.lines.reader) before mid false
-    some_added stands = record { texts = s.lines; adds = added; stands = stands }
+    pub some_added : Gives (Err Device) → AddsLines (remaining reader) (remaining new.lines.reader) (failures reader) (failures new.lines.reader) before mid false
+    some_added next = record { texts = s.lines; adds = added; stands = next reader s.lines s.handed }
 
     -- with each line there are fewer that can be numbered
-    pub fewer_left : NextIs remaining failures reader s.lines new (Ok true) → most_lines - new.number < most_lines - old.number
-    fewer_left next = omega (arith, next.few, next.counted, s.handed.counted, length_push s.lines new.lines.line)
+    pub fewer_left : Gives (Ok true) → most_lines - new.number < most_lines - old.number
+    fewer_left next =
+        let handed = next reader s.lines s.handed in
+        omega (arith, handed.few, handed.counted, s.handed.counted, length_push s.lines new.lines.line)

@@ -1,13 +1,9 @@
 -- How the whole command ends, from what its steps did.
-use Rattle.grep_utility.proofs.Prelude.{◌≡◌, ℕ, nat_lt, ◌<◌, ◌≤◌, ◌-◌, ◌^◌, Bool, true, false, List, [], ◌∷◌, Ok, Err, MatchBool, MatchResult, ◌⊎◌, inl, inr, length, refl, sym, ap, ◌∙◌, subst, arith, Option, ltb-false, false≢true, the_type, FaultKind, Syntax, PatternFault, Text, Steps, Matcher, IsOutOfMemory, expressions_of, Expression, Options, IsSameChoice, Writer, Devices, count_more, UsageFault, ReportsLines, GivesUp, SearchEnds, RefusesPattern, SearchesNamed, ReturnedAfter, DoesForRequest, CommandGives, Folder, sources_named, searched, IsPrepared, IsDue, HasNumber, due_text, CommandFault, TooMany, Refused, most_patterns, IsFirstRefused, folder_after_all, GivePatterns, too_many_patterns, fault_text, usage_texts, Asked, read, OrMemory}
+use Rattle.{grep_utility.proofs.Prelude.{◌≡◌, ℕ, nat_lt, ◌≤◌, Bool, true, false, List, [], ◌∷◌, Ok, Err, MatchBool, MatchResult, ◌⊎◌, inl, inr, length, refl, sym, ap, ◌∙◌, subst, arith, Option, ltb-false, false≢true, the_type, FaultKind, Syntax, PatternFault, Text, Steps, Matcher, IsOutOfMemory, expressions_of, Expression, Options, IsSameChoice, Writer, Devices, count_more, UsageFault, ReportsLines, GivesUp, SearchEnds, RefusesPattern, SearchesNamed, ReturnedAfter, DoesForRequest, CommandGives, Folder, sources_named, searched, IsPrepared, IsDue, HasNumber, due_text, CommandFault, TooMany, Refused, most_patterns, IsFirstRefused, folder_after_all, GivePatterns, too_many_patterns, fault_text, usage_texts, Asked, read, OrMemory, FirstUnread, StopsFor}, re_syntax.specs.declared.fault.FaultKind.TheVariants.Memory, grep_core.proofs.lemmas.{SameChoice.RunGives-same, GivenLaws.RunGives-given}}
 use denote.Enum.Bare.{sameb}
-use Rattle.re_syntax.specs.declared.fault.FaultKind.TheVariants.{Memory}
 use Rattle.grep_core.specs.Reading.{Source as FileSource}
-use Rattle.grep_core.proofs.lemmas.SameChoice.{RunGives-same}
-use Rattle.grep_core.proofs.lemmas.GivenLaws.{RunGives-given}
-use Rattle.grep_utility.specs.declared.patterns.PatternsFault.TheVariants as unread
 use Rattle.grep_utility.specs.declared.words.UsageFault.TheVariants as usage
-use Rattle.grep_utility.specs.declared.prepare.CommandFault.TheVariants.{Unread}
+use Rattle.grep_utility.specs.declared.prepare.CommandFault.TheVariants as due
 
 -- a kind of fault that fails the test for out of memory is another kind
 pub kind_differs : (kind : FaultKind) (test : Bool) → test ≡ sameb the_type kind Memory → test ≡ false → kind ≡ Memory → ⊥
@@ -18,13 +14,6 @@ pub not_memory : (syntax : Syntax) (fold : Bool) (texts : List Text) (place : �
     → IsFirstRefused syntax fold texts place fault
 not_memory syntax fold texts place fault differs (inl is) = absurd (differs (ap (λ (f : PatternFault). f.kind) is))
 not_memory syntax fold texts place fault differs (inr first) = first
-
--- its place is a number of a pattern
-pub place_fits : (syntax : Syntax) (fold : Bool) (texts : List Text) (place : ℕ) (fault : PatternFault) → nat_lt most_patterns (length texts) ≡ false → IsFirstRefused syntax fold texts place fault → place < 2 ^ 64 - 1
-place_fits syntax fold texts place fault few first =
-    let within = ltb-false most_patterns (length texts) few in
-    let inside = first.in_texts in
-    omega arith
 
 -- a search for expressions that are the same choice as others, and no more, is one for these
 served : (options : Options) (sources : List FileSource) (given : List (Option Text) → Type 0) (old new : Devices) (status : ℕ) (ds es : List Expression) → IsSameChoice ds es → length ds ≤ length es → SearchEnds ds options sources given old new status → SearchEnds es options sources given old new status
@@ -37,11 +26,22 @@ given_ends options sources given other more old new status es e = record { found
 
 -- ---- before the search
 
--- the number of the first refused pattern can be written
-pub is_numbered : (asked : Asked) (folder : Folder) (before after : ℕ) (fault : CommandFault) → IsDue asked folder before after fault → HasNumber fault
-is_numbered asked folder before after (Unread fault) h = tt
-is_numbered asked folder before after TooMany h = tt
-is_numbered asked folder before after (Refused place fault) (texts, gives, few, first, same) = place_fits asked.syntax asked.options.ignore_case texts place fault few first
+-- what stops the reading of patterns ends the command
+module _ (asked : Asked) (folder : Folder) (before after : ℕ) where
+  pub stops_due : (fault : CommandFault) → StopsFor (FirstUnread folder asked.sources) before after fault → IsDue asked folder before after fault
+  stops_due (due.Missing word) h = h
+  stops_due (due.Broken word) h = h
+  stops_due due.Memory h = h
+  stops_due TooMany h = absurd h
+  stops_due (Refused place fault) h = absurd h
+
+  -- the number of the first refused pattern can be written
+  pub is_numbered : (fault : CommandFault) → IsDue asked folder before after fault → HasNumber fault
+  is_numbered (due.Missing word) h = tt
+  is_numbered (due.Broken word) h = tt
+  is_numbered due.Memory h = tt
+  is_numbered TooMany h = tt
+  is_numbered (Refused place fault) (texts, gives, few, first, same) = omega (arith, ltb-false most_patterns (length texts) few, first.in_texts)
 
 module _ (folder : Folder) (given : List (Option Text) → Type 0) (words : List Text) (asked : Asked) (is : read words ≡ Ok asked) where
   -- the words were read
@@ -68,9 +68,9 @@ module _ (folder : Folder) (given : List (Option Text) → Type 0) (words : List
 
     -- the command ends before its search
     pub ends_before : (fault : CommandFault) → IsDue asked folder before after fault → ReportsLines old new (due_text fault ∷ []) → CommandGives folder given first last 2 words
-    ends_before (Unread (unread.Missing word)) h reported = words_read first last 2 (inl (_, h.1, reports _ h.0 reported h.2))
-    ends_before (Unread (unread.Broken word)) h reported = words_read first last 2 (inl (_, h.1, reports _ h.0 reported h.2))
-    ends_before (Unread unread.Memory) h reported = inr (reports _ 0 reported h)
+    ends_before (due.Missing word) h reported = words_read first last 2 (inl (_, h.1, reports _ h.0 reported h.2))
+    ends_before (due.Broken word) h reported = words_read first last 2 (inl (_, h.1, reports _ h.0 reported h.2))
+    ends_before due.Memory h reported = inr (reports _ 0 reported h)
     ends_before TooMany (texts, gives, many, same) reported = by_count texts gives true many (reports _ 0 reported same)
     ends_before (Refused place fault) (texts, gives, few, first_refused, same) reported = by_count texts gives false few (inl (record { place = place; fault = fault; is_first = first_refused; gives_up = reports _ 0 reported same }))
 
@@ -89,18 +89,17 @@ module _ (folder : Folder) (given : List (Option Text) → Type 0) (words : List
       words_read old new status
       (inr (p.texts, p.are_texts, subst (λ b. MatchBool b (GivesUp old new (too_many_patterns ∷ []) 0 status) (RefusesPattern asked later p.texts rest old new status ⊎ SearchesNamed asked later p.texts rest old new status)) (sym p.few) (inr searches)))
 
-module _ (folder : Folder) (given : List (Option Text) → Type 0) (words : List Text) where
-  words_fault : (fault : UsageFault) (old new : Devices) (status : ℕ) → read words ≡ Err fault → GivesUp old new (usage_texts fault) 0 status → CommandGives folder given old new status words
-  words_fault fault old new status is h =
+module _ (folder : Folder) (given : List (Option Text) → Type 0) (words : List Text) (old new : Devices) (status : ℕ) where
+  words_fault : (fault : UsageFault) → read words ≡ Err fault → GivesUp old new (usage_texts fault) 0 status → CommandGives folder given old new status words
+  words_fault fault is h =
       inl (subst (λ r. MatchResult r (DoesForRequest folder given old new status) (λ f. GivesUp old new (usage_texts f) 0 status)) (sym is) h)
 
   -- they were not
-  pub words_refused : (fault : UsageFault) (old new : Devices) (status : ℕ) → OrMemory fault (read words ≡ Err fault) → GivesUp old new (usage_texts fault) 0 status
-      → CommandGives folder given old new status words
+  pub words_refused : (fault : UsageFault) → OrMemory fault (read words ≡ Err fault) → GivesUp old new (usage_texts fault) 0 status → CommandGives folder given old new status words
   unfolding fault_text
-  words_refused usage.Memory old new status is h = inr h
-  words_refused (usage.UnknownOption c) old new status is h = words_fault _ old new status is h
-  words_refused (usage.MissingArgument c) old new status is h = words_fault _ old new status is h
-  words_refused (usage.BadNumber c) old new status is h = words_fault _ old new status is h
-  words_refused usage.TwoSyntaxes old new status is h = words_fault _ old new status is h
-  words_refused usage.NoPattern old new status is h = words_fault _ old new status is h
+  words_refused usage.Memory is h = inr h
+  words_refused (usage.UnknownOption c) is h = words_fault _ is h
+  words_refused (usage.MissingArgument c) is h = words_fault _ is h
+  words_refused (usage.BadNumber c) is h = words_fault _ is h
+  words_refused usage.TwoSyntaxes is h = words_fault _ is h
+  words_refused usage.NoPattern is h = words_fault _ is h

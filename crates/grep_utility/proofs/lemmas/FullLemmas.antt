@@ -1,12 +1,5 @@
 -- A command that searches known sources, whose count of failures says that no read failed.
-use Rattle.grep_utility.proofs.Prelude.{◌≡◌, ℕ, zero, suc, ◌+◌, ◌^◌, ◌-◌, ◌<◌, min, nat_lt, false, List, [], ◌∷◌, ◌++◌, length, Option, Ok, Err, All, MatchBool, MatchResult, Result, refl, sym, ap, ◌∙◌, subst, arith, append-nil, ◌⊎◌, inl, inr, ⊤, All-get_or, le-ltb, Appends-nil, Syntax, Text, Expression, list_of, most_patterns, IsReadable, Options, Status, RunFault, Write, MessageWrite, one_more, AreMeant, IsFirstRefused, Out, Messages, StatusOf, Source, Reading, Writer, Devices, TakesAll, files_of, count_more, RunGives, Finishes, status_number, ReportsLines, GivesUp, EndsAfter, SearchEnds, SearchesNamed, RefusesPattern, DoesForPatterns, ReturnedAfter, DoesForRequest, CommandGives, Folder, sources_named, searched, IsKnown, in_full, unopened, ReportsMemory, Wrote, Predicts, FailuresAre, WordsDecide, FirstUnread, out_of_memory, too_many_patterns, usage_texts, Asked, PatternsFrom, list, read}
-use Rattle.grep_core.specs.declared.status.RunFault.TheVariants.{Memory}
-use Rattle.grep_core.proofs.lemmas.WriterLaws.{TakesAll-more}
-use Rattle.grep_core.proofs.lemmas.LawsHold.{means_one}
-use Rattle.grep_core.proofs.lemmas.Determined.{Out-determined, Messages-determined, StatusOf-determined}
-use Rattle.grep_utility.specs.Patterns.{Unread}
-use Rattle.grep_utility.proofs.lemmas.CommandLemmas.{given_ends}
-use Rattle.grep_utility.proofs.lemmas.KnownLemmas.{all_in_full}
+use Rattle.{grep_utility.{proofs.{Prelude.{◌≡◌, ℕ, zero, suc, ◌+◌, ◌^◌, ◌-◌, ◌<◌, min, nat_lt, false, List, [], ◌∷◌, ◌++◌, length, Option, Ok, Err, All, MatchBool, MatchResult, Result, refl, sym, ap, ◌∙◌, subst, arith, append-nil, ◌⊎◌, inl, inr, ⊤, All-get_or, le-ltb, Appends-nil, Syntax, Text, Expression, list_of, most_patterns, IsReadable, Options, Status, RunFault, Write, MessageWrite, one_more, AreMeant, IsFirstRefused, Out, Messages, StatusOf, Source, Reading, Writer, Devices, TakesAll, files_of, count_more, RunGives, Finishes, status_number, ReportsLines, GivesUp, EndsAfter, SearchEnds, SearchesNamed, RefusesPattern, DoesForPatterns, ReturnedAfter, DoesForRequest, CommandGives, Folder, sources_named, searched, in_full, ReportsMemory, Wrote, Predicts, FailuresAre, WordsDecide, FirstUnread, out_of_memory, too_many_patterns, usage_texts, Asked, PatternsFrom, list, read}, lemmas.{CommandLemmas.given_ends, KnownLemmas.all_in_full}}, specs.Patterns.Unread}, grep_core.{specs.declared.status.RunFault.TheVariants.Memory, proofs.lemmas.{WriterLaws.TakesAll-more, LawsHold.means_one, Determined.{Out-determined, Messages-determined, StatusOf-determined}}}}
 
 -- a count that begins at 0 is the number of failures, where it is less than the greatest
 pub few_counted : (n m : ℕ) → m ≡ count_more 0 n → m < 2 ^ 64 - 1 → n ≡ m
@@ -28,41 +21,6 @@ reports_memory old between new reported before (inr front) none = absurd (some_f
 nothing_reported : (w : Writer) → TakesAll w w []
 nothing_reported w = record { written_all = Appends-nil w.contents; none_failed = refl }
 
--- known sources in which no more failures are counted than there are sources that cannot be opened
--- were read in full
-full_readings : (options : Options) → options.quiet ≡ false → options.files_with_matches ≡ false → (es : List Expression) (sources : List Source) → All IsKnown sources → (given : List (Option Text) → Type 0) (old new between : Devices)
-    → old.source_failures ≡ 0 → new.source_failures ≡ unopened sources → unopened sources < 2 ^ 64 - 1 → (s : Status) (h : Finishes es options sources given old between s) → new ≡ between → h.story.readings ≡ in_full sources
-full_readings options loud plain es sources known given old new between from_none counted few s h same =
-    let n_is : h.story.failures ≡ unopened sources =
-    few_counted h.story.failures (unopened sources) (sym counted ∙ ap (λ (d : Devices). d.source_failures) same ∙ h.story.counted ∙ ap (λ n. count_more n h.story.failures) from_none) few in
-    all_in_full es options loud plain sources h.story.readings h.story.failures known h.story.are_readings h.story.are_failures (omega (arith, n_is))
-
--- what the search gives where its counts tell how the sources were read
-module _ (options : Options) (es : List Expression) (sources : List Source) (readings : List Reading) (output messages : List Text) (found : Status)
-    (is_output : Out es options (files_of sources readings) output) (are_messages : Messages es options (files_of sources readings) messages) (is_status : StatusOf es options (files_of sources readings) found)
-    (given : List (Option Text) → Type 0) (old new : Devices) (status : ℕ) (determined : (between : Devices) (s : Status) (h : Finishes es options sources given old between s) → new ≡ between → h.story.readings ≡ readings)
-    (out_kept : new.out.failures ≡ 0) (messages_kept : new.messages.failures ≡ 0) where
-  finishes : (between : Devices) (s : Status) → Finishes es options sources given old between s → (status ≡ status_number s) → new ≡ between → Wrote output messages found old new status
-  finishes between s h is same =
-      let full : h.story.readings ≡ readings = determined between s h same in
-      let output_is : h.wrote.text ≡ output = Out-determined es options (files_of sources readings) h.wrote.text output (subst (λ rs. Out es options (files_of sources rs) h.wrote.text) full h.wrote.due) is_output in
-      let messages_are : h.reported.text ≡ messages = Messages-determined es options (files_of sources readings) h.reported.text messages (subst (λ rs. Messages es options (files_of sources rs) h.reported.text) full h.reported.due) are_messages in
-      let found_is : s ≡ found = StatusOf-determined es options (files_of sources readings) s found (subst (λ rs. StatusOf es options (files_of sources rs) s) full h.is_status) is_status in
-      record {
-        wrote = subst (λ (d : Devices). TakesAll old.out d.out output) (sym same) (subst (λ o. TakesAll old.out between.out o) output_is h.wrote.all);
-        reported = subst (λ (d : Devices). TakesAll old.messages d.messages messages) (sym same) (subst (λ o. TakesAll old.messages between.messages o) messages_are h.reported.all);
-        is_status = is ∙ ap status_number found_is;
-      }
-
-  run_ends : (between : Devices) (result : Result Status RunFault) → RunGives es options sources given old between result → EndsAfter result between new status → Wrote output messages found old new status ⊎ ReportsMemory old.messages new.messages
-  run_ends between (Ok s) h e = inl (finishes between s h e.0 e.1)
-  run_ends between (Err Write) h e = absurd (some_failed old.out.failures between.out.failures h.1 (sym (ap (λ (w : Writer). w.failures) e.none_written) ∙ out_kept))
-  run_ends between (Err MessageWrite) h e = absurd (some_failed old.messages.failures between.messages.failures h.2 (sym (ap (λ (d : Devices). d.messages.failures) e.1) ∙ messages_kept))
-  run_ends between (Err (Memory k n)) h e = inr (reports_memory old.messages between.messages new.messages h.reported.text h.reported.all e.reported messages_kept)
-
-  pub search_ends : SearchEnds es options sources given old new status → Wrote output messages found old new status ⊎ ReportsMemory old.messages new.messages
-  search_ends h = run_ends h.between h.found h.runs h.ends
-
 -- what the command gives where its pattern list is known, and its counts tell how the files were
 -- read
 module _ (syntax : Syntax) (options : Options) (text : Text) (files : List Text) (few_patterns : nat_lt most_patterns (length (list_of text)) ≡ false)
@@ -77,6 +35,27 @@ module _ (syntax : Syntax) (options : Options) (text : Text) (files : List Text)
 
   abbrev Gives : Type 0
   Gives = Wrote output messages found old new status ⊎ ReportsMemory old.messages new.messages
+
+  abbrev sources : List Source
+  sources = sources_named folder (searched files)
+
+  finishes : (between : Devices) (s : Status) → Finishes es options sources given old between s → (status ≡ status_number s) → new ≡ between → Wrote output messages found old new status
+  finishes between s h is same =
+      let full : h.story.readings ≡ readings = determined between s h same in
+      let output_is : h.wrote.text ≡ output = Out-determined es options (files_of sources readings) h.wrote.text output (subst (λ rs. Out es options (files_of sources rs) h.wrote.text) full h.wrote.due) is_output in
+      let messages_are : h.reported.text ≡ messages = Messages-determined es options (files_of sources readings) h.reported.text messages (subst (λ rs. Messages es options (files_of sources rs) h.reported.text) full h.reported.due) are_messages in
+      let found_is : s ≡ found = StatusOf-determined es options (files_of sources readings) s found (subst (λ rs. StatusOf es options (files_of sources rs) s) full h.is_status) is_status in
+      record {
+        wrote = subst (λ (d : Devices). TakesAll old.out d.out output) (sym same) (subst (λ o. TakesAll old.out between.out o) output_is h.wrote.all);
+        reported = subst (λ (d : Devices). TakesAll old.messages d.messages messages) (sym same) (subst (λ o. TakesAll old.messages between.messages o) messages_are h.reported.all);
+        is_status = is ∙ ap status_number found_is;
+      }
+
+  run_ends : (between : Devices) (result : Result Status RunFault) → RunGives es options sources given old between result → EndsAfter result between new status → Gives
+  run_ends between (Ok s) h e = inl (finishes between s h e.0 e.1)
+  run_ends between (Err Write) h e = absurd (some_failed old.out.failures between.out.failures h.1 (sym (ap (λ (w : Writer). w.failures) e.none_written) ∙ out_kept))
+  run_ends between (Err MessageWrite) h e = absurd (some_failed old.messages.failures between.messages.failures h.2 (sym (ap (λ (d : Devices). d.messages.failures) e.1) ∙ messages_kept))
+  run_ends between (Err (Memory k n)) h e = inr (reports_memory old.messages between.messages new.messages h.reported.text h.reported.all e.reported messages_kept)
 
   out_of : GivesUp old new (out_of_memory ∷ []) 0 status → Gives
   out_of h = inr (reports_memory old.messages old.messages new.messages [] (nothing_reported old.messages) h.reported messages_kept)
@@ -94,9 +73,8 @@ module _ (syntax : Syntax) (options : Options) (text : Text) (files : List Text)
   named : SearchesNamed asked_for folder (list_of text) After old new status → Gives
   named h =
       let same : h.es ≡ es = means_one syntax options (list_of text) h.es es h.are_meant are_meant in
-      let sources = sources_named folder (searched files) in
-      search_ends options es sources readings output messages found is_output are_messages is_status given old new status determined out_kept messages_kept
-      (subst (λ ds. SearchEnds ds options sources given old new status) same (given_ends options sources After given as_given old new status h.es h.ends))
+      let e = subst (λ ds. SearchEnds ds options sources given old new status) same (given_ends options sources After given as_given old new status h.es h.ends) in
+      run_ends e.between e.found e.runs e.ends
 
   for_patterns : DoesForPatterns asked_for folder (list_of text) After old new status → Gives
   for_patterns h = chosen (subst (λ b. MatchBool b (GivesUp old new (too_many_patterns ∷ []) 0 status) (RefusesPattern asked_for folder (list_of text) After old new status ⊎ SearchesNamed asked_for folder (list_of text) After old new status)) few_patterns h)
@@ -109,7 +87,7 @@ module _ (syntax : Syntax) (options : Options) (text : Text) (files : List Text)
   for_request (inl h) = none_unread h.0 h.1
     where
       none_unread : (unread : Unread) → FirstUnread folder (list text ∷ []) unread → Gives
-      none_unread unread (inl is) = let no : ⊥ = cc is in absurd no
+      none_unread unread (inl is) = absurd (cc is)
       none_unread unread (inr h) = absurd h.2
   for_request (inr h) =
       let first : h.1.0 ≡ list_of text = cc h.1.2 in
@@ -126,12 +104,11 @@ pub predicted : (folder : Folder) (words output messages : List Text) (missing :
     → CommandGives folder given old new status words → FailuresAre missing old new → Wrote output messages found old new status ⊎ ReportsMemory old.messages new.messages
 predicted folder words output messages missing found f given old new status h n =
     let a = f.asked in
-    let least = f.few_patterns in
     let sum = f.are_missing in
-    let few = n.few in
-    let sources = sources_named folder (searched a.files) in
-    command_gives a.syntax a.options f.text a.files (le-ltb most_patterns (length (list_of f.text)) least) f.readable f.es f.are_meant folder (in_full sources) output messages found f.is_output f.are_messages f.is_status given old new status
-    (λ between s run same. full_readings a.options f.loud f.all_lines f.es sources f.known given old new between n.from_none (n.counted ∙ sym sum) (omega (arith, sum, few)) s run same)
+    command_gives a.syntax a.options f.text a.files (le-ltb most_patterns (length (list_of f.text)) f.few_patterns) f.readable f.es f.are_meant folder (in_full (sources_named folder (searched a.files))) output messages found f.is_output f.are_messages f.is_status given old new status
+    (λ between s run same.
+    let many = few_counted run.story.failures missing (sym n.counted ∙ ap (λ (d : Devices). d.source_failures) same ∙ run.story.counted ∙ ap (λ n. count_more n run.story.failures) n.from_none) n.few in
+    all_in_full f.es a.options f.loud f.all_lines (sources_named folder (searched a.files)) run.story.readings run.story.failures f.known run.story.are_readings run.story.are_failures (omega (arith, many, sum)))
     n.output_kept n.messages_kept words (f.is_read ∙ ap (λ (s : List PatternsFrom). Ok (record a { sources = s })) f.one_list) h
 
 -- the words tell all that is written

@@ -1,10 +1,5 @@
 -- Known sources, whose number of failures says that no read failed.
-use Rattle.grep_utility.proofs.Prelude.{◌≡◌, ℕ, ◌+◌, ◌-◌, ◌^◌, ◌≤◌, min, Bool, true, false, ◌||◌, if◌then◌else◌, IsTrue, List, [], ◌∷◌, ◌++◌, length, Option, None, Some, IfSome, All, Any, append-nil, refl, sym, ap, ◌∙◌, subst, arith, inl, inr, false≢true, Consumes, length-append, All-head, All-tail, Text, Expression, Options, IfHolds, File, Ending, broken, HasSelected, FaultMet, FaultMetBy, Source, Reading, not_opened, fails_after, ends_after, IsReadingOf, file_of, failures_of, AreReadings, FailuresMet, LeftMet, HasReturned, AllIsKnown, IsKnown, full_reading, in_full, unopened_by, unopened, CountDecides}
-use Rattle.re_syntax.proofs.lemmas.SomeOfJoined.{Any-single}
-
-no_length : {A : Type 0} (xs : List A) → length xs ≡ 0 → xs ≡ []
-no_length [] h = refl
-no_length (x ∷ xs) h = let no : ⊥ = omega (arith, h) in absurd no
+use Rattle.{grep_utility.proofs.Prelude.{◌≡◌, ℕ, ◌+◌, ◌-◌, ◌^◌, ◌≤◌, min, Bool, true, false, ◌||◌, if◌then◌else◌, IsTrue, List, [], ◌∷◌, ◌++◌, length, Option, None, Some, IfSome, All, Any, append-nil, refl, sym, ap, ◌∙◌, subst, arith, inl, inr, false≢true, Consumes, length-append, All-head, All-tail, Text, Expression, Options, IfHolds, File, Ending, broken, HasSelected, FaultMet, FaultMetBy, Source, Reading, not_opened, fails_after, ends_after, IsReadingOf, file_of, failures_of, AreReadings, FailuresMet, LeftMet, HasReturned, AllIsKnown, IsKnown, full_reading, in_full, unopened_by, unopened, CountDecides}, std.proofs.lemmas.List.nil_from_length, re_syntax.proofs.lemmas.SomeOfJoined.Any-single}
 
 -- where it holds, the first case is
 by_yes : {P A B : Type 0} → IfHolds P A B → P → A
@@ -49,7 +44,7 @@ module _ (es : List Expression) (options : Options) (loud : options.quiet ≡ fa
   reads_full name None bytes k r h few = absurd k
   reads_full name (Some true) None k r h few = absurd k
   reads_full name (Some true) (Some all) k not_opened h few = absurd (false≢true (sym h))
-  reads_full name (Some true) (Some all) k (fails_after front) h few = let no : ⊥ = omega (arith, few) in absurd no
+  reads_full name (Some true) (Some all) k (fails_after front) h few = absurd (omega arith)
   reads_full name (Some true) (Some all) k (ends_after bytes) h few = ap ends_after (sym h.1)
   reads_full name (Some false) bytes k not_opened h few = refl
   reads_full name (Some false) bytes k (fails_after front) h few = absurd (false≢true h.0)
@@ -101,11 +96,11 @@ module _ (es : List Expression) (options : Options) (loud : options.quiet ≡ fa
         none_before =
             let len : length (before ++ x ∷ []) ≡ length before + 1 = length-append before (x ∷ []) in
             let one : 1 ≡ min (length (before ++ x ∷ [])) (2 ^ 64 - 1) = whole.0 in
-            no_length before (omega (arith, len, one))
+            nil_from_length before (omega (arith, len, one))
 
         x_is : x ≡ Some []
         x_is = elim whole.1 [
-          | inl none ↦ let no : ⊥ = omega (arith, none) in absurd no
+          | inl none ↦ absurd (omega arith)
           | inr some ↦ Any-single (λ rest. rest ≡ Some []) x (subst (λ t. Any (λ rest. rest ≡ Some []) (t ++ x ∷ [])) none_before some)
         ]
 
@@ -117,7 +112,7 @@ module _ (es : List Expression) (options : Options) (loud : options.quiet ≡ fa
         let own = all_met source.name (ends_after given) h.0 h.2 in
         let rest = by_no h.3 (goes_on (file_of source.name (ends_after given))) in
         let sum = h.4 in
-        let no : ⊥ = omega (arith, own, rest, sum, once) in absurd no
+        absurd (omega arith)
     one_broken (fails_after given ∷ []) a h l = ap (λ t. fails_after t ∷ []) (gave_all given a l)
 
 -- the count of failures tells that all sources were read in full

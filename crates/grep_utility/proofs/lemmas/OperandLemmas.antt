@@ -8,13 +8,13 @@ length-sources_named folder (word ∷ words) = ap suc (length-sources_named (aft
 
 -- the name of a source is that of its word
 pub name-sources_named : (folder : Folder) (words : List Text) (k : ℕ) → k < length words → (source_at (sources_named folder words) k).name ≡ display_name (get_or words k [])
-name-sources_named folder [] k h = absurd (let no : ⊥ = omega (arith, h) in no)
+name-sources_named folder [] k h = absurd (omega arith)
 name-sources_named folder (word ∷ words) zero h = refl
 name-sources_named folder (word ∷ words) (suc k) h = name-sources_named (after_use folder word) words k (omega (arith, h))
 
 -- the element at a place is the first after those before it
 at_place : (sources : List Source) (k : ℕ) → k < length sources → (first : Source) (rest : List Source) → drop k sources ≡ first ∷ rest → (source_at sources k ≡ first) × (drop (suc k) sources ≡ rest)
-at_place [] k h first rest is = absurd (let no : ⊥ = omega (arith, h) in no)
+at_place [] k h first rest is = absurd (omega arith)
 at_place (s ∷ sources) zero h first rest is = let heads : s ≡ first = cc in let tails : sources ≡ rest = cc in (heads, tails)
 at_place (s ∷ sources) (suc k) h first rest is = at_place sources k (omega (arith, h)) first rest is
 

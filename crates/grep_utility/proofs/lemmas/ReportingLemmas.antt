@@ -1,6 +1,5 @@
 -- What is reported, whether or not a write fails.
-use Rattle.grep_utility.proofs.Prelude.{◌≡◌, ℕ, List, [], ◌∷◌, ◌++◌, Option, Result, Ok, Err, inl, inr, refl, sym, ap, ◌∙◌, append_assoc, Text, Steps, written, output_line, Writer, writer, Writes, ReportsLines, GivesUp}
-use Rattle.grep_core.proofs.lemmas.PassLemmas.{TakesAll-line, TakesFront-line}
+use Rattle.{grep_utility.proofs.Prelude.{◌≡◌, ℕ, List, [], ◌∷◌, ◌++◌, Option, Result, Ok, Err, inl, inr, refl, sym, ap, ◌∙◌, append_assoc, Text, Steps, written, output_line, Writer, writer, Writes, ReportsLines, GivesUp}, grep_core.proofs.lemmas.PassLemmas.{TakesAll-line, TakesFront-line}}
 
 module _ {W : Type 0} (contents : W → Option Text) (failures : W → ℕ) (old new : W) where
   -- one line

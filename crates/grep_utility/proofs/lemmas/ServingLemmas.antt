@@ -1,8 +1,5 @@
 -- One matcher for strings serves for the patterns that are these.
-use Rattle.grep_utility.proofs.Prelude.{◌≡◌, ℕ, ◌≤◌, ◌⊎◌, inl, inr, ◌↔◌, Bool, true, false, All, Any, List, [], ◌∷◌, ◌++◌, length, map, refl, sym, ap, ◌∙◌, subst, arith, map-append, length-map, All-nil, All-cons, All-push, AllZip, Syntax, Text, Expression, alt, alt_more, choice, Holds, folded, IsMeant, literal_meaning, AddsStrings, string_expression, IsReadable, Matcher, matched_expression, room_of, wants_whole, Options, IsSameChoice, Pattern, meaning, meant_by, pattern_expression, IsCounted, ArePatterns, AreGrouped, AreReadAs, IsJoined, most_kept}
-use Rattle.re_syntax.proofs.lemmas.Decisions.{Any-first, Any-later, Any-cases, Any-none}
-use Rattle.re_search.proofs.lemmas.ReadingLaws.{read_meant}
-use Rattle.grep_core.proofs.lemmas.SameChoice.{alt-holds, alt-is_same}
+use Rattle.{grep_utility.proofs.Prelude.{◌≡◌, ◌≤◌, inl, inr, Bool, true, false, All, Any, List, [], ◌∷◌, ◌++◌, length, map, refl, sym, ap, ◌∙◌, subst, arith, map-append, length-map, All-nil, All-cons, All-push, AllZip, Syntax, Text, Expression, alt, alt_more, choice, Holds, folded, IsMeant, literal_meaning, AddsStrings, string_expression, IsReadable, Matcher, matched_expression, room_of, wants_whole, Options, IsSameChoice, Pattern, meaning, meant_by, pattern_expression, IsCounted, ArePatterns, AreGrouped, AreReadAs, IsJoined, most_kept, AreStrings, IsPattern, HasNoNewline, terminated, All-append, append_assoc}, re_syntax.proofs.lemmas.{SomeOfJoined.{Any-left, Any-right, Any-append-cases}, LinesLaws.terminated-append}, re_search.proofs.lemmas.ReadingLaws.read_meant, grep_core.proofs.lemmas.{MatcherLemmas.AllZip-append, SameChoice.{alt-is_same, other_way}}}
 
 -- ---- what one pattern means
 
@@ -25,47 +22,27 @@ meant_choice true strings = folded_choice (map string_expression strings) ∙ ap
     each [] = refl
     each (t ∷ ts) = ap (λ es. folded (string_expression t) ∷ es) (each ts)
 
-module _ (line : Text) (i j : ℕ) where
-  abbrev pub Here : Expression → Type 0
-  Here e = Holds line e i j
+-- a choice is the same as its branches
+choice_same : (es : List Expression) → 1 ≤ length es → IsSameChoice es (choice es ∷ [])
+choice_same [] some = absurd (omega (arith, some))
+choice_same (e ∷ []) some = λ line i j. (λ a. a, λ a. a)
+choice_same (e ∷ f ∷ es) some = other_way (alt (e ∷ f ∷ es) ∷ []) (e ∷ f ∷ es) (alt-is_same (e ∷ f ∷ es))
 
-  -- a choice holds where some branch does
-  choice_holds : (es : List Expression) → 1 ≤ length es → Here (choice es) ↔ Any Here es
-  choice_holds [] some = absurd (omega (arith, some))
-  choice_holds (e ∷ []) some = (λ h. Any-first Here e [] h, λ a. elim (Any-cases Here e [] a) [ inl h ↦ h | inr none ↦ absurd (Any-none Here none) ])
-  choice_holds (e ∷ f ∷ es) some = alt-holds line i j (e ∷ f ∷ es)
+pub same_trans : (us bs cs : List Expression) → IsSameChoice us bs → IsSameChoice bs cs → IsSameChoice us cs
+same_trans us bs cs p q line i j = (λ a. (q line i j).0 ((p line i j).0 a), λ a. (p line i j).1 ((q line i j).1 a))
 
-  -- some of two lists is some of the one or of the other
-  pub of_either : (ds es : List Expression) → Any Here (ds ++ es) → Any Here ds ⊎ Any Here es
-  of_either [] es a = inr a
-  of_either (d ∷ ds) es a = elim (Any-cases Here d (ds ++ es) a) [
-    | inl h ↦ inl (Any-first Here d ds h)
-    | inr later ↦ elim (of_either ds es later) [ inl h ↦ inl (Any-later Here d ds h) | inr h ↦ inr h ]
-  ]
+either : {A : Type 0} (P : A → Type 0) (us bs cs ds : List A) → (Any P us → Any P bs) → (Any P cs → Any P ds) → Any P (us ++ cs) → Any P (bs ++ ds)
+either P us bs cs ds f g a = elim (Any-append-cases P us cs a) [ inl h ↦ Any-left P bs ds (f h) | inr h ↦ Any-right P bs ds (g h) ]
 
-  pub of_first : (ds es : List Expression) → Any Here ds → Any Here (ds ++ es)
-  of_first [] es a = absurd (Any-none Here a)
-  of_first (d ∷ ds) es a = elim (Any-cases Here d ds a) [ inl h ↦ Any-first Here d (ds ++ es) h | inr later ↦ Any-later Here d (ds ++ es) (of_first ds es later) ]
-
-  pub of_second : (ds es : List Expression) → Any Here es → Any Here (ds ++ es)
-  of_second [] es a = a
-  of_second (d ∷ ds) es a = Any-later Here d (ds ++ es) (of_second ds es a)
+-- two choices, one after the other
+pub same_append : (us bs cs ds : List Expression) → IsSameChoice us bs → IsSameChoice cs ds → IsSameChoice (us ++ cs) (bs ++ ds)
+same_append us bs cs ds p q line i j =
+    let P : Expression → Type 0 = λ e. Holds line e i j in
+    (either P us bs cs ds (p line i j).0 (q line i j).0, either P bs us ds cs (p line i j).1 (q line i j).1)
 
 -- more expressions after others of the same choice
 pub more_choices : (ds es fs : List Expression) (m : Expression) → IsSameChoice ds es → 1 ≤ length fs → m ≡ choice fs → IsSameChoice (ds ++ fs) (es ++ m ∷ [])
-more_choices ds es fs m same some is line i j = (to, back)
-  where
-    to : Any (Here line i j) (ds ++ fs) → Any (Here line i j) (es ++ m ∷ [])
-    to a = elim (of_either line i j ds fs a) [
-      | inl h ↦ of_first line i j es (m ∷ []) ((same line i j).0 h)
-      | inr h ↦ of_second line i j es (m ∷ []) (Any-first (Here line i j) m [] (subst (Here line i j) (sym is) ((choice_holds line i j fs some).1 h)))
-    ]
-
-    back : Any (Here line i j) (es ++ m ∷ []) → Any (Here line i j) (ds ++ fs)
-    back a = elim (of_either line i j es (m ∷ []) a) [
-      | inl h ↦ of_first line i j ds fs ((same line i j).1 h)
-      | inr h ↦ of_second line i j ds fs ((choice_holds line i j fs some).0 (subst (Here line i j) is ((choice_holds line i j (m ∷ []) (omega arith)).1 h)))
-    ]
+more_choices ds es fs m same some is = same_append ds es fs (m ∷ []) same (rw is (choice_same fs some))
 
 -- ---- patterns
 
@@ -90,6 +67,22 @@ next_read fold done strings p old new read adds =
     (subst (λ ds. IsSameChoice ds (map (meant_by fold) done ++ meant_by fold p ∷ [])) (sym (map-append (literal_meaning fold) strings added))
     (more_choices (map (literal_meaning fold) strings) (map (meant_by fold) done) (map (literal_meaning fold) added) (meant_by fold p) read some is))
 
+-- some texts are read as the strings so far, and the others are left
+abbrev pub StringsSoFar : Syntax → Bool → List Text → List Text → Text → Type 0
+StringsSoFar syntax fold left all bytes =
+    (done : List Text) × (done ++ left ≡ all) × (strings : List Text) × (bytes ≡ terminated strings) × All HasNoNewline strings × AreStrings syntax fold done strings
+
+pub next_string : (syntax : Syntax) (fold : Bool) (text : Text) (left all : List Text) (p : Pattern) (old new : Text) → StringsSoFar syntax fold (text ∷ left) all old → IsPattern syntax fold text p → AddsStrings (pattern_expression p) old new → StringsSoFar syntax fold left all new
+next_string syntax fold text left all p old new (done, is, strings, are, lines, (patterns, texts, meant)) read adds =
+    let added = adds.each.strings in (
+      done ++ text ∷ [],
+      append_assoc done (text ∷ []) left ∙ is,
+      strings ++ added,
+      adds.each.added ∙ ap (λ l. l ++ terminated added) are ∙ sym (terminated-append strings added),
+      All-append HasNoNewline strings added lines adds.each.lines,
+      (patterns ++ p ∷ [], AllZip-append (IsPattern syntax fold) done (text ∷ []) patterns (p ∷ []) texts (read, tt), next_read fold patterns strings p old new meant adds),
+    )
+
 -- one matcher for all strings serves for them
 pub joined_grouped : (options : Options) (patterns : List Pattern) (strings : List Text) (matchers : List Matcher) → AreReadAs options.ignore_case patterns strings → 1 ≤ length patterns
     → IsJoined options strings matchers → AreGrouped options.line_regexp (map (meant_by options.ignore_case) patterns) matchers []
@@ -97,7 +90,7 @@ joined_grouped options patterns strings matchers read some joined =
     let meanings = map (literal_meaning options.ignore_case) strings in
     let choice : IsSameChoice (matched_expression joined.one ∷ []) meanings = subst (λ e. IsSameChoice (e ∷ []) meanings) (sym joined.expression) (alt-is_same meanings) in
     rw joined.alone (record {
-      same = λ line i j. (λ a. (read line i j).0 ((choice line i j).0 a), λ a. (choice line i j).1 ((read line i j).1 a));
+      same = same_trans (matched_expression joined.one ∷ []) meanings (map (meant_by options.ignore_case) patterns) choice read;
       fewer = omega (arith, some, length-map patterns (meant_by options.ignore_case));
       wholes = All-push (λ w. w ≡ options.line_regexp) [] (wants_whole joined.one) (λ i d h. absurd (omega (arith, h))) joined.whole;
       rooms = All-push (λ n. n ≤ most_kept) [] (room_of joined.one) (λ i d h. absurd (omega (arith, h))) (omega (arith, joined.room));

@@ -1,13 +1,7 @@
 -- The sources of patterns, one more at a time.
-use Rattle.grep_utility.proofs.Prelude.{◌≡◌, ℕ, suc, ◌+◌, ◌<◌, true, false, List, [], ◌∷◌, ◌++◌, Option, Err, IfSome, inl, inr, length, map, drop, get_or, refl, sym, ap, ◌∙◌, subst, append_assoc, append-nil, add-one, drop-cons, Text, newline, list_of, joined, terminated, AreListed, File, whole, broken, StandsFor, IsReadingOf, file_of, failures_of, open_source, count_more, PatternSource, Whole, Broken, PatternsFault, Folder, patterns_by, GivesPatterns, folder_after, folder_after_all, GivePatterns, FirstUnread, Adds, AddsLines, ReadsFile, AddsSource, StopsFor, PatternsFrom, list, file, given_source}
-use Rattle.re_syntax.specs.Lines.{lines_of}
-use Rattle.re_syntax.proofs.lemmas.LinesLaws.{lines_of-terminated, AreListed-list_of}
+use Rattle.{grep_utility.{proofs.{Prelude.{◌≡◌, ℕ, suc, ◌+◌, ◌<◌, true, false, List, [], ◌∷◌, ◌++◌, Option, Ok, Err, IfSome, inl, inr, length, map, drop, get_or, refl, sym, ap, ◌∙◌, subst, append_assoc, append-nil, add-one, drop-cons, Text, newline, list_of, joined, terminated, AreListed, File, whole, broken, StandsFor, IsReadingOf, file_of, failures_of, open_source, count_more, PatternSource, CommandFault, Folder, patterns_by, GivesPatterns, folder_after, folder_after_all, GivePatterns, FirstUnread, Adds, AddsLines, AddsSource, StopsFor, PatternsFrom, list, file, given_source}, lemmas.CollectingLemmas.Adds-trans}, specs.{Patterns.{FileGives, Unread, OneReaderEach}, Working.CollectedTexts.StopsBy}}, re_syntax.{specs.Lines.lines_of, proofs.lemmas.LinesLaws.{lines_of-terminated, AreListed-list_of}}, grep_core.{proofs.lemmas.{OneFile.whole-failures, OpenedLemmas.{opened, count_on, few_failures}}, specs.Messages.read_error}}
 use Rattle.grep_core.specs.Reading as reading
-use Rattle.grep_core.proofs.lemmas.OneFile.{whole-failures}
-use Rattle.grep_core.proofs.lemmas.OpenedLemmas.{opened, count_on, few_failures}
-use Rattle.grep_utility.specs.declared.patterns.PatternsFault.TheVariants as fault
-use Rattle.grep_utility.specs.Patterns.{Unread, OneReaderEach}
-use Rattle.grep_utility.proofs.lemmas.CollectingLemmas.{Adds-trans}
+use Rattle.grep_utility.specs.declared.prepare.CommandFault.TheVariants as fault
 
 -- ---- a file
 
@@ -23,18 +17,14 @@ module _ {R : Type 0} (remaining : R → Option Text) (failures : R → ℕ) (so
   )
 
   -- all its lines were added
-  pub file_whole : (old new : Text) → AddsLines (remaining reader) (remaining read) (failures reader) (failures read) old new true → ReadsFile source before after old new Whole
+  pub file_whole : (old new : Text) → AddsLines (remaining reader) (remaining read) (failures reader) (failures read) old new true → ((texts : List Text) × FileGives source (Ok texts) × Adds old new texts) × (after ≡ before)
   file_whole old new h =
       let did = gave h.texts whole (h.stands source.name) in
-      let none : failures_of did.0 ≡ 0 = whole-failures source.name did.0 (ap (λ (f : File). f.ending) did.2) in (
-        h.texts,
-        (did.0, did.1, sym (ap (λ (f : File). patterns_by f.ending f (failures_of did.0)) did.2)),
-        h.adds,
-        did.3 ∙ ap (count_more before) none,
-      )
+      let none : failures_of did.0 ≡ 0 = whole-failures source.name did.0 (ap (λ (f : File). f.ending) did.2) in
+      ((h.texts, (did.0, did.1, sym (ap (λ (f : File). patterns_by f.ending f (failures_of did.0)) did.2)), h.adds), did.3 ∙ ap (count_more before) none)
 
   -- not all of them
-  pub file_broken : (old new : Text) → AddsLines (remaining reader) (remaining read) (failures reader) (failures read) old new false → ReadsFile source before after old new Broken
+  pub file_broken : (old new : Text) → AddsLines (remaining reader) (remaining read) (failures reader) (failures read) old new false → StopsBy (λ unread. FileGives source (Err unread)) before after (read_error source.name)
   file_broken old new h =
       let did = gave h.texts broken (h.stands source.name) in
       (failures_of did.0, (did.0, did.1, sym (ap (λ (f : File). patterns_by f.ending f (failures_of did.0)) did.2)), did.3)
@@ -78,10 +68,12 @@ module _ (start : Folder) (all : List PatternsFrom) (now : Folder) (source : Pat
   }
 
   -- the next is not read
-  pub sources_stop : (before mid after : ℕ) → mid ≡ before → (f : PatternsFault) → StopsFor (λ unread. GivesPatterns now source (Err unread)) mid after f → StopsFor (FirstUnread start all) before after f
+  pub sources_stop : (before mid after : ℕ) → mid ≡ before → (f : CommandFault) → StopsFor (λ unread. GivesPatterns now source (Err unread)) mid after f → StopsFor (FirstUnread start all) before after f
   sources_stop before mid after same (fault.Missing word) h = (h.0, s.stop _ (inl h.1), h.2 ∙ ap (λ n. count_more n h.0) same)
   sources_stop before mid after same (fault.Broken word) h = (h.0, s.stop _ (inl h.1), h.2 ∙ ap (λ n. count_more n h.0) same)
   sources_stop before mid after same fault.Memory h = h ∙ same
+  sources_stop before mid after same fault.TooMany h = absurd h
+  sources_stop before mid after same (fault.Refused place f) h = absurd h
 
 -- what its readers had left is followed by what those of the others had
 pub each_more : (source : PatternsFrom) (sources : List PatternsFrom) (own others : List (Option Text)) → OneReaderEach (source ∷ []) own → OneReaderEach sources others → OneReaderEach (source ∷ sources) (own ++ others)

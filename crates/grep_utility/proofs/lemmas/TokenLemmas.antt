@@ -1,6 +1,5 @@
 -- The pieces of words, one after another.
-use Rattle.grep_utility.proofs.Prelude.{◌≡◌, ℕ, ◌≢◌, nat_eq, true, false, List, [], ◌∷◌, length, codes, Option, Some, None, refl, sym, ap, ◌∙◌, arith, Bor, encode_utf8_all, bytes_eq, IsUtf8, encodes-chars, chars-nil, Text, MissingArgument, Argument, Takes, Token, fault, with_argument, Wanting, meaning_of, group, pieces, an_operand, ends_options, by_characters, a_group, word_of, AreUsedUp, tokens_from}
-use Rattle.std.specs.Str.{chars}
+use Rattle.{grep_utility.proofs.Prelude.{◌≡◌, ℕ, ◌≢◌, nat_eq, true, false, List, [], ◌∷◌, length, codes, Option, Some, None, refl, sym, ap, ◌∙◌, arith, Bor, encode_utf8_all, bytes_eq, IsUtf8, encodes-chars, chars-nil, Text, MissingArgument, Argument, Takes, Token, fault, with_argument, Wanting, meaning_of, group, pieces, an_operand, ends_options, by_characters, a_group, word_of, AreUsedUp, tokens_from}, std.specs.Str.chars}
 
 -- an empty text has no characters
 no_chars : (t : Text) → length t ≡ 0 → chars t ≡ []

@@ -1,6 +1,5 @@
 -- What is reported after a fault of words.
-use Rattle.grep_utility.proofs.Prelude.{◌≡◌, ◌≢◌, [], ◌∷◌, refl, UsageFault, UnknownOption, MissingArgument, BadNumber, TwoSyntaxes, NoPattern, usage, usage_after}
-use Rattle.grep_utility.specs.declared.words.UsageFault.TheVariants.{Memory}
+use Rattle.grep_utility.{proofs.Prelude.{◌≡◌, ◌≢◌, [], ◌∷◌, refl, UsageFault, UnknownOption, MissingArgument, BadNumber, TwoSyntaxes, NoPattern, usage, usage_after}, specs.declared.words.UsageFault.TheVariants.Memory}
 
 -- a fault other than out of memory is followed by how the command is used
 pub usage_after-other : (f : UsageFault) → f ≢ Memory → usage_after f ≡ usage ∷ []

@@ -1,12 +1,5 @@
 -- One command from its words to its bytes, worked by hand.
-use Rattle.grep_utility.proofs.Prelude.{◌≡◌, ℕ, zero, suc, ◌≤◌, nat_eq, true, false, List, [], ◌∷◌, Option, Some, Ok, All, refl, sym, ap, ◌∙◌, subst, arith, inl, inr, codes, ⊎_elim, ◌⊎◌, ⊤, false≢true, All-nil, All-cons, Basic, Text, Expression, byte, Matches, list_of, IsMeant, IsReadable, Options, no_options, Error, IsShown, Groups, File, whole, missing, Selected, HasSelected, FaultMet, Messages, StatusOf, Out, Source, Writer, devices, Steps, CommandGives, Folder, sources_named, IsKnown, full_files, unopened, Predicts, FailuresAre, Wrote, ReportsMemory, Asked, list, read, word_of, meaning_of, row_words, row_text, row_output, row_messages, RowFollows}
-use Rattle.std.specs.Str.{chars}
-use Rattle.std.specs.Fmt.{digits}
-use Rattle.re_syntax.specs.Lines.{lines_of}
-use Rattle.re_syntax.specs.BasicTokens.{ordinary}
-use Rattle.re_syntax.proofs.lemmas.Decisions.{Any-first, Any-later, Any-cases, Any-none}
-use Rattle.re_syntax.proofs.lemmas.SpelledParts.{single, none, item, last, spells}
-use Rattle.grep_utility.proofs.lemmas.FullLemmas.{predicted}
+use Rattle.{grep_utility.proofs.{Prelude.{◌≡◌, ℕ, zero, suc, ◌≤◌, nat_eq, true, false, List, [], ◌∷◌, Option, Some, Ok, All, refl, sym, ap, ◌∙◌, subst, arith, inl, inr, codes, ⊎_elim, ◌⊎◌, ⊤, false≢true, All-nil, All-cons, Basic, Text, Expression, byte, Matches, list_of, IsMeant, IsReadable, Options, no_options, Error, IsShown, Groups, File, whole, missing, Selected, HasSelected, FaultMet, Messages, StatusOf, Out, Source, Writer, devices, Steps, CommandGives, Folder, sources_named, IsKnown, full_files, unopened, Predicts, FailuresAre, Wrote, ReportsMemory, Asked, list, read, word_of, meaning_of, row_words, row_text, row_output, row_messages, RowFollows}, lemmas.FullLemmas.predicted}, std.specs.{Str.chars, Fmt.digits}, re_syntax.{specs.{Lines.lines_of, BasicTokens.ordinary}, proofs.lemmas.{Decisions.{Any-first, Any-later, Any-cases, Any-none}, SpelledParts.{single, none, item, last, spells}}}}
 
 -- ---- what the words ask for
 
@@ -156,7 +149,4 @@ module _ (folder : Folder) (opens : folder.opens (codes "h") ≡ Some true) (byt
       → CommandGives folder given (devices out messages before steps) (devices new_out new_messages after new_steps) status words → FailuresAre 1 (devices out messages 0 steps) (devices new_out new_messages counted new_steps)
       → Wrote row_output row_messages Error (devices out messages 0 steps) (devices new_out new_messages counted new_steps) status ⊎ ReportsMemory messages new_messages
   row_given given out messages new_out new_messages before after counted steps new_steps status words at_first same_count same_words h counts =
-      let of_words = subst (λ ws. CommandGives folder given (devices out messages before steps) (devices new_out new_messages after new_steps) status ws) same_words h in
-      let from_none = subst (λ n. CommandGives folder given (devices out messages n steps) (devices new_out new_messages after new_steps) status row_words) at_first of_words in
-      let so_counted = subst (λ n. CommandGives folder given (devices out messages 0 steps) (devices new_out new_messages n new_steps) status row_words) (sym same_count) from_none in
-      predicted folder row_words row_output row_messages 1 Error (row_predicted folder opens bytes none) given (devices out messages 0 steps) (devices new_out new_messages counted new_steps) status so_counted counts
+      predicted folder row_words row_output row_messages 1 Error (row_predicted folder opens bytes none) given (devices out messages 0 steps) (devices new_out new_messages counted new_steps) status (rw (same_words, at_first, ← same_count) at h) counts

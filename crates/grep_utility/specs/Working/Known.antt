@@ -2,15 +2,13 @@
 use Rattle.std.specs.Prelude.{◌≡◌, ℕ, ◌+◌, ◌-◌, ◌^◌, ◌<◌, ◌≤◌, Bool, true, false, List, [], ◌∷◌}
 use Rattle.std.specs.Prelude.{◌++◌, ◌⊎◌, min, Option, Some, Ok, All, Any, map, length, ⊤}
 use Rattle.re_syntax.specs.{Bytes.Text, Expression.Expression, Lines.list_of, Profile.most_patterns}
-use Rattle.re_search.specs.Reading.{IsReadable}
-use Rattle.grep_core.specs.{declared.options.Options.Options, declared.status.Status.Status}
-use Rattle.grep_core.specs.{Files.File, Files.AreMeant, Output.Out, Messages.Messages}
-use Rattle.grep_core.specs.{Messages.StatusOf, Reading.Source, Reading.Reading, Reading.not_opened}
-use Rattle.grep_core.specs.{Reading.ends_after, Run.files_of, Run.AreReadings, Run.FailuresMet}
-use Rattle.grep_core.specs.{Run.Writer, Run.Devices, Run.TakesAll}
-use Rattle.grep_utility.specs.{Command.status_number, Command.CommandGives, Folder.Folder}
-use Rattle.grep_utility.specs.{Folder.sources_named, Folder.searched, Texts.out_of_memory}
-use Rattle.grep_utility.specs.{Words.Asked, Words.list, Words.read}
+use Rattle.{re_search.specs.Reading.IsReadable, grep_core.specs.{Output.Out, Run.files_of}}
+use Rattle.grep_core.specs.Run.{AreReadings, FailuresMet, Writer, Devices, TakesAll}
+use Rattle.grep_core.specs.{Messages.{Messages, StatusOf}, Files.{File, AreMeant}}
+use Rattle.grep_core.specs.Reading.{ends_after, Reading, not_opened, Source}
+use Rattle.grep_core.specs.declared.{options.Options.Options, status.Status.Status}
+use Rattle.grep_utility.specs.{Folder.{sources_named, searched, Folder}, Words.{read, Asked, list}}
+use Rattle.grep_utility.specs.{Command.{CommandGives, status_number}, Texts.out_of_memory}
 
 -- by whether a source can be opened, and its bytes: both are known, as far as there are any
 abbrev pub AllIsKnown : Option Bool → Option Text → Type 0

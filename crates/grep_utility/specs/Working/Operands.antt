@@ -1,7 +1,6 @@
 -- The files that a command searches, as sources that are opened in order.
 use Rattle.std.specs.Prelude.{◌≡◌, ℕ, List, drop}
-use Rattle.re_syntax.specs.Bytes.{Text}
-use Rattle.grep_utility.specs.Folder.{Folder, sources_named}
+use Rattle.{re_syntax.specs.Bytes.Text, grep_utility.specs.Folder.{Folder, sources_named}}
 
 -- from place k on the words name, by what is known now, what they named by what was known at the
 -- start

@@ -1,15 +1,13 @@
 -- The matchers that a search uses for the patterns of a request.
 use Rattle.std.specs.Prelude.{◌≡◌, ℕ, ◌≤◌, ◌+◌, Bool, List, [], ◌∷◌, ◌++◌, length, map, All}
 use Rattle.std.specs.List.{AllZip}
-use Rattle.re_syntax.specs.{declared.syntax.Syntax.Syntax, Bytes.Text, Expression.Expression}
+use Rattle.re_syntax.specs.{declared.syntax.Syntax.Syntax, Expression.Expression, Bytes.Text}
+use Rattle.re_search.specs.declared.{matcher.Matcher.Matcher, pattern.Pattern.Pattern}
 use Rattle.re_search.specs.Working.Matchers.{AreAlike, expressions_of, matched_expression, room_of}
-use Rattle.re_search.specs.Working.Matchers.{wants_whole}
-use Rattle.re_search.specs.{declared.matcher.Matcher.Matcher, Reading.IsReadable}
-use Rattle.re_search.specs.{Working.Literals.any_literal, Working.Literals.literal_meaning}
-use Rattle.re_search.specs.{declared.pattern.Pattern.Pattern, Working.Patterns.meant_by}
-use Rattle.re_search.specs.Working.Patterns.{IsPattern}
+use Rattle.re_search.specs.Working.{Matchers.wants_whole, Literals.{literal_meaning, any_literal}}
+use Rattle.re_search.specs.{Working.Patterns.{meant_by, IsPattern}, Reading.IsReadable}
 use Rattle.grep_core.specs.{declared.options.Options.Options, Files.AreMeant}
-use Rattle.grep_core.specs.{Working.MatcherLists.KeepAtMost, Working.SameChoice.IsSameChoice}
+use Rattle.grep_core.specs.Working.{SameChoice.IsSameChoice, MatcherLists.KeepAtMost}
 
 -- how many entries the cache of a matcher may have at most
 abbrev pub most_kept : ℕ

@@ -1,16 +1,13 @@
 -- How words are cut into pieces from the first one on, and what is made of them.
-use Rattle.std.specs.Prelude.{◌≡◌, List, [], ◌∷◌, map, Option, Some, None, Result, Ok, Err}
+use Rattle.std.specs.Prelude.{Some, Option, ◌≡◌, Result, Ok, ◌∷◌, List, Err, map, [], None}
 use Rattle.std.specs.{String.string_bytes, Borrow.Bor, Str.chars}
-use Rattle.re_syntax.specs.Bytes.{Text}
-use Rattle.grep_utility.specs.Words.{Token, flag, reads_as, source, list, file, around, operand}
-use Rattle.grep_utility.specs.Words.{fault, an_operand, ends_options, a_group, word_of, group}
-use Rattle.grep_utility.specs.Words.{pieces, texts_of, read, Asked, PatternsFrom, Draft}
+use Rattle.{re_syntax.specs.Bytes.Text, grep_utility.specs.Words.{ends_options, list, PatternsFrom}}
+use Rattle.grep_utility.specs.Words.{fault, source, Asked, flag, read, around, group, file}
+use Rattle.grep_utility.specs.Words.{reads_as, texts_of, pieces, a_group, an_operand, Draft, Token}
+use Rattle.grep_utility.specs.{Words.{word_of, operand}, declared.words.PatternSource.PatternSource}
 use Rattle.grep_utility.specs.declared.words.tokens.Word.TheVariants.{Operand, EndOfOptions, Group}
-use Rattle.grep_utility.specs.declared.words.UsageFault.{UsageFault}
-use Rattle.grep_utility.specs.declared.words.UsageFault.TheVariants.{Memory}
-use Rattle.grep_utility.specs.declared.words.PatternSource.{PatternSource}
-use Rattle.grep_utility.specs.declared.words.Request.{Request}
-use Rattle.grep_utility.specs.declared.words.tokens.WordTokens.{WordTokens}
+use Rattle.grep_utility.specs.declared.words.{tokens.WordTokens.WordTokens, Request.Request}
+use Rattle.grep_utility.specs.declared.words.UsageFault.{UsageFault, TheVariants.Memory}
 use Rattle.grep_utility.specs.declared.words.PatternSource.TheVariants as given
 use Rattle.grep_utility.specs.declared.words.Draft as code_draft
 use Rattle.grep_utility.specs.declared.words.tokens.Token as code

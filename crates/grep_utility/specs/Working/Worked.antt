@@ -1,9 +1,8 @@
 -- Two commands, worked by hand.
 use Rattle.std.specs.Prelude.{◌≡◌, ℕ, true, false, List, [], ◌∷◌, codes, Some, ⊤}
-use Rattle.re_syntax.specs.Bytes.{Text}
-use Rattle.grep_core.specs.{declared.status.Status.TheVariants.Error, Run.Devices}
-use Rattle.grep_utility.specs.{Command.CommandGives, Folder.Folder, Working.Known.HasReturned}
-use Rattle.grep_utility.specs.Working.Known.{WritesJust}
+use Rattle.{re_syntax.specs.Bytes.Text, grep_core.specs.declared.status.Status.TheVariants.Error}
+use Rattle.{grep_core.specs.Run.Devices, grep_utility.specs.{Command.CommandGives, Folder.Folder}}
+use Rattle.grep_utility.specs.Working.Known.{HasReturned, WritesJust}
 
 -- `grep -n -B 2 a h missing`, where the file `h` has three lines and there is no file `missing`
 abbrev pub row_words : List Text

@@ -1,9 +1,9 @@
 //! The options with their arguments, and the operands, of a command's words (XBD 12.2).
-ghost use Rattle.std.specs.Prelude.{◌≡◌, ◌∷◌, [], MatchOption, None};
-ghost use Rattle.std.specs.Str.{chars};
+ghost use Rattle.std.specs.{Prelude.{◌≡◌, ◌∷◌, [], MatchOption, None}, Str.chars};
 ghost use Rattle.std.specs.Iterator.{YieldsFirstBy, YieldsFirstRef, item_count};
 ghost use Rattle.grep_utility.specs.Words.{group, meaning_of, pieces, texts_of, with_argument};
-ghost use Rattle.grep_utility.specs.Working.Tokens.{AreUsedUp, IsWord, token_of, tokens_left, words_left};
+ghost use Rattle.grep_utility.specs.Working.Tokens.{AreUsedUp, IsWord, token_of, tokens_left};
+ghost use Rattle.grep_utility.specs.Working.Tokens.{words_left};
 
 use crate::number::read_lines;
 use crate::words::UsageFault;

@@ -1,7 +1,4 @@
-use Rattle.grep_utility.proofs.Prelude.{refl, Returns, asked}
-use Rattle.grep_core.proofs.lemmas.SourceLaws.{gives_both}
-use Rattle.grep_utility.proofs.lemmas.CommandLemmas.{words_refused, is_numbered, ends_before, ends_after}
-use Rattle.grep_utility.proofs.lemmas.ReportingLemmas.{gives_up}
+use Rattle.{grep_utility.proofs.{Prelude.{refl, Returns, asked}, lemmas.{CommandLemmas.{words_refused, is_numbered, ends_before, ends_after}, ReportingLemmas.{gives_up, reports_line, reports_lines}}}, grep_core.proofs.lemmas.SourceLaws.gives_both}
 use Rattle.grep_utility.proofs.command.run_grep.Goals as goal
 
 pub returns-in-Ok-prepare : goal.returns-in-Ok-prepare
@@ -12,11 +9,11 @@ returns-in-Ok-prepare g c =
     let ends = rw c.in-Ok-prepare.ensures.none_failed at c.search_request.ensures in
     ends_after _ (Returns g.F.Files.returned_readers c.args.files.now c.search_request.new.files) _ request c.in-Ok.ensures _ _ c.in-Ok-prepare.ensures.ok _ (λ left h. (back.0, back.1, join left back.2 h)) _ _ _ ends
 
-pub report_fault-requires : goal.report_fault-requires
-report_fault-requires g c = is_numbered (asked c.in-Ok.request) _ _ _ c.in-Err-prepare.fault c.in-Err-prepare.ensures.err
+pub write_command_fault-requires : goal.write_command_fault-requires
+write_command_fault-requires g c = is_numbered (asked c.in-Ok.request) _ _ _ c.in-Err-prepare.fault c.in-Err-prepare.ensures.err
 
 pub returns : goal.returns
-returns g c = ends_before _ (Returns g.F.Files.returned_readers c.args.files.now c.prepare.new.files) _ (asked c.in-Ok.request) c.in-Ok.ensures _ _ _ _ _ _ c.in-Err-prepare.fault c.in-Err-prepare.ensures.err c.report_fault.ensures
+returns g c = ends_before _ (Returns g.F.Files.returned_readers c.args.files.now c.prepare.new.files) _ (asked c.in-Ok.request) c.in-Ok.ensures _ _ _ _ _ _ c.in-Err-prepare.fault c.in-Err-prepare.ensures.err (reports_line g.M.CountedWrite.contents g.M.CountedWrite.failures _ _ _ c.write_command_fault.result c.write_command_fault.ensures)
 
 pub returns-in-Err : goal.returns-in-Err
-returns-in-Err g c = words_refused _ (Returns g.F.Files.returned_readers c.args.files.now c.args.files.now) _ c.in-Err.fault _ _ _ c.in-Err.ensures (gives_up _ _ _ _ _ _ _ refl c.report_usage.ensures)
+returns-in-Err g c = words_refused _ (Returns g.F.Files.returned_readers c.args.files.now c.args.files.now) _ _ _ _ c.in-Err.fault c.in-Err.ensures (gives_up _ _ _ _ _ _ _ refl (reports_lines g.M.CountedWrite.contents g.M.CountedWrite.failures _ _ _ c.write_usage_fault.result c.write_usage_fault.ensures))

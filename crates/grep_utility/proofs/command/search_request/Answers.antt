@@ -1,6 +1,4 @@
-use Rattle.grep_utility.proofs.Prelude.{rules, [], Returns}
-use Rattle.grep_core.proofs.lemmas.SourceLaws.{gives_both}
-use Rattle.grep_utility.proofs.lemmas.CommandLemmas.{given_ends}
+use Rattle.{grep_utility.proofs.{Prelude.{rules, [], Returns}, lemmas.CommandLemmas.given_ends}, grep_core.proofs.lemmas.SourceLaws.gives_both}
 use Rattle.grep_utility.proofs.command.search_request.Goals as goal
 
 pub returns : goal.returns

@@ -1,9 +1,8 @@
-use Rattle.grep_utility.proofs.Prelude.{rules, sym, subst, writer}
-use Rattle.re_search.specs.Working.Matchers.{AreAlike}
+use Rattle.grep_utility.proofs.Prelude.{rules, writer}
 use Rattle.grep_utility.proofs.command.search_sources.Goals as goal
 
 pub search_all-found-requires-clause-alike : goal.search_all-found-requires-clause-alike
-search_all-found-requires-clause-alike g c = subst (AreAlike c.args.task.now.request.now.options.line_regexp) (sym c.lend.ensures) c.requires.alike
+search_all-found-requires-clause-alike g c = rw c.lend.ensures c.requires.alike
 
 pub returns-clause-ends : goal.returns-clause-ends
 returns-clause-ends g c =

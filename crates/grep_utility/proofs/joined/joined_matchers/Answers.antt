@@ -1,6 +1,4 @@
-use Rattle.grep_utility.proofs.Prelude.{◌≡◌, ◌≤◌, rules, [], ◌∷◌, ◌++◌, List, length, arith, refl, sym, ap, ◌∙◌, subst, append-nil, append_assoc, map, map-append, All-nil, All-head, All-tail, meant_by, IsCounted, AreGrouped, most_kept, Pattern}
-use Rattle.std.specs.Vec.Iter.{into_iter_items}
-use Rattle.re_syntax.specs.Working.Trees.{expression_of}
+use Rattle.{grep_utility.proofs.Prelude.{◌≡◌, ◌≤◌, rules, [], ◌∷◌, length, arith, sym, ap, ◌∙◌, subst, append-nil, append_assoc, map, map-append, All-nil, All-head, All-tail, meant_by, IsCounted, AreGrouped, most_kept}, std.{specs.Vec.Iter.into_iter_items, proofs.lemmas.List.nil_from_length}, re_syntax.specs.Working.Trees.expression_of}
 use Rattle.grep_utility.proofs.joined.joined_matchers.Goals as goal
 
 pub loop-pattern-init : goal.loop-pattern-init
@@ -26,15 +24,11 @@ loop-pattern-preserved c =
       subst (λ es. AreGrouped options.line_regexp es new.matchers.items (map expression_of new.choice)) (sym (map-append (meant_by fold) done (p ∷ []))) (c.in_ok-add.ensures (map (meant_by fold) done) grouped),
     )
 
-nothing_left : (l : List Pattern) → length l ≡ 0 → l ≡ []
-nothing_left [] h = refl
-nothing_left (x ∷ xs) h = absurd (omega (arith, h))
-
 pub returns : goal.returns
 returns c =
     let (left, long, counted, grouped) = c.loop-pattern.invariant in
     let options = c.args.options.now in
     let fold = options.ignore_case in
-    let none = nothing_left (into_iter_items c.loop-pattern.pattern-iterator) (sym long ∙ c.in-None.ensures.steps.0) in
+    let none = nil_from_length (into_iter_items c.loop-pattern.pattern-iterator) (sym long ∙ c.in-None.ensures.steps.0) in
     let all : c.loop-pattern.yielded ≡ c.args.patterns.items = sym (append-nil c.loop-pattern.yielded) ∙ rw none at left in
     subst (λ ps. AreGrouped options.line_regexp (map (meant_by fold) ps) c.close.new.self.matchers.items []) all (c.in_ok-close.ensures.closed (map (meant_by fold) c.loop-pattern.yielded) grouped)

@@ -1,6 +1,4 @@
-use Rattle.grep_utility.proofs.Prelude.{◌≡◌, All, ◌++◌, length, map, meant_by, IsCounted, AreGrouped}
-use Rattle.std.specs.Vec.Iter.{into_iter_items, into_iter_len}
-use Rattle.re_syntax.specs.Working.Trees.{expression_of}
+use Rattle.{grep_utility.proofs.Prelude.{◌≡◌, All, ◌++◌, length, map, meant_by, IsCounted, AreGrouped}, std.specs.Vec.Iter.{into_iter_items, into_iter_len}, re_syntax.specs.Working.Trees.expression_of}
 use Rattle.grep_utility.proofs.joined.joined_matchers.Given as goal
 
 -- some patterns are grouped, and the others are left

@@ -1,8 +1,4 @@
-use Rattle.grep_utility.proofs.Prelude.{◌≡◌, rules, [], ◌∷◌, ◌++◌, length, sym, ap, ◌∙◌, append_assoc, IsPattern}
-use Rattle.re_syntax.specs.Lines.{lines_of}
-use Rattle.std.proofs.lemmas.Slice.Zip.{AllZip-long}
-use Rattle.grep_core.proofs.lemmas.MatcherLemmas.{AllZip-append, refused_or_memory}
-use Rattle.grep_utility.proofs.lemmas.ServingLemmas.{patterns_meant}
+use Rattle.{grep_utility.proofs.{Prelude.{◌≡◌, rules, [], ◌∷◌, ◌++◌, length, sym, ap, ◌∙◌, append_assoc, IsPattern}, lemmas.ServingLemmas.patterns_meant}, re_syntax.specs.Lines.lines_of, std.proofs.lemmas.Slice.Zip.AllZip-long, grep_core.proofs.lemmas.MatcherLemmas.{AllZip-append, refused_or_memory}}
 use Rattle.grep_utility.proofs.pattern_list.patterns_of.Goals as goal
 
 pub loop-text-preserved : goal.loop-text-preserved

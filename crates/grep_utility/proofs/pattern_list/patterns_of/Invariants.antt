@@ -1,5 +1,4 @@
-use Rattle.grep_utility.proofs.Prelude.{◌≡◌, List, ◌++◌, Text, ArePatterns}
-use Rattle.re_syntax.specs.Lines.{lines_of}
+use Rattle.{grep_utility.proofs.Prelude.{◌≡◌, List, ◌++◌, Text, ArePatterns}, re_syntax.specs.Lines.lines_of}
 use Rattle.grep_utility.proofs.pattern_list.patterns_of.Given as goal
 
 -- some texts are read, and the others are left

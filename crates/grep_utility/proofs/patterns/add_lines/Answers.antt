@@ -1,36 +1,20 @@
-use Rattle.grep_utility.proofs.Prelude.{Result, Bool, Err, subst, ap, ReadFault, NextIs}
-use Rattle.grep_core.proofs.lemmas.OneLineLemmas.{err_with}
-use Rattle.grep_utility.proofs.lemmas.CollectingLemmas.{so_far_none, so_far_line, all_added, some_added, fewer_left}
+use Rattle.{grep_core.proofs.lemmas.OneLineLemmas.err_with, grep_utility.proofs.lemmas.CollectingLemmas.{so_far_none, so_far_line, all_added, some_added, fewer_left}}
 use Rattle.grep_utility.proofs.patterns.add_lines.Goals as goal
 
 pub loop-texts-init : goal.loop-texts-init
 loop-texts-init g c = so_far_none _ _ c.args.lines.now _ c.requires.none_ahead c.requires.still_open c.requires.none_handed
 
 pub loop-texts-preserved : goal.loop-texts-preserved
-loop-texts-preserved g c =
-    let s = c.loop-texts.invariant in
-    let next = rw c.in-Ok-true.field-0-test at c.in-Ok-true.ensures.next in
-    so_far_line g.R.CountedRead.remaining g.R.CountedRead.failures c.args.lines.now.lines.reader c.loop-texts.lines c.next_numbered.new.self _ _ s _ c.line.result.now (next c.args.lines.now.lines.reader s.lines s.handed) c.line.ensures c.in_ok-add_text-in-Ok-true.ensures
+loop-texts-preserved g c = so_far_line g.R.CountedRead.remaining g.R.CountedRead.failures c.args.lines.now.lines.reader c.loop-texts.lines c.next_numbered.new.self _ _ c.loop-texts.invariant _ c.line.result.now (rw c.in-Ok-true.field-0-test at c.in-Ok-true.ensures.next) c.line.ensures c.in_ok-add_text-in-Ok-true.ensures
 
 pub returns-in-Ok-false-clause-ok : goal.returns-in-Ok-false-clause-ok
-returns-in-Ok-false-clause-ok g c =
-    let s = c.loop-texts.invariant in
-    let next = rw c.in-Ok-false.field-0-test at c.in-Ok-false.ensures.next in
-    all_added g.R.CountedRead.remaining g.R.CountedRead.failures c.args.lines.now.lines.reader c.loop-texts.lines c.next_numbered.new.self _ _ s (next c.args.lines.now.lines.reader s.lines s.handed)
+returns-in-Ok-false-clause-ok g c = all_added g.R.CountedRead.remaining g.R.CountedRead.failures c.args.lines.now.lines.reader c.loop-texts.lines c.next_numbered.new.self _ _ c.loop-texts.invariant (rw c.in-Ok-false.field-0-test at c.in-Ok-false.ensures.next)
 
 pub returns-in-Err-Device-clause-ok : goal.returns-in-Err-Device-clause-ok
-returns-in-Err-Device-clause-ok g c =
-    let s = c.loop-texts.invariant in
-    let reader = c.args.lines.now.lines.reader in
-    let next = subst (λ (r : Result Bool ReadFault). NextIs g.R.CountedRead.remaining g.R.CountedRead.failures reader s.lines c.next_numbered.new.self r) (ap Err c.in-Err-Device.field-0-is) (c.in-Err-Device.ensures.next reader s.lines s.handed) in
-    some_added g.R.CountedRead.remaining g.R.CountedRead.failures reader c.loop-texts.lines c.next_numbered.new.self _ _ s next
+returns-in-Err-Device-clause-ok g c = some_added g.R.CountedRead.remaining g.R.CountedRead.failures c.args.lines.now.lines.reader c.loop-texts.lines c.next_numbered.new.self _ _ c.loop-texts.invariant (rw c.in-Err-Device.field-0-is at c.in-Err-Device.ensures.next)
 
 pub loop-texts-smaller : goal.loop-texts-smaller
-loop-texts-smaller g c =
-    let s = c.loop-texts.invariant in
-    let reader = c.args.lines.now.lines.reader in
-    let next = rw c.in-Ok-true.field-0-test at c.in-Ok-true.ensures.next in
-    fewer_left g.R.CountedRead.remaining g.R.CountedRead.failures reader c.loop-texts.lines c.next_numbered.new.self _ _ s (next reader s.lines s.handed)
+loop-texts-smaller g c = fewer_left g.R.CountedRead.remaining g.R.CountedRead.failures c.args.lines.now.lines.reader c.loop-texts.lines c.next_numbered.new.self _ _ c.loop-texts.invariant (rw c.in-Ok-true.field-0-test at c.in-Ok-true.ensures.next)
 
 pub returns-in_err-add_text-in-Ok-true-clause-err : goal.returns-in_err-add_text-in-Ok-true-clause-err
 returns-in_err-add_text-in-Ok-true-clause-err g c =
@@ -42,6 +26,6 @@ returns-in_err-add_text-in-Ok-true-clause-err g c =
 pub returns-in-Err-Memory-clause-err : goal.returns-in-Err-Memory-clause-err
 returns-in-Err-Memory-clause-err g c =
     let s = c.loop-texts.invariant in
-    let reader = c.args.lines.now.lines.reader in
-    let handed = subst (λ (r : Result Bool ReadFault). NextIs g.R.CountedRead.remaining g.R.CountedRead.failures reader s.lines c.next_numbered.new.self r) (ap Err c.in-Err-Memory.field-0-is) (c.in-Err-Memory.ensures.next reader s.lines s.handed) in
+    let next = rw c.in-Err-Memory.field-0-is at c.in-Err-Memory.ensures.next in
+    let handed = next c.args.lines.now.lines.reader s.lines s.handed in
     handed.hands.none_failed

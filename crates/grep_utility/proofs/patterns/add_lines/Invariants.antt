@@ -1,5 +1,4 @@
-use Rattle.grep_utility.proofs.Prelude.{◌-◌, most_lines}
-use Rattle.grep_utility.proofs.lemmas.CollectingLemmas.{LinesSoFar}
+use Rattle.grep_utility.proofs.{Prelude.{◌-◌, most_lines}, lemmas.CollectingLemmas.LinesSoFar}
 use Rattle.grep_utility.proofs.patterns.add_lines.Given as goal
 
 -- the lines that were handed out were added

@@ -1,6 +1,4 @@
-use Rattle.grep_utility.proofs.Prelude.{[], ◌∷◌, ◌++◌, Ok, refl, sym, ap, ◌∙◌, subst, newline, AddsSource, given_source}
-use Rattle.grep_utility.specs.Patterns.{OneReaderEach}
-use Rattle.grep_utility.proofs.lemmas.SourceLemmas.{list_added}
+use Rattle.grep_utility.proofs.{Prelude.{[], ◌∷◌, ◌++◌, refl, sym, ap, ◌∙◌, subst, newline, IfOk-weaker, AddsSource, given_source}, lemmas.SourceLemmas.list_added}
 use Rattle.grep_utility.proofs.patterns.add_source.Goals as goal
 
 pub returns-in-Ok-clause-ok : goal.returns-in-Ok-clause-ok
@@ -8,9 +6,13 @@ returns-in-Ok-clause-ok g c =
     let folder = g.F.Files.folder c.args.files.now in
     let old = c.args.texts.now.items in
     let added = c.in-Ok.ensures ∙ ap (λ t. old ++ (t ++ newline ∷ [])) c.as_bytes.ensures.value in
-    subst (λ s. AddsSource folder (given_source s) old c.add_text.new.texts.items) (sym c.in-List.is) (list_added folder old c.add_text.new.texts.items _ added)
+    (subst (λ s. AddsSource folder (given_source s) old c.add_text.new.texts.items) (sym c.in-List.is) (list_added folder old c.add_text.new.texts.items _ added), refl)
 
-pub returns-in-Ok-Whole-clause-back : goal.returns-in-Ok-Whole-clause-back
-returns-in-Ok-Whole-clause-back g c =
-    let (rest, returned) = c.in-Ok-Whole.ensures.back (ap Ok c.in-Ok-Whole.field-0-is) in
-    (rest ∷ [], subst (λ s. OneReaderEach (given_source s ∷ []) (rest ∷ [])) (sym c.in-File.is) (rest, [], refl, refl), returned)
+pub returns-in-File-clause-back : goal.returns-in-File-clause-back
+returns-in-File-clause-back g c = IfOk-weaker c.add_pattern_file.result _ _ (λ x h. (h.0 ∷ [], rw c.in-File.is (h.0, [], refl, refl), h.1)) c.add_pattern_file.ensures.back
+
+pub returns-in-File-clause-ok : goal.returns-in-File-clause-ok
+returns-in-File-clause-ok g c = rw (c.in-File.is, ← c.deref.ensures) c.add_pattern_file.ensures.ok
+
+pub returns-in-File-clause-err : goal.returns-in-File-clause-err
+returns-in-File-clause-err g c = rw (c.in-File.is, ← c.deref.ensures) c.add_pattern_file.ensures.err

@@ -1,7 +1,4 @@
-use Rattle.grep_utility.proofs.Prelude.{[], ◌+◌, ◌++◌, map, drop, refl, sym, ap, ◌∙◌, subst, arith, append_assoc, append-nil, drop_all, given_source}
-use Rattle.grep_utility.specs.Patterns.{OneReaderEach}
-use Rattle.grep_core.proofs.lemmas.SourceLaws.{gives_both}
-use Rattle.grep_utility.proofs.lemmas.SourceLemmas.{SourcesSoFar, each_more, next_source, sources_more, sources_stop, sources_all}
+use Rattle.{grep_utility.{proofs.{Prelude.{[], ◌+◌, ◌++◌, map, drop, refl, sym, ap, ◌∙◌, subst, arith, append_assoc, append-nil, drop_all, given_source}, lemmas.SourceLemmas.{SourcesSoFar, each_more, next_source, sources_more, sources_stop, sources_all}}, specs.Patterns.OneReaderEach}, grep_core.proofs.lemmas.SourceLaws.gives_both}
 use Rattle.grep_utility.proofs.patterns.read_patterns.Goals as goal
 
 pub returns-in-Err-clause-err : goal.returns-in-Err-clause-err
@@ -23,10 +20,10 @@ loop-source-preserved g c =
     let here = next_source c.args.sources.now c.loop-source.source-index _ c.loop-source-test.true c.source-item.is in
     let so_far = subst (λ left. SourcesSoFar start all now left c.loop-source.texts.items) here s.so_far in
     let own = c.in-Ok.ensures.back in
-    let more = sources_more start all now _ _ _ so_far c.add_source.new.texts.items c.in-Ok.ensures.ok in
+    let more = sources_more start all now _ _ _ so_far c.add_source.new.texts.items c.in-Ok.ensures.ok.0 in
     record {
       so_far = subst (λ folder. SourcesSoFar start all folder (map given_source (drop (c.loop-source.source-index + 1) c.args.sources.now)) c.add_source.new.texts.items) (sym c.in-Ok.ensures.used) more;
-      none_failed = c.in-Ok.ensures.none_failed ∙ s.none_failed;
+      none_failed = c.in-Ok.ensures.ok.1 ∙ s.none_failed;
       back = (
         s.back.0 ++ own.0,
         λ others h. subst (OneReaderEach all) (sym (append_assoc s.back.0 own.0 others)) (s.back.1 (own.0 ++ others) (subst (λ left. OneReaderEach left (own.0 ++ others)) (sym here) (each_more _ _ own.0 others own.1 h))),

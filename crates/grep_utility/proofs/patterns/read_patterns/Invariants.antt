@@ -1,6 +1,4 @@
-use Rattle.grep_utility.proofs.Prelude.{◌≡◌, List, Option, drop, ◌++◌, map, Text, Returns, given_source}
-use Rattle.grep_utility.specs.Patterns.{OneReaderEach}
-use Rattle.grep_utility.proofs.lemmas.SourceLemmas.{SourcesSoFar}
+use Rattle.grep_utility.{proofs.{Prelude.{◌≡◌, List, Option, drop, ◌++◌, map, Text, Returns, given_source}, lemmas.SourceLemmas.SourcesSoFar}, specs.Patterns.OneReaderEach}
 use Rattle.grep_utility.proofs.patterns.read_patterns.Given as goal
 
 -- the sources before this one were read, and nothing failed

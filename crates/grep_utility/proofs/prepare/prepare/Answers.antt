@@ -1,10 +1,8 @@
-use Rattle.grep_utility.proofs.Prelude.{sym, ◌∙◌}
-use Rattle.re_syntax.specs.Lines.{lines_of}
-use Rattle.grep_utility.proofs.lemmas.CommandLemmas.{kind_differs, not_memory}
+use Rattle.{grep_utility.proofs.{Prelude.{sym, ◌∙◌, asked}, lemmas.CommandLemmas.{kind_differs, not_memory, stops_due}}, re_syntax.specs.Lines.lines_of}
 use Rattle.grep_utility.proofs.prepare.prepare.Goals as goal
 
 pub returns-in-Err-clause-err : goal.returns-in-Err-clause-err
-returns-in-Err-clause-err g c = rw c.deref.ensures.value at c.in-Err.ensures.err
+returns-in-Err-clause-err g c = stops_due (asked c.args.request.now) _ _ _ _ (rw c.deref.ensures.value at c.in-Err.ensures.err)
 
 pub returns-then-has_more_than-clause-err : goal.returns-then-has_more_than-clause-err
 returns-then-has_more_than-clause-err g c =

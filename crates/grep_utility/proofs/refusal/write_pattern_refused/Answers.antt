@@ -1,6 +1,4 @@
-use Rattle.grep_utility.proofs.Prelude.{[], ◌∷◌, ◌++◌, subst, err_from_is_err_and, decimal, newline, output_line, StopsWithin, Writes, kind_name}
-use Rattle.grep_core.proofs.lemmas.RowLemmas.{stops_early, writes_last}
-use Rattle.grep_utility.proofs.lemmas.ReportingLemmas.{line_of_tokens}
+use Rattle.{grep_utility.proofs.{Prelude.{[], ◌∷◌, ◌++◌, subst, err_from_is_err_and, decimal, newline, output_line, StopsWithin, Writes, kind_name}, lemmas.ReportingLemmas.line_of_tokens}, grep_core.proofs.lemmas.RowLemmas.{stops_early, writes_last}}
 use Rattle.grep_utility.proofs.refusal.write_pattern_refused.Goals as goal
 
 pub returns-in_err-write_number_and_kind : goal.returns-in_err-write_number_and_kind

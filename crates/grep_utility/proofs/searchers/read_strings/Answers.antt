@@ -1,7 +1,4 @@
-use Rattle.grep_utility.proofs.Prelude.{sym, ap, ◌∙◌, ◌≡◌, [], ◌∷◌, ◌++◌, subst, arith, get_or, take, take_all, take-suc, add-one, All-append, HasNoNewline, terminated, pattern_expression, AddsStrings, AreReadAs}
-use Rattle.re_syntax.specs.Lines.{lines_of}
-use Rattle.re_syntax.proofs.lemmas.LinesLaws.{all_none, lines_of-terminated, terminated-append}
-use Rattle.grep_utility.proofs.lemmas.ServingLemmas.{next_read}
+use Rattle.{grep_utility.proofs.{Prelude.{sym, ap, ◌∙◌, ◌≡◌, [], ◌++◌, subst, arith, get_or, take, take_all, take-suc, add-one, All-append, HasNoNewline, terminated, pattern_expression, AddsStrings, AreReadAs}, lemmas.ServingLemmas.next_read}, re_syntax.{specs.Lines.lines_of, proofs.lemmas.LinesLaws.{all_none, lines_of-terminated, terminated-append}}}
 use Rattle.grep_utility.proofs.searchers.read_strings.Goals as goal
 
 pub patterns-init : goal.patterns-init

@@ -1,8 +1,4 @@
-use Rattle.grep_utility.proofs.Prelude.{arith, IsPattern}
-use Rattle.re_syntax.specs.Lines.{lines_of}
-use Rattle.std.proofs.lemmas.Slice.Zip.{AllZip-long}
-use Rattle.grep_utility.proofs.lemmas.GroupLemmas.{groups_serve}
-use Rattle.grep_utility.proofs.lemmas.ServingLemmas.{patterns_meant, joined_grouped}
+use Rattle.{grep_utility.proofs.{Prelude.{arith, IsPattern}, lemmas.{GroupLemmas.groups_serve, ServingLemmas.{patterns_meant, joined_grouped}}}, re_syntax.specs.Lines.lines_of, std.proofs.lemmas.Slice.Zip.AllZip-long}
 use Rattle.grep_utility.proofs.searchers.searchers_of.Goals as goal
 
 pub returns-in-Some-clause-ok : goal.returns-in-Some-clause-ok

@@ -1,5 +1,4 @@
-use Rattle.grep_utility.proofs.Prelude.{◌≡◌, None, ap, ◌∙◌, Draft, no_numbers, nothing_asked, pieces, reads_on, texts_of, drafted}
-use Rattle.grep_utility.proofs.lemmas.WordLemmas.{completes}
+use Rattle.grep_utility.proofs.{Prelude.{◌≡◌, None, ap, ◌∙◌, Draft, no_numbers, nothing_asked, pieces, reads_on, texts_of, drafted}, lemmas.WordLemmas.completes}
 use Rattle.grep_utility.proofs.words.read_words.Goals as goal
 
 pub returns : goal.returns

@@ -1,6 +1,4 @@
-use Rattle.grep_utility.proofs.Prelude.{◌≡◌, [], ◌∷◌, ◌++◌, map, sym, ap, ◌∙◌, subst, IfOk-weaker, meant_by, AreGrouped}
-use Rattle.re_syntax.specs.Working.Trees.{expression_of}
-use Rattle.grep_utility.proofs.lemmas.GroupLemmas.{pattern_joins, pattern_alone}
+use Rattle.{grep_utility.proofs.{Prelude.{[], ◌∷◌, ◌++◌, map, ap, ◌∙◌, IfOk-weaker, meant_by}, lemmas.GroupLemmas.{pattern_joins, pattern_alone}}, re_syntax.specs.Working.Trees.expression_of}
 use Rattle.grep_utility.proofs.joined.Groups.add.Goals as goal
 
 pub returns-then-joins : goal.returns-then-joins
@@ -17,9 +15,5 @@ returns-then-joins-2 c es g =
 pub returns : goal.returns
 returns c es g =
     let options = c.args.options.now in
-    let e = meant_by options.ignore_case c.args.pattern in
-    let none : c.push.new.self.choice ≡ [] = c.push.ensures.same ∙ c.in_ok-close.ensures.empty in
-    IfOk-weaker c.push.result _ _
-    (λ x pushed. subst (λ ts. AreGrouped options.line_regexp (es ++ e ∷ []) c.push.new.self.matchers.items (map expression_of ts)) (sym none)
-    (pattern_alone options.line_regexp es c.close.new.self.matchers.items (c.in_ok-close.ensures.closed es g) e c.in_ok-matcher.matcher c.push.new.self.matchers.items pushed c.in_ok-matcher.ensures.expression c.in_ok-matcher.ensures.whole c.in_ok-matcher.ensures.room))
-    c.push.ensures.pushed
+    rw c.in_ok-close.ensures.empty
+    (pattern_alone options.line_regexp es c.close.new.self.matchers.items (c.in_ok-close.ensures.closed es g) (meant_by options.ignore_case c.args.pattern) c.in_ok-matcher.matcher _ c.in_ok-push.ensures.items c.in_ok-matcher.ensures.expression c.in_ok-matcher.ensures.whole c.in_ok-matcher.ensures.room)

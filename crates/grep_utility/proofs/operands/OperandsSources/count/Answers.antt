@@ -1,5 +1,4 @@
-use Rattle.grep_utility.proofs.Prelude.{sym, ◌∙◌}
-use Rattle.grep_utility.proofs.lemmas.OperandLemmas.{length-sources_named}
+use Rattle.grep_utility.proofs.{Prelude.{sym, ◌∙◌}, lemmas.OperandLemmas.length-sources_named}
 use Rattle.grep_utility.proofs.operands.OperandsSources.count.Goals as goal
 
 pub returns : goal.returns

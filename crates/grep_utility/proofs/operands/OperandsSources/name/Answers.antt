@@ -1,5 +1,4 @@
-use Rattle.grep_utility.proofs.Prelude.{◌<◌, sym, ap, ◌∙◌, subst, searched, display_name, texts_of}
-use Rattle.grep_utility.proofs.lemmas.OperandLemmas.{length-sources_named, name-sources_named}
+use Rattle.grep_utility.proofs.{Prelude.{◌<◌, sym, ap, ◌∙◌, subst, searched, display_name, texts_of}, lemmas.OperandLemmas.{length-sources_named, name-sources_named}}
 use Rattle.grep_utility.proofs.operands.OperandsSources.name.Goals as goal
 
 pub word_at-requires : goal.word_at-requires

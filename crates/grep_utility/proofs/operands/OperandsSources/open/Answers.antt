@@ -1,5 +1,4 @@
-use Rattle.grep_utility.proofs.Prelude.{◌+◌, ◌<◌, sym, ap, ◌∙◌, subst, searched, after_use, StandsAt, texts_of}
-use Rattle.grep_utility.proofs.lemmas.OperandLemmas.{length-sources_named, StandsAt-next}
+use Rattle.grep_utility.proofs.{Prelude.{◌+◌, ◌<◌, sym, ap, ◌∙◌, subst, searched, after_use, StandsAt, texts_of}, lemmas.OperandLemmas.{length-sources_named, StandsAt-next}}
 use Rattle.grep_utility.proofs.operands.OperandsSources.open.Goals as goal
 
 pub word_at-requires : goal.word_at-requires

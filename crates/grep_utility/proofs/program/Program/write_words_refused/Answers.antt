@@ -1,5 +1,4 @@
-use Rattle.grep_utility.proofs.Prelude.{[], ◌∷◌, sym, subst, append-nil, err_from_is_err_and, written, output_line, Writes}
-use Rattle.grep_core.proofs.lemmas.RowLemmas.{stops_early, writes_last}
+use Rattle.{grep_utility.proofs.Prelude.{[], ◌∷◌, sym, subst, append-nil, err_from_is_err_and, written, output_line, Writes}, grep_core.proofs.lemmas.RowLemmas.{stops_early, writes_last}}
 use Rattle.grep_utility.proofs.program.Program.write_words_refused.Goals as goal
 
 pub returns-in_err-write_line : goal.returns-in_err-write_line

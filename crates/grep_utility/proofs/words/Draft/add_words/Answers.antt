@@ -1,5 +1,4 @@
-use Rattle.grep_utility.proofs.Prelude.{◌≡◌, ◌∷◌, None, Ok, rules, sym, ap, ◌∙◌, pieces, reads_on, texts_of, drafted, token_of, tokens_left}
-use Rattle.grep_utility.proofs.lemmas.WordLemmas.{piece_added}
+use Rattle.grep_utility.proofs.{Prelude.{◌≡◌, ◌∷◌, None, Ok, rules, sym, ap, ◌∙◌, pieces, reads_on, texts_of, drafted, token_of, tokens_left}, lemmas.WordLemmas.piece_added}
 use Rattle.grep_utility.proofs.words.Draft.add_words.Goals as goal
 
 pub loop-item-init : goal.loop-item-init

@@ -1,6 +1,4 @@
-use Rattle.grep_utility.proofs.Prelude.{◌∷◌, ap, ◌∙◌, rules, by_characters}
-use Rattle.std.specs.Str.{chars}
-use Rattle.grep_utility.proofs.lemmas.TokenLemmas.{word_of-end, word_of-other, by_characters-operand, by_characters-group}
+use Rattle.{grep_utility.proofs.{Prelude.{◌∷◌, ap, ◌∙◌, rules, by_characters}, lemmas.TokenLemmas.{word_of-end, word_of-other, by_characters-operand, by_characters-group}}, std.specs.Str.chars}
 use Rattle.grep_utility.proofs.words.tokens.kind_of_word.Goals as goal
 
 pub returns-then-eq : goal.returns-then-eq

@@ -1,5 +1,4 @@
-use Rattle.grep_utility.proofs.Prelude.{◌∷◌, ap, ◌∙◌, sym, chars_past_char}
-use Rattle.std.specs.Str.{chars}
+use Rattle.{grep_utility.proofs.Prelude.{◌∷◌, ap, ◌∙◌, sym, chars_past_char}, std.specs.Str.chars}
 use Rattle.grep_utility.proofs.words.tokens.split_first_char.Goals as goal
 
 pub returns : goal.returns

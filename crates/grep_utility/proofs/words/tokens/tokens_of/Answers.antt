@@ -1,5 +1,4 @@
-use Rattle.grep_utility.proofs.Prelude.{[], refl, pieces, texts_of}
-use Rattle.grep_utility.proofs.lemmas.TokenLemmas.{group-end}
+use Rattle.grep_utility.proofs.{Prelude.{[], refl, pieces, texts_of}, lemmas.TokenLemmas.group-end}
 use Rattle.grep_utility.proofs.words.tokens.tokens_of.Goals as goal
 
 pub returns : goal.returns

@@ -1,5 +1,4 @@
-use Rattle.grep_utility.proofs.Prelude.{◌∷◌, [], None, refl, ap, ◌∙◌, sym, rules, pieces, token_of, words_left, tokens_from}
-use Rattle.grep_utility.proofs.lemmas.TokenLemmas.{group-end, group-argument, group-wants, pieces-argument, pieces-no_argument}
+use Rattle.grep_utility.proofs.{Prelude.{◌∷◌, [], None, refl, ap, ◌∙◌, sym, rules, pieces, token_of, words_left, tokens_from}, lemmas.TokenLemmas.{group-end, group-argument, group-wants, pieces-argument, pieces-no_argument}}
 use Rattle.grep_utility.proofs.words.tokens.WordTokens.option.Goals as goal
 
 pub returns-then-not-is_empty : goal.returns-then-not-is_empty
