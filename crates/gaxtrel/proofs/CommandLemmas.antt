@@ -1,20 +1,6 @@
 -- A text of commands is read as a file of its lines, whatever the reader of a text gives at a time.
-use Rattle.gaxtrel.proofs.Prelude.{◌≡◌, ◌∙◌, ℕ, ◌+◌, ◌≤◌, Bool, true, false, List, [], ◌∷◌, ◌++◌, Option, Some, Result, Ok, Err, IfOk, IfErr, ◌⊎◌, inl, inr, if◌then◌else◌, nat_eq, length, sym, ap, refl, subst, arith, append_assoc, append-nil, length-append, Text, ended_lines_of, lines_of, newline, put_before}
+use Rattle.{gaxtrel.{proofs.Prelude.{◌≡◌, ◌∙◌, ℕ, ◌+◌, ◌≤◌, Bool, true, false, List, [], ◌∷◌, ◌++◌, Option, Some, Result, Ok, Err, IfOk, IfErr, ◌⊎◌, inl, inr, if◌then◌else◌, nat_eq, length, sym, ap, refl, subst, arith, append_assoc, append-nil, length-append, Text, ended_lines_of, lines_of, newline, put_before}, specs.Live.{AnswersText, LiveKept, commands_of, end_number}}, std.specs.Io.KnownBytes.Appends, re_syntax.proofs.lemmas.EndedLinesLaws.AreEndedLines-ended_lines_of, grep_core.specs.{Files.{File, broken, whole}, Output.written, Reading.{IsReadingOf, Reading, ends_after, failures_of, fails_after, file_of, most_lines, not_opened, open_source}, Run.count_more}, grep_io.proofs.lemmas.FileLaws.{lines_of-beyond, up_to_limit-few}, grep_cmd.{specs.{declared.script.{ScriptEnd.ScriptEnd, ScriptFault.{ScriptFault, TheVariants.{Memory, Read, Write}}}, Script.{Step, Steps}, Replies.{BeginsScript, HasAllButLast, ScriptGives, ReadsScript, ScriptState}}, proofs.lemmas.ScriptSteps.all_but_last}}
 use Rattle.re_meter.specs.Meters.{Steps as StepCounts}
-use Rattle.std.specs.Io.KnownBytes.{Appends}
-use Rattle.re_syntax.proofs.lemmas.EndedLinesLaws.{AreEndedLines-ended_lines_of}
-use Rattle.grep_core.specs.Files.{File, broken, whole}
-use Rattle.grep_core.specs.Output.{written}
-use Rattle.grep_core.specs.Reading.{IsReadingOf, Reading, ends_after, failures_of, fails_after, file_of, most_lines, not_opened, open_source}
-use Rattle.grep_core.specs.Run.{count_more}
-use Rattle.grep_io.proofs.lemmas.FileLaws.{lines_of-beyond, up_to_limit-few}
-use Rattle.grep_cmd.specs.declared.script.ScriptEnd.{ScriptEnd}
-use Rattle.grep_cmd.specs.declared.script.ScriptFault.{ScriptFault}
-use Rattle.grep_cmd.specs.declared.script.ScriptFault.TheVariants.{Memory, Read, Write}
-use Rattle.grep_cmd.specs.Script.{Step, Steps}
-use Rattle.grep_cmd.specs.Replies.{BeginsScript, HasAllButLast, ScriptGives, ReadsScript, ScriptState}
-use Rattle.grep_cmd.proofs.lemmas.ScriptSteps.{all_but_last}
-use Rattle.gaxtrel.specs.Live.{AnswersText, LiveKept, commands_of, end_number}
 
 -- ---- the number of lines
 

@@ -1,9 +1,5 @@
 -- What is kept stays right after a call, and how much it may search.
-use Rattle.gaxtrel.proofs.Prelude.{◌≡◌, ◌∙◌, ◌+◌, ◌*◌, ◌-◌, ◌/◌, ◌<◌, ◌≤◌, ◌↔◌, ℕ, suc, zero, Bool, List, ◌++◌, inl, inr, length, min, mul-le-mul_left, take, refl, arith, take-append_seam, AreAlike, AreSame, wants_whole, HaveRoom, Allows, Terms}
-use Rattle.std.proofs.Math.Nat.{eq-or-lt_of_le, lt-mul-div-succ, mul-div-le}
-use Rattle.grep_core.proofs.lemmas.CostLaws.{same_length}
-use Rattle.re_search.specs.declared.matcher.Matcher.{Matcher}
-use Rattle.re_search.proofs.lemmas.KeptMatchers.{still_alike}
+use Rattle.{gaxtrel.proofs.Prelude.{◌≡◌, ◌∙◌, ◌+◌, ◌*◌, ◌-◌, ◌/◌, ◌<◌, ◌≤◌, ◌↔◌, ℕ, suc, zero, Bool, List, ◌++◌, inl, inr, length, min, mul-le-mul_left, take, refl, arith, take-append_seam, AreAlike, AreSame, wants_whole, HaveRoom, Allows, Terms}, std.proofs.Math.Nat.{eq-or-lt_of_le, lt-mul-div-succ, mul-div-le}, grep_core.proofs.lemmas.CostLaws.same_length, re_search.{specs.declared.matcher.Matcher.Matcher, proofs.lemmas.KeptMatchers.still_alike}}
 
 -- after a call on the matchers of a vector those that it keeps still agree on whether the whole line has to be matched, and have no more room
 pub still_right : {whole : Bool} (before now after rest : List Matcher) (len : ℕ) → AreSame now after → now ≡ before → length now ≡ len

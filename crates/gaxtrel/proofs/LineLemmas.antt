@@ -1,12 +1,5 @@
 -- The matched lines of a text, one more at a time.
-use Rattle.gaxtrel.proofs.Prelude.{◌≡◌, ◌∙◌, ℕ, suc, ◌+◌, ◌*◌, ◌-◌, ◌^◌, ◌<◌, ◌≤◌, ◌⊎◌, List, [], ◌∷◌, ◌++◌, All, inl, inr, length, min, mul-le-mul_left, take, drop, set, refl, sym, ap, subst, arith, cases_eq, All-head, All-tail, drop-drop, length-drop, length-set, take_all, take_more_set, take-append-add, drop-append-add, Text, HasNoNewline, newline, terminated, lines_of, Span, AddsAtMost, Steps, IsNext, IsSought, Sought, AreLines, PutsLines, after_lines, line_at, GaxtrelLine}
-use Rattle.std.proofs.lemmas.List.{length-append}
-use Rattle.re_trees.proofs.lemmas.LinesLaws.{lines_of-line, lines_of-last, none_before, none_in_empty, all_cons, all_none}
-use Rattle.re_trees.proofs.lemmas.Decisions.{dec_any}
-use Rattle.re_trees.proofs.lemmas.SplittingLaws.{lines_of-empty}
-use Rattle.re_trees.proofs.lemmas.HoldsDecided.{dec_matches}
-use Rattle.re_meter.proofs.lemmas.Adding.{adds_both, adds_within}
-use Rattle.gaxtrel.proofs.ArrayLemmas.{PutSoFar, all_put, less_left, none_put, one_put, put_full}
+use Rattle.{gaxtrel.proofs.{Prelude.{◌≡◌, ◌∙◌, ℕ, suc, ◌+◌, ◌*◌, ◌-◌, ◌^◌, ◌<◌, ◌≤◌, ◌⊎◌, List, [], ◌∷◌, ◌++◌, All, inl, inr, length, min, mul-le-mul_left, take, drop, set, refl, sym, ap, subst, arith, cases_eq, All-head, All-tail, drop-drop, length-drop, length-set, take_all, take_more_set, take-append-add, drop-append-add, Text, HasNoNewline, newline, terminated, lines_of, Span, AddsAtMost, Steps, IsNext, IsSought, Sought, AreLines, PutsLines, after_lines, line_at, GaxtrelLine}, ArrayLemmas.{PutSoFar, all_put, less_left, none_put, one_put, put_full}}, std.proofs.lemmas.List.length-append, re_trees.proofs.lemmas.{LinesLaws.{lines_of-line, lines_of-last, none_before, none_in_empty, all_cons, all_none}, Decisions.dec_any, SplittingLaws.lines_of-empty, HoldsDecided.dec_matches}, re_meter.proofs.lemmas.Adding.{adds_both, adds_within}}
 
 -- ---- the first lines of a text
 

@@ -1,16 +1,18 @@
 -- The words of the machine and of separation logic that proofs by hand use, passed on from one place. Declares nothing.
-pub use Rattle.core.proofs.alloc.Calls.{Al, Goes-blank, handle_tells}
-pub use Rattle.core.proofs.atomic.Steps.{fm}
-pub use Rattle.core.proofs.cell.Inside.{Good}
-pub use Rattle.core.specs.declared.alloc.Allocator.{Ghosts}
-pub use Rattle.gaxtrel.specs.Working.Owned.{held_owns}
-pub use Rattle.gaxtrel.specs.declared.held.Held.{Held}
-pub use Rattle.std.proofs.Common.{List, [], ap, refl, subst, sym, ℕ, ◌++◌, ◌∙◌, ◌∷◌, ◌≡◌}
-pub use Rattle.std.proofs.raw_atomic.Walks.{leaves, proved_at}
-pub use Rattle.std.specs.Prelude.{None, Option, Some}
-pub use Rattle.std_alloc.proofs.BoxSteps.Steps.{box_in, box_out}
-pub use Rattle.std_alloc.proofs.ResultValues.{and_tt}
-pub use Rattle.std_alloc.specs.Box.Ownership.{box_owns}
+pub use Rattle.{
+  core.proofs.alloc.Calls.{Al, Goes-blank, handle_tells},
+  core.proofs.atomic.Steps.{fm},
+  core.proofs.cell.Inside.{Good},
+  core.specs.declared.alloc.Allocator.{Ghosts},
+  gaxtrel.specs.Working.Owned.{held_owns},
+  gaxtrel.specs.declared.held.Held.{Held},
+  std.proofs.Common.{List, [], ap, refl, subst, sym, ℕ, ◌++◌, ◌∙◌, ◌∷◌, ◌≡◌},
+  std.proofs.raw_atomic.Walks.{leaves, proved_at},
+  std.specs.Prelude.{None, Option, Some},
+  std_alloc.proofs.BoxSteps.Steps.{box_in, box_out},
+  std_alloc.proofs.ResultValues.{and_tt},
+  std_alloc.specs.Box.Ownership.{box_owns},
+}
 pub use base.Fml.{flft, fsep, ftrue}
 pub use base.Logic.{SProp, emp, ent, fst∗, id⊢, never}
 pub use contract.Monad.{fact, fact_i}

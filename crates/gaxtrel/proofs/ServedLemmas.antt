@@ -1,17 +1,5 @@
 -- What is found of a search that serves for another is found for that.
-use Rattle.gaxtrel.proofs.Prelude.{◌≡◌, ◌∙◌, ℕ, ◌+◌, ◌↔◌, Bool, IsTrue, true, false, List, [], ◌∷◌, inl, inr, Option, None, Some, length, map, refl, sym, ap, subst, arith, false≢true, Text, Span, Steps, AddsAtMost, fresh, CountsSought, IsSought, Sought, Allows, Kept, Serves, Terms, expressions_in, sought_in, terms_of, Asks, AsksLine, patterns_in, AreLines, FindsLine, PutsLines, PutsNumbers, PutsParts, line_cost, steps_of, GaxtrelLine}
-use Rattle.re_syntax.specs.Parts.{ArePartsFrom}
-use Rattle.re_auto.specs.Searches.{FindsPart}
-use Rattle.re_runs.proofs.lemmas.CountedBlocks.{counts_same}
-use Rattle.re_runs.proofs.lemmas.NextLines.{finds_same}
-use Rattle.grep_core.proofs.lemmas.CostLaws.{adds_for_more}
-use Rattle.grep_core.proofs.lemmas.SameChoice.{Any-Matches, ArePartsFrom-same, IsFound-same, IsPart-same, other_way}
-use Rattle.gaxtrel.specs.Calls.{IsFor}
-use Rattle.gaxtrel.specs.declared.held.Held.{Held}
-use Rattle.gaxtrel.specs.declared.held.Held.TheVariants.{Patterns}
-use Rattle.gaxtrel.specs.Working.Owned.{Stays}
-use Rattle.gaxtrel.specs.declared.part.GaxtrelPart.{GaxtrelPart}
-use Rattle.gaxtrel.specs.declared.work.GaxtrelWork.{GaxtrelWork}
+use Rattle.{gaxtrel.{proofs.Prelude.{◌≡◌, ◌∙◌, ℕ, ◌+◌, ◌↔◌, Bool, IsTrue, true, false, List, [], ◌∷◌, inl, inr, Option, None, Some, length, map, refl, sym, ap, subst, arith, false≢true, Text, Span, Steps, AddsAtMost, fresh, CountsSought, IsSought, Sought, Allows, Kept, Serves, Terms, expressions_in, sought_in, terms_of, Asks, AsksLine, patterns_in, AreLines, FindsLine, PutsLines, PutsNumbers, PutsParts, line_cost, steps_of, GaxtrelLine}, specs.{Calls.IsFor, declared.{held.Held.{Held, TheVariants.Patterns}, part.GaxtrelPart.GaxtrelPart, work.GaxtrelWork.GaxtrelWork}, Working.Owned.Stays}}, re_syntax.specs.Parts.ArePartsFrom, re_auto.specs.Searches.FindsPart, re_runs.proofs.lemmas.{CountedBlocks.counts_same, NextLines.finds_same}, grep_core.proofs.lemmas.{CostLaws.adds_for_more, SameChoice.{Any-Matches, ArePartsFrom-same, IsFound-same, IsPart-same, other_way}}}
 
 -- a search serves for itself
 pub serves_itself : (apart : Bool) (asked sought : Sought) → asked ≡ sought → Serves apart asked sought
@@ -44,13 +32,13 @@ limited {t} {sought = sought} is taken value kind limit after last holds same ap
 pub asked : {held after : Option Held} {boxed now : Held} {kept last : Kept} {work : GaxtrelWork} {answer : ℕ} {Answered : Terms → Sought → Type 0} → held ≡ Some boxed → now ≡ boxed → now ≡ Patterns kept
     → after ≡ Some (Patterns last) → Stays kept last → ((sought : Sought) → Serves kept.apart (sought_in kept) sought → Answered (terms_of kept) sought) → Asks held after work answer Answered
 asked {kept = kept} {last = last} {Answered = Answered} taken value kind holds stays answered = (
-      (λ none. absurd (cc (sym none ∙ ap patterns_in (taken ∙ ap Some (sym value ∙ kind))))),
-      (λ t sought is.
-          let (serves, on) = served is taken value kind in (
-            record { kept = last; is_there = ap patterns_in holds; is_on = still_on kept last stays ∙ on; serves = subst (λ s. Serves t.apart s sought) (sym stays.0) serves },
-            subst (λ u. Answered u sought) on (answered sought (subst (λ (u : Terms). Serves u.apart (sought_in kept) sought) (sym on) serves)),
-          )),
-    )
+  (λ none. absurd (cc (sym none ∙ ap patterns_in (taken ∙ ap Some (sym value ∙ kind))))),
+  (λ t sought is.
+      let (serves, on) = served is taken value kind in (
+        record { kept = last; is_there = ap patterns_in holds; is_on = still_on kept last stays ∙ on; serves = subst (λ s. Serves t.apart s sought) (sym stays.0) serves },
+        subst (λ u. Answered u sought) on (answered sought (subst (λ (u : Terms). Serves u.apart (sought_in kept) sought) (sym on) serves)),
+      )),
+)
 
 module _ {apart : Bool} {asked sought : Sought} (serves : Serves apart asked sought) where
   is_here : (line : Text) → IsSought asked line → IsSought sought line

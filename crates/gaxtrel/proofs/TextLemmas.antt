@@ -1,12 +1,5 @@
 -- The lines of a text are those of its whole lines and then the last one, if that lacks its newline.
-use Rattle.gaxtrel.proofs.Prelude.{◌≡◌, ◌∙◌, ℕ, ◌+◌, ◌-◌, ◌*◌, ◌<◌, ◌≤◌, List, [], ◌∷◌, ◌++◌, All, Option, Some, None, inl, inr, length, take, drop, refl, sym, ap, subst, arith, mul-le-mul_left, append_assoc, length-append, ⊤, take-append_seam, drop_all, length-take-le, take_rest, All-append, All-cons, All-nil, Text, HasNoNewline, ended_lines_of, newline, terminated, lines_of, Span, Steps, AddsAtMost, FindsNext, HoldsOfMany, IsBlock, IsNext, PassesAll, CountsSought, FindsSought, IsSought, Sought, FindsLine, bytes_to_next, line_cost, moved}
-use Rattle.std.proofs.Common.{length-drop}
-use Rattle.re_syntax.proofs.lemmas.EndedLinesLaws.{ended_lines_of-unique}
-use Rattle.re_syntax.proofs.lemmas.LinesLaws.{lines_of-last, lines_of-terminated}
-use Rattle.re_syntax.proofs.lemmas.SplittingLaws.{lines_of-empty}
-use Rattle.re_meter.proofs.lemmas.Adding.{adds_both, adds_none, adds_within}
-use Rattle.re_runs.proofs.lemmas.NextLines.{left_after, lines_of-beyond}
-use Rattle.grep_core.proofs.lemmas.CountedLines.{many_within}
+use Rattle.{gaxtrel.proofs.Prelude.{◌≡◌, ◌∙◌, ℕ, ◌+◌, ◌-◌, ◌*◌, ◌<◌, ◌≤◌, List, [], ◌∷◌, ◌++◌, All, Option, Some, None, inl, inr, length, take, drop, refl, sym, ap, subst, arith, mul-le-mul_left, append_assoc, length-append, ⊤, take-append_seam, drop_all, length-take-le, take_rest, All-append, All-cons, All-nil, Text, HasNoNewline, ended_lines_of, newline, terminated, lines_of, Span, Steps, AddsAtMost, FindsNext, HoldsOfMany, IsBlock, IsNext, PassesAll, CountsSought, FindsSought, IsSought, Sought, FindsLine, bytes_to_next, line_cost, moved}, std.proofs.Common.length-drop, re_syntax.proofs.lemmas.{EndedLinesLaws.ended_lines_of-unique, LinesLaws.{lines_of-last, lines_of-terminated}, SplittingLaws.lines_of-empty}, re_meter.proofs.lemmas.Adding.{adds_both, adds_none, adds_within}, re_runs.proofs.lemmas.NextLines.{left_after, lines_of-beyond}, grep_core.proofs.lemmas.CountedLines.many_within}
 
 -- ---- lines that are found and counted in a longer list
 

@@ -1,8 +1,5 @@
 -- The numbers of the expressions that match a line, one expression more at a time.
-use Rattle.gaxtrel.proofs.Prelude.{◌≡◌, ◌∙◌, ◌↔◌, ℕ, ◌+◌, ◌<◌, Bool, true, false, IsTrue, MatchBool, List, ◌∷◌, inl, inr, length, drop, set, get_or, refl, sym, subst, add-one, false≢true, drop-cons, Text, AreNumbers}
-use Rattle.re_syntax.specs.Expression.{Expression}
-use Rattle.re_syntax.specs.Holds.{Matches}
-use Rattle.gaxtrel.proofs.ArrayLemmas.{PutSoFar, less_left, one_put}
+use Rattle.{gaxtrel.proofs.{Prelude.{◌≡◌, ◌∙◌, ◌↔◌, ℕ, ◌+◌, ◌<◌, Bool, true, false, IsTrue, MatchBool, List, ◌∷◌, inl, inr, length, drop, set, get_or, refl, sym, subst, add-one, false≢true, drop-cons, Text, AreNumbers}, ArrayLemmas.{PutSoFar, less_left, one_put}}, re_syntax.specs.{Expression.Expression, Holds.Matches}}
 
 module _ (whole : Bool) (line : Text) (es : List Expression) (i : ℕ) (e : Expression) (within : i < length es) (at : get_or es i e ≡ e) where
   -- those from a place on are the one there and the others

@@ -1,19 +1,16 @@
 -- What the calls of the library take and answer.
-use Rattle.std.specs.Prelude.{◌≡◌, ℕ, ◌+◌, ◌-◌, ◌*◌, ◌^◌, ◌<◌, ◌≤◌, ◌↔◌, ◌⊎◌, Bool, List, [], ◌∷◌}
-use Rattle.std.specs.Prelude.{Option, Some, None, drop, length, map, min, take}
-use Rattle.re_syntax.specs.{Bytes.Text, declared.syntax.Syntax.Syntax}
+use Rattle.std.specs.Prelude.{map, Some, ◌≤◌, ◌↔◌, min, None, ◌^◌, length, ◌∷◌, List, ◌+◌, [], ◌⊎◌}
+use Rattle.std.specs.Prelude.{◌≡◌, ◌-◌, ◌*◌, ℕ, take, Bool, ◌<◌, drop, Option}
+use Rattle.re_syntax.specs.{Bytes.Text, Lines.{ended_lines_of, lines_of, terminated}}
+use Rattle.re_syntax.specs.{Parts.ArePartsFrom, declared.syntax.Syntax.Syntax}
 use Rattle.re_syntax.specs.{declared.fault.FaultKind.FaultKind, Expression.Expression}
-use Rattle.re_syntax.specs.{Holds.Matches, Lines.ended_lines_of, Lines.lines_of, Lines.terminated}
-use Rattle.re_syntax.specs.Parts.{ArePartsFrom}
-use Rattle.re_trees.specs.declared.span.Span.{Span}
-use Rattle.re_meter.specs.Meters.{Steps, AddsAtMost, fresh}
+use Rattle.{re_syntax.specs.Holds.Matches, re_trees.specs.declared.span.Span.Span}
+use Rattle.re_meter.specs.Meters.{fresh, AddsAtMost, Steps}
 use Rattle.re_search.specs.Working.Sought.{FindsSought, IsSought, Sought}
-use Rattle.gaxtrel.specs.declared.held.Held.TheVariants.{Patterns, Session}
-use Rattle.gaxtrel.specs.{Kept.Allows, Kept.Kept, Kept.Serves, Kept.Terms, Kept.sought_in}
-use Rattle.gaxtrel.specs.{Kept.terms_of, Live.LiveKept, declared.held.Held.Held}
-use Rattle.gaxtrel.specs.declared.part.GaxtrelPart.{GaxtrelPart}
-use Rattle.gaxtrel.specs.declared.text_lines.GaxtrelLine.{GaxtrelLine}
-use Rattle.gaxtrel.specs.declared.work.GaxtrelWork.{GaxtrelWork}
+use Rattle.gaxtrel.specs.declared.held.Held.{Held, TheVariants.{Session, Patterns}}
+use Rattle.gaxtrel.specs.declared.{part.GaxtrelPart.GaxtrelPart, text_lines.GaxtrelLine.GaxtrelLine}
+use Rattle.gaxtrel.specs.{declared.work.GaxtrelWork.GaxtrelWork, Kept.{Allows, Kept, Serves, Terms}}
+use Rattle.gaxtrel.specs.{Kept.{sought_in, terms_of}, Live.LiveKept}
 use Rattle.re_syntax.specs.declared.syntax.Syntax.TheVariants as s
 use Rattle.re_syntax.specs.declared.fault.FaultKind.TheVariants as f
 
@@ -80,7 +77,8 @@ Puts {A} Are old new count =
 
 -- the work of one call, as a meter counts it
 abbrev pub steps_of : GaxtrelWork → Steps
-steps_of work = record { built = work.built; reused = work.reused; passed = work.passed }
+steps_of work =
+    record { built = work.built; reused = work.reused; passed = work.passed }
 
 -- nothing is held, and no work is shown
 abbrev pub IsEmpty : Option Held → GaxtrelWork → Type 0
@@ -139,7 +137,8 @@ Says answer count = (answer < 2) × ((answer ≡ 1) ↔ (1 ≤ count))
 
 -- the same of what was searched of so many bytes: 5 if that isn't all
 abbrev pub SaysOf : ℕ → ℕ → ℕ → ℕ → Type 0
-SaysOf answer count end bytes = ((end < bytes) × (answer ≡ 5)) ⊎ ((bytes ≤ end) × Says answer count)
+SaysOf answer count end bytes =
+    ((end < bytes) × (answer ≡ 5)) ⊎ ((bytes ≤ end) × Says answer count)
 
 -- 1 and the place that was found, or 0
 abbrev pub Tells : ℕ → GaxtrelPart → Option Span → Type 0

@@ -1,8 +1,7 @@
 -- What C keeps of patterns.
 use Rattle.std.specs.Prelude.{◌≡◌, ℕ, ◌+◌, ◌*◌, ◌≤◌, ◌⊎◌, Bool, true, List, length}
-use Rattle.re_syntax.specs.Expression.{Expression}
-use Rattle.re_search.specs.{declared.matcher.Matcher.Matcher, Working.Matchers.expressions_of}
-use Rattle.re_search.specs.{Working.Sought.Sought, Working.Sought.sought_of}
+use Rattle.{re_syntax.specs.Expression.Expression, re_search.specs.declared.matcher.Matcher.Matcher}
+use Rattle.re_search.specs.Working.{Matchers.expressions_of, Sought.{Sought, sought_of}}
 use Rattle.grep_core.specs.Working.SameChoice.{IsSameChoice}
 
 -- matchers, whether the whole line has to be matched, whether each pattern has its own, and the

@@ -1,11 +1,9 @@
 -- What C keeps of a session, and how a text of commands is answered.
 use Rattle.std.specs.Prelude.{◌≡◌, ℕ, ◌++◌, ◌⊎◌, List, [], drop, length, take}
-use Rattle.re_syntax.specs.{Bytes.Text, Lines.lines_of}
-use Rattle.re_meter.specs.Meters.{Steps}
-use Rattle.grep_core.specs.{Files.File, Files.whole, Output.written}
-use Rattle.grep_cmd.specs.declared.script.ScriptEnd.TheVariants.{Clean, Refused}
+use Rattle.{re_syntax.specs.{Bytes.Text, Lines.lines_of}, re_meter.specs.Meters.Steps}
+use Rattle.grep_core.specs.{Files.{File, whole}, Output.written}
+use Rattle.grep_cmd.specs.declared.script.ScriptEnd.{TheVariants.{Clean, Refused}, ScriptEnd}
 use Rattle.grep_cmd.specs.Replies.{AnswersScript, HasAllButLast, IsUpToReport, ScriptState, end_for}
-use Rattle.grep_cmd.specs.declared.script.ScriptEnd.{ScriptEnd}
 
 -- the state of a session, and the bytes of the replies to the commands of the last call
 pub record LiveKept : Type 0 where

@@ -1,18 +1,14 @@
 -- How a matcher is made.
-use Rattle.std.specs.Prelude.{◌≡◌, ℕ, ◌<◌, ◌≤◌, ◌⊎◌, Bool, true, List, [], ◌∷◌, All, Option, Some}
-use Rattle.std.specs.Prelude.{None, if◌then◌else◌, length}
-use Rattle.std.specs.List.{AllZip}
-use Rattle.re_syntax.specs.{Bytes.Text, declared.syntax.Syntax.Syntax}
-use Rattle.re_syntax.specs.{declared.fault.PatternFault.PatternFault, Expression.Expression}
-use Rattle.re_syntax.specs.{Lines.lines_of, Profile.most_patterns, Spelled.IsMeant}
-use Rattle.re_meter.specs.Meters.{fresh}
-use Rattle.re_search.specs.Reading.{IsReadable}
-use Rattle.grep_core.specs.Matchers.{IsFirstRefused}
-use Rattle.gaxtrel.specs.{declared.held.Held.Held, declared.numbers.GaxtrelFault.GaxtrelFault}
-use Rattle.gaxtrel.specs.declared.options.GaxtrelOptions.{GaxtrelOptions}
-use Rattle.gaxtrel.specs.{declared.work.GaxtrelWork.GaxtrelWork, Kept.Kept, Kept.Serves}
-use Rattle.gaxtrel.specs.{Kept.sought_in, Calls.kind_number, Calls.patterns_in, Calls.steps_of}
-use Rattle.gaxtrel.specs.Calls.{syntax_number}
+use Rattle.std.specs.Prelude.{None, ◌≡◌, All, ℕ, true, Bool, if◌then◌else◌, [], ◌<◌, Some, ◌⊎◌, ◌≤◌}
+use Rattle.std.specs.{Prelude.{◌∷◌, List, length, Option}, List.AllZip}
+use Rattle.re_syntax.specs.{Profile.most_patterns, Lines.lines_of}
+use Rattle.re_syntax.specs.declared.{fault.PatternFault.PatternFault, syntax.Syntax.Syntax}
+use Rattle.re_syntax.specs.{Expression.Expression, Spelled.IsMeant, Bytes.Text}
+use Rattle.{re_meter.specs.Meters.fresh, re_search.specs.Reading.IsReadable}
+use Rattle.{grep_core.specs.Matchers.IsFirstRefused, gaxtrel.specs.Kept.{Kept, Serves, sought_in}}
+use Rattle.gaxtrel.specs.declared.{numbers.GaxtrelFault.GaxtrelFault, work.GaxtrelWork.GaxtrelWork}
+use Rattle.gaxtrel.specs.declared.{options.GaxtrelOptions.GaxtrelOptions, held.Held.Held}
+use Rattle.gaxtrel.specs.Calls.{steps_of, syntax_number, patterns_in, kind_number}
 
 -- the options of the calls that take none
 abbrev pub options_for : ℕ → Bool → Bool → Bool → Bool → GaxtrelOptions
@@ -29,7 +25,8 @@ options_for syntax fold whole lines apart = record {
 
 -- the options have their size, this syntax, and no more patterns than are allowed
 abbrev pub AreKnown : GaxtrelOptions → Syntax → Type 0
-AreKnown o syntax = (o.size ≡ 32) × (o.patterns ≤ most_patterns) × (o.syntax ≡ syntax_number syntax)
+AreKnown o syntax =
+    (o.size ≡ 32) × (o.patterns ≤ most_patterns) × (o.syntax ≡ syntax_number syntax)
 
 -- the patterns that a text is: its lines, or one
 abbrev pub texts_for : GaxtrelOptions → Text → List Text

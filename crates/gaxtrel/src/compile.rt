@@ -1,10 +1,8 @@
 //! The calls that make a matcher, limit it, and free it.
 ghost use Rattle.std.specs.Prelude.{◌≡◌, ◌⊎◌, Some, None, true, false};
-ghost use Rattle.re_meter.specs.Meters.{fresh};
-ghost use Rattle.re_search.specs.Working.Sought.{Sought};
-ghost use Rattle.gaxtrel.specs.Kept.{Terms};
+ghost use Rattle.{re_meter.specs.Meters.fresh, re_search.specs.Working.Sought.Sought};
 ghost use Rattle.gaxtrel.specs.Calls.{IsEmpty, IsFor, IsMisused, patterns_in, steps_of};
-ghost use Rattle.gaxtrel.specs.Made.{Makes, options_for};
+ghost use Rattle.gaxtrel.specs.{Made.{Makes, options_for}, Kept.Terms};
 
 use crate::held::Held;
 use crate::holder::GaxtrelHolder;

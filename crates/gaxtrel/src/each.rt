@@ -1,9 +1,7 @@
 //! A matcher for each of several patterns.
 ghost use Rattle.std.specs.Prelude.{◌≡◌, ◌⊎◌, [], ◌∷◌, ◌++◌, IfErr, IfOk};
-ghost use Rattle.re_syntax.specs.Lines.{lines_of};
-ghost use Rattle.re_search.specs.Reading.{IsOutOfMemory};
-ghost use Rattle.grep_core.specs.Matchers.{IsFirstRefused};
-ghost use Rattle.grep_core.specs.Working.MatcherLists.{AreMatchers};
+ghost use Rattle.{re_syntax.specs.Lines.lines_of, re_search.specs.Reading.IsOutOfMemory};
+ghost use Rattle.grep_core.specs.{Matchers.IsFirstRefused, Working.MatcherLists.AreMatchers};
 ghost use Rattle.grep_utility.specs.Working.ServingMatchers.{HaveRoom};
 
 use grep_core::Options;

@@ -1,6 +1,5 @@
 //! The pointer that C keeps.
-ghost use Rattle.std.specs.Prelude.{◌≡◌, Some, None, Option};
-ghost use Rattle.std.specs.Coded.{codes};
+ghost use Rattle.std.specs.{Prelude.{◌≡◌, Some, None, Option}, Coded.codes};
 ghost use Rattle.gaxtrel.specs.declared.held.Held.{Held as Kind};
 ghost use Rattle.gaxtrel.specs.contracts.held.Held as kind;
 

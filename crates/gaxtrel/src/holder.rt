@@ -1,7 +1,6 @@
 //! What C has of a matcher or a session.
 ghost use Rattle.std.specs.Prelude.{◌≡◌, true, Some, None, MatchOption};
-ghost use Rattle.re_meter.specs.Meters.{fresh};
-ghost use Rattle.gaxtrel.specs.Working.Owned.{is_held};
+ghost use Rattle.{re_meter.specs.Meters.fresh, gaxtrel.specs.Working.Owned.is_held};
 ghost use Rattle.gaxtrel.specs.Calls.{IsEmpty, steps_of};
 
 use crate::handle::Handle;

@@ -1,7 +1,6 @@
 //! All parts of one line.
 ghost use Rattle.std.specs.Prelude.{◌≤◌, length};
-ghost use Rattle.re_meter.specs.Meters.{AddsAtMost};
-ghost use Rattle.gaxtrel.specs.Calls.{PutsParts, line_cost};
+ghost use Rattle.{re_meter.specs.Meters.AddsAtMost, gaxtrel.specs.Calls.{PutsParts, line_cost}};
 ghost use Rattle.re_search.specs.Working.Matchers.{AreAlike, AreSame, expressions_of};
 ghost use Rattle.re_search.specs.Working.Sought.{sought_of};
 

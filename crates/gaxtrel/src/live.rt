@@ -1,7 +1,6 @@
 //! A live session with the replies to its last commands.
 ghost use Rattle.std.specs.Prelude.{◌≡◌, ◌≤◌, [], drop, length};
-ghost use Rattle.re_syntax.specs.Profile.{most_states};
-ghost use Rattle.grep_cmd.specs.Replies.{new_state};
+ghost use Rattle.{re_syntax.specs.Profile.most_states, grep_cmd.specs.Replies.new_state};
 ghost use Rattle.gaxtrel.specs.Live.{AnswersText, text_over};
 
 use crate::numbers::number_of_end;

@@ -1,9 +1,7 @@
 //! The numbers by which C names syntaxes, faults, answers and ends.
-ghost use Rattle.std.specs.Prelude.{◌≡◌, IfErr, IfOk, MatchOption, length};
-ghost use Rattle.re_syntax.specs.declared.syntax.Syntax.{Syntax};
-ghost use Rattle.gaxtrel.specs.Calls.{Says, SaysOf, syntax_number, kind_number};
-ghost use Rattle.gaxtrel.specs.Live.{end_number};
-ghost use Rattle.gaxtrel.specs.Made.{too_many};
+ghost use Rattle.std.specs.Prelude.{MatchOption, IfErr, ◌≡◌, IfOk, length};
+ghost use Rattle.{re_syntax.specs.declared.syntax.Syntax.Syntax, gaxtrel.specs.Live.end_number};
+ghost use Rattle.gaxtrel.specs.{Made.too_many, Calls.{Says, kind_number, SaysOf, syntax_number}};
 
 use grep_cmd::{ScriptEnd, ScriptFault};
 use re_search::Syntax;

@@ -1,7 +1,7 @@
 //! What is asked of a matcher that is made.
 ghost use Rattle.std.specs.Prelude.{◌≡◌, ◌<◌, ◌↔◌, IsTrue, MatchOption, length};
-ghost use Rattle.re_syntax.specs.declared.syntax.Syntax.{Syntax};
-ghost use Rattle.gaxtrel.specs.Made.{AreKnown, options_for, texts_for};
+ghost use Rattle.{re_syntax.specs.declared.syntax.Syntax.Syntax, gaxtrel.specs.Made.AreKnown};
+ghost use Rattle.gaxtrel.specs.Made.{options_for, texts_for};
 
 use crate::numbers::syntax_of;
 use grep_utility::has_more_than;

@@ -1,17 +1,13 @@
 //! The matchers of patterns, which are asked together.
 ghost use Rattle.std.specs.Prelude.{◌≡◌, ◌+◌, ◌<◌, ◌≤◌, ◌↔◌, ◌⊎◌, [], ◌∷◌, IfErr, IfOk, IsTrue};
 ghost use Rattle.std.specs.Prelude.{MatchOption, false, length, true};
-ghost use Rattle.re_syntax.specs.Lines.{lines_of};
-ghost use Rattle.re_meter.specs.Meters.{AddsAtMost};
-ghost use Rattle.re_auto.specs.Searches.{FindsPart};
-ghost use Rattle.re_search.specs.Reading.{IsOutOfMemory};
+ghost use Rattle.{re_syntax.specs.Lines.lines_of, re_meter.specs.Meters.AddsAtMost};
+ghost use Rattle.{re_auto.specs.Searches.FindsPart, re_search.specs.Reading.IsOutOfMemory};
 ghost use Rattle.re_search.specs.Working.Sought.{CountsSought, IsSought};
-ghost use Rattle.grep_core.specs.Matchers.{IsFirstRefused};
-ghost use Rattle.gaxtrel.specs.Kept.{Allows, expressions_in, sought_in, terms_of};
-ghost use Rattle.gaxtrel.specs.Working.Owned.{Stays};
-ghost use Rattle.gaxtrel.specs.Calls.{FindsLine, PutsLines, PutsNumbers, PutsParts, Reaches};
-ghost use Rattle.gaxtrel.specs.Calls.{line_cost};
-ghost use Rattle.gaxtrel.specs.Made.{AreMade, is_apart, texts_for};
+ghost use Rattle.{grep_core.specs.Matchers.IsFirstRefused, gaxtrel.specs.Working.Owned.Stays};
+ghost use Rattle.gaxtrel.specs.{Made.{is_apart, texts_for, AreMade}, Calls.PutsNumbers};
+ghost use Rattle.gaxtrel.specs.Calls.{line_cost, PutsParts, PutsLines, FindsLine, Reaches};
+ghost use Rattle.gaxtrel.specs.Kept.{Allows, sought_in, terms_of, expressions_in};
 
 use crate::each::{NO_MEMORY, STATES, add, matchers_of};
 use crate::line_parts::put_parts;

@@ -1,10 +1,7 @@
 //! The calls that search a line or a text.
-ghost use Rattle.std.specs.Prelude.{◌≡◌, ◌<◌, ◌↔◌, ◌⊎◌, ℕ, true, false, None, Option};
-ghost use Rattle.std.specs.Prelude.{length, take};
-ghost use Rattle.re_syntax.specs.Lines.{lines_of};
-ghost use Rattle.re_trees.specs.declared.span.Span.{Span};
-ghost use Rattle.re_meter.specs.Meters.{fresh};
-ghost use Rattle.re_auto.specs.Searches.{FindsPart};
+ghost use Rattle.std.specs.Prelude.{◌≡◌, ◌<◌, ◌↔◌, ◌⊎◌, ℕ, true, false, None, Option, length, take};
+ghost use Rattle.{re_syntax.specs.Lines.lines_of, re_trees.specs.declared.span.Span.Span};
+ghost use Rattle.{re_meter.specs.Meters.fresh, re_auto.specs.Searches.FindsPart};
 ghost use Rattle.re_search.specs.Working.Sought.{CountsSought, IsSought};
 ghost use Rattle.gaxtrel.specs.Calls.{Asks, AsksLine, FindsLine, IsOneSearch, PutsLines};
 ghost use Rattle.gaxtrel.specs.Calls.{PutsNumbers, PutsParts, Reaches, Says, SaysOf, Tells};

@@ -1,10 +1,8 @@
 //! The calls for a live session.
 ghost use Rattle.std.specs.Prelude.{◌≡◌, ◌≤◌, ◌↔◌, Some, None, [], drop, length};
-ghost use Rattle.re_syntax.specs.Profile.{most_states};
-ghost use Rattle.re_meter.specs.Meters.{fresh};
-ghost use Rattle.grep_cmd.specs.Replies.{new_state};
-ghost use Rattle.gaxtrel.specs.Live.{LiveKept, AnswersText, text_over};
-ghost use Rattle.gaxtrel.specs.Calls.{IsEmpty, IsMisused, session_in, steps_of};
+ghost use Rattle.{re_syntax.specs.Profile.most_states, re_meter.specs.Meters.fresh};
+ghost use Rattle.{grep_cmd.specs.Replies.new_state, gaxtrel.specs.Live.{LiveKept, AnswersText}};
+ghost use Rattle.gaxtrel.specs.{Live.text_over, Calls.{IsEmpty, IsMisused, session_in, steps_of}};
 
 use crate::held::Held;
 use crate::holder::GaxtrelHolder;

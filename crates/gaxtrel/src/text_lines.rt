@@ -1,8 +1,7 @@
 //! The matched lines of a text.
 ghost use Rattle.std.specs.Prelude.{◌≡◌, ◌*◌, ◌+◌, ◌-◌, ◌<◌, ◌≤◌, ◌^◌, length};
-ghost use Rattle.re_meter.specs.Meters.{AddsAtMost};
+ghost use Rattle.{re_meter.specs.Meters.AddsAtMost, re_search.specs.Working.Sought.sought_of};
 ghost use Rattle.re_search.specs.Working.Matchers.{AreAlike, AreSame};
-ghost use Rattle.re_search.specs.Working.Sought.{sought_of};
 ghost use Rattle.gaxtrel.specs.Calls.{PutsLines};
 
 use crate::text_search::next_in_text;

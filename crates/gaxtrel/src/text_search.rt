@@ -1,7 +1,6 @@
 //! What several matchers find in the lines of a text, the last of which may lack its newline.
 ghost use Rattle.std.specs.Prelude.{◌*◌, ◌≤◌, IfSome, length};
-ghost use Rattle.re_syntax.specs.Lines.{lines_of};
-ghost use Rattle.re_meter.specs.Meters.{AddsAtMost};
+ghost use Rattle.{re_syntax.specs.Lines.lines_of, re_meter.specs.Meters.AddsAtMost};
 ghost use Rattle.re_search.specs.Working.Sought.{CountsSought, FindsSought, sought_of};
 ghost use Rattle.re_search.specs.Working.Matchers.{AreAlike, AreSame, expressions_of};
 ghost use Rattle.gaxtrel.specs.Calls.{bytes_to_next, line_cost};

@@ -1,9 +1,8 @@
 //! Which of several matchers match one line.
 ghost use Rattle.std.specs.Prelude.{◌≡◌, ◌+◌, ◌<◌, ◌≤◌, ◌^◌, MatchBool, length, set};
-ghost use Rattle.re_meter.specs.Meters.{AddsAtMost};
+ghost use Rattle.{re_meter.specs.Meters.AddsAtMost, re_search.specs.Working.Sought.sought_of};
 ghost use Rattle.re_search.specs.Working.Matchers.{AreAlike, AreSame, expressions_of};
-ghost use Rattle.re_search.specs.Working.Sought.{sought_of};
-ghost use Rattle.gaxtrel.specs.Calls.{PutsNumbers, line_cost};
+ghost use Rattle.gaxtrel.specs.Calls.{line_cost, PutsNumbers};
 
 use crate::array::put;
 use re_match::LineMatch;

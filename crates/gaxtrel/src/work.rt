@@ -1,7 +1,6 @@
 //! What a call takes.
 ghost use Rattle.std.specs.Prelude.{◌≡◌};
-ghost use Rattle.re_meter.specs.Meters.{fresh};
-ghost use Rattle.gaxtrel.specs.Calls.{steps_of};
+ghost use Rattle.{re_meter.specs.Meters.fresh, gaxtrel.specs.Calls.steps_of};
 
 use re_search::Meter;
 

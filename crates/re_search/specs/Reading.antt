@@ -1,10 +1,9 @@
 -- Which texts are patterns of a syntax, and why others are refused (XCU grep, OPTIONS -E, -F, -i).
 use Rattle.std.specs.Prelude.{◌≡◌, ◌<◌, ◌≤◌, Bool, IsTrue, ◌⊎◌}
-use Rattle.re_syntax.specs.declared.syntax.Syntax.{Syntax}
-use Rattle.re_syntax.specs.declared.fault.FaultKind.TheVariants.{TooLarge}
+use Rattle.re_syntax.specs.declared.{syntax.Syntax.Syntax, fault.FaultKind.TheVariants.TooLarge}
 use Rattle.re_syntax.specs.{declared.fault.PatternFault.PatternFault, Bytes.Text}
 use Rattle.re_syntax.specs.{Expression.Expression, FirstFaults.IsFirstFault, Holds.positions}
-use Rattle.re_syntax.specs.{Profile.most_positions, Spelled.IsMeant, Spelled.has_limit}
+use Rattle.re_syntax.specs.{Profile.most_positions, Spelled.{IsMeant, has_limit}}
 pub use Rattle.re_syntax.specs.Faults.{IsOutOfMemory}
 
 -- the expression is small enough, if it has to be

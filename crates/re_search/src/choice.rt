@@ -1,11 +1,8 @@
 //! Patterns that are searched for as one.
 ghost use Rattle.std.specs.Prelude.{◌≡◌, ◌+◌, ◌≤◌, ◌++◌, ◌↔◌, [], ◌∷◌, Bool, IsTrue, IfOk, map};
-ghost use Rattle.re_syntax.specs.Expression.{alt};
-ghost use Rattle.re_syntax.specs.Holds.{positions};
-ghost use Rattle.re_syntax.specs.Working.Trees.{expression_of};
-ghost use Rattle.re_syntax.specs.Profile.{most_positions};
-ghost use Rattle.re_search.specs.Working.Matchers.{matched_expression, wants_whole};
-ghost use Rattle.re_search.specs.Working.Matchers.{room_of, entries_of};
+ghost use Rattle.re_syntax.specs.{Holds.positions, Expression.alt, Working.Trees.expression_of};
+ghost use Rattle.{re_syntax.specs.Profile.most_positions, re_search.specs.Working.Matchers.room_of};
+ghost use Rattle.re_search.specs.Working.Matchers.{entries_of, wants_whole, matched_expression};
 ghost use Rattle.re_search.specs.Working.Patterns.{pattern_expression, meant_by, IsCounted};
 
 use crate::matcher::{Matcher, tree_matcher};

@@ -1,17 +1,14 @@
 //! All parts of one line, from the first to the last. Each byte of the line is one step of each
 //! matcher, however many parts there are.
-ghost use Rattle.std.specs.Prelude.{◌≡◌, ℕ, ◌+◌, ◌-◌, ◌*◌, ◌^◌, ◌<◌, ◌≤◌, [], ◌∷◌, false, IfOk, IfSome, length};
-ghost use Rattle.std.specs.Prelude.{replicate, vec_capacity};
-ghost use Rattle.re_syntax.specs.Bytes.{Text};
-ghost use Rattle.re_auto.specs.Meters.{Steps};
-ghost use Rattle.re_auto.specs.Searches.{AddsAtMost, FindsPart};
-ghost use Rattle.re_meter.specs.Meters.{AddsJust};
-ghost use Rattle.re_match.specs.Working.Aheads.{IsWindowOf, past};
-ghost use Rattle.re_search.specs.Working.LineParts.{AreAllEnds, AreEnds, AreEndsIn, ArePartsOf};
-ghost use Rattle.re_search.specs.Working.LineParts.{FindsBefore, spent};
-ghost use Rattle.re_search.specs.Working.Matchers.{AreAlike, IsSame, AreSame};
-ghost use Rattle.re_search.specs.Working.Matchers.{expressions_of, matched_expression};
-ghost use Rattle.re_search.specs.Working.Sought.{Sought, sought_of};
+ghost use Rattle.std.specs.Prelude.{false, ◌<◌, ◌+◌, length, ℕ, IfSome, ◌^◌, ◌∷◌, ◌≤◌, ◌*◌, IfOk};
+ghost use Rattle.std.specs.Prelude.{replicate, ◌-◌, [], ◌≡◌, vec_capacity};
+ghost use Rattle.{re_syntax.specs.Bytes.Text, re_auto.specs.Searches.{FindsPart, AddsAtMost}};
+ghost use Rattle.{re_auto.specs.Meters.Steps, re_meter.specs.Meters.AddsJust};
+ghost use Rattle.re_match.specs.Working.Aheads.{past, IsWindowOf};
+ghost use Rattle.re_search.specs.Working.Matchers.{AreAlike, IsSame, AreSame, expressions_of};
+ghost use Rattle.re_search.specs.Working.{Matchers.matched_expression, Sought.{Sought, sought_of}};
+ghost use Rattle.re_search.specs.Working.LineParts.{AreAllEnds, ArePartsOf, FindsBefore, spent};
+ghost use Rattle.re_search.specs.Working.LineParts.{AreEnds, AreEndsIn};
 
 use crate::matcher::Matcher;
 use crate::several::line_part;

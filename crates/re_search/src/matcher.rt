@@ -1,16 +1,13 @@
 //! Matchers made from the texts of patterns.
-ghost use Rattle.std.specs.Prelude.{◌≡◌, ◌+◌, ◌-◌, ◌<◌, ◌≤◌, ◌↔◌, ◌⊎◌, [], ◌∷◌, true, false, IsTrue};
-ghost use Rattle.std.specs.Prelude.{IfOk, IfErr, length, vec_capacity};
-ghost use Rattle.re_syntax.specs.Working.Trees.{expression_of};
+ghost use Rattle.std.specs.Prelude.{true, vec_capacity, ◌↔◌, IfErr, ◌+◌, ◌≡◌, ◌-◌, [], false};
+ghost use Rattle.std.specs.Prelude.{IsTrue, ◌≤◌, ◌∷◌, IfOk, length, ◌⊎◌, ◌<◌};
+ghost use Rattle.re_syntax.specs.Profile.{most_states, most_positions};
+ghost use Rattle.re_syntax.specs.{Working.Trees.expression_of, Spelled.{has_limit, IsMeant}};
 ghost use Rattle.re_syntax.specs.Holds.{Matches, positions};
-ghost use Rattle.re_syntax.specs.Profile.{most_positions, most_states};
-ghost use Rattle.re_syntax.specs.Spelled.{IsMeant, has_limit};
-ghost use Rattle.re_search.specs.Reading.{IsSmallFor, IsReadable, IsOutOfMemory};
-ghost use Rattle.re_search.specs.Reading.{IsRefusedFor};
-ghost use Rattle.re_search.specs.Working.Matchers.{matched_expression, wants_whole, is_fixed};
-ghost use Rattle.re_search.specs.Working.Matchers.{IsSame, room_of, entries_of, CountsSteps};
-ghost use Rattle.re_auto.specs.Searches.{FindsPart};
-ghost use Rattle.re_meter.specs.Meters.{AddsAtMost};
+ghost use Rattle.re_search.specs.Working.Matchers.{IsSame, is_fixed, entries_of, CountsSteps};
+ghost use Rattle.re_search.specs.Working.Matchers.{wants_whole, matched_expression, room_of};
+ghost use Rattle.re_search.specs.Reading.{IsReadable, IsOutOfMemory, IsSmallFor, IsRefusedFor};
+ghost use Rattle.{re_auto.specs.Searches.FindsPart, re_meter.specs.Meters.AddsAtMost};
 
 use crate::pattern::read_pattern;
 use crate::strings::string_of;

@@ -1,16 +1,13 @@
 //! What the texts of patterns are read as.
-ghost use Rattle.std.specs.Prelude.{◌≡◌, ◌≤◌, ◌⊎◌, [], true, false, Bool};
-ghost use Rattle.std.specs.Prelude.{IsTrue, IfOk, IfErr, IfSome, length};
-ghost use Rattle.re_syntax.specs.Holds.{positions};
-ghost use Rattle.re_syntax.specs.Spelled.{has_limit};
-ghost use Rattle.re_syntax.specs.Working.Trees.{expression_of};
+ghost use Rattle.std.specs.Prelude.{IfErr, ◌≡◌, [], false, Bool, ◌≤◌, IfSome, length, IfOk, ◌⊎◌};
+ghost use Rattle.std.specs.Prelude.{true, IsTrue};
+ghost use Rattle.re_syntax.specs.{Holds.positions, Spelled.has_limit, Working.Trees.expression_of};
 ghost use Rattle.re_syntax.specs.declared.syntax.Syntax.TheVariants.{Fixed};
 ghost use Rattle.re_search.specs.Reading.{IsOutOfMemory, IsRefusedFor};
-ghost use Rattle.re_search.specs.Working.Matchers.{matched_expression, wants_whole, is_fixed};
-ghost use Rattle.re_search.specs.Working.Matchers.{room_of, entries_of};
-ghost use Rattle.re_search.specs.Working.Patterns.{pattern_expression, meaning, meant_by};
-ghost use Rattle.re_search.specs.Working.Patterns.{is_string, IsCounted, IsPattern};
-ghost use Rattle.re_search.specs.Working.Strings.{AddsStrings};
+ghost use Rattle.re_search.specs.Working.{Strings.AddsStrings, Matchers.matched_expression};
+ghost use Rattle.re_search.specs.Working.Matchers.{wants_whole, is_fixed, room_of, entries_of};
+ghost use Rattle.re_search.specs.Working.Patterns.{IsPattern, IsCounted, pattern_expression};
+ghost use Rattle.re_search.specs.Working.Patterns.{is_string, meaning, meant_by};
 
 use crate::matcher::{Matcher, fault_at_first, tree_matcher};
 use crate::strings::{add_each, add_string, add_tree};

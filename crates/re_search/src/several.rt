@@ -2,9 +2,7 @@
 //! it).
 ghost use Rattle.std.specs.Prelude.{ℕ, Bool, true, List, ◌+◌, ◌-◌, ◌*◌, ◌<◌, ◌≤◌, ◌++◌, ◌↔◌};
 ghost use Rattle.std.specs.Prelude.{IfSome, IsTrue, length};
-ghost use Rattle.re_syntax.specs.Bytes.{Text};
-ghost use Rattle.re_syntax.specs.Expression.{Expression};
-ghost use Rattle.re_syntax.specs.Lines.{lines_of};
+ghost use Rattle.re_syntax.specs.{Bytes.Text, Expression.Expression, Lines.lines_of};
 ghost use Rattle.re_auto.specs.Searches.{AddsAtMost, FindsPart};
 ghost use Rattle.re_runs.specs.Working.Blocks.{IsBlock, next_cost};
 ghost use Rattle.re_search.specs.Working.Matchers.{AreAlike, AreSame, expressions_of};

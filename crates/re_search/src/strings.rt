@@ -1,7 +1,6 @@
 //! Trees that are strings.
 ghost use Rattle.std.specs.Prelude.{◌≡◌, [], ◌∷◌, IfSome, map};
-ghost use Rattle.re_syntax.specs.Expression.{byte, sequence};
-ghost use Rattle.re_syntax.specs.Working.Trees.{expression_of};
+ghost use Rattle.re_syntax.specs.{Expression.{byte, sequence}, Working.Trees.expression_of};
 ghost use Rattle.re_search.specs.Working.Strings.{AddsEach, string_expression};
 
 use memchr::memchr;

@@ -1,6 +1,6 @@
 -- What a handle owns, and what the calls leave of it.
-use Rattle.std.specs.Prelude.{◌≡◌, Bool, true, false, Option, Some, None}
 use Rattle.std.specs.{Box.Ownership.box_owns, contracts.impls.GlobalAllocator.TheImpl.ghosts}
+use Rattle.std.specs.Prelude.{None, false, true, Bool, ◌≡◌, Some, Option}
 use Rattle.gaxtrel.specs.Kept.{Kept, sought_in}
 use base.Fml.{Fml, ftrue}
 use denote.RattleType.{RattleType}
@@ -19,4 +19,5 @@ is_held None = false
 
 -- they are apart and limited as before, and search for the same
 abbrev pub Stays : Kept → Kept → Type 0
-Stays old new = (sought_in new ≡ sought_in old) × (new.apart ≡ old.apart) × (new.limit ≡ old.limit)
+Stays old new =
+    (sought_in new ≡ sought_in old) × (new.apart ≡ old.apart) × (new.limit ≡ old.limit)

@@ -1,6 +1,5 @@
 -- Matchers that are the same as before: where none was asked, over two calls, and where one of them was asked.
-use Rattle.re_search.proofs.Prelude.{◌≡◌, ℕ, List, get_or, refl, ◌∙◌, set, Matcher, matched_expression, wants_whole, room_of, IsSame, AreSame, Bool, sought_of, All, AreAlike, expressions_of, ap, length, length-map, subst, sym}
-use Rattle.re_search.proofs.lemmas.OneMatcherMore.{same_after}
+use Rattle.re_search.proofs.{Prelude.{◌≡◌, ℕ, List, get_or, refl, ◌∙◌, set, Matcher, matched_expression, wants_whole, room_of, IsSame, AreSame, Bool, sought_of, All, AreAlike, expressions_of, ap, length, length-map, subst, sym}, lemmas.OneMatcherMore.same_after}
 
 -- a list has the same matchers as itself
 pub none_asked : {ms : List Matcher} → AreSame ms ms

@@ -1,10 +1,5 @@
 -- The search for the parts of one line: the ends of its parts, and the steps.
-use Rattle.re_search.proofs.Prelude.{◌≡◌, ℕ, zero, suc, ◌+◌, ◌-◌, ◌*◌, ◌<◌, ◌≤◌, ◌⊎◌, ◌∙◌, ap, replicate, length-replicate, get_or-replicate, inl, inr, Bool, List, [], ◌∷◌, ◌++◌, length, max, take, get_or, sym, subst, arith, ◌↔◌, slice_index, mul-le-mul_left, Text, Expression, IsFound, IsPart, FoundPast, AddsEnds, Sought, LineEnds, AreAllEnds, AreEnds, AreEndsIn, ArePartsOf, AddsUpTo, spent, FindsBefore, FindsPart, Span, Option, Some, None, IfSome, In, IsAhead, Window, false, true, past, cases_lt, dec_le, get_or_past}
-use Rattle.re_meter.specs.Meters.{Steps, AddsAtMost}
-use Rattle.re_meter.proofs.lemmas.Adding.{adds_within}
-use Rattle.re_match.proofs.lemmas.StepSums.{adds_on}
-use Rattle.re_ends.proofs.lemmas.FoundEnds.{both_past}
-use Rattle.re_match.proofs.lemmas.WindowLaws.{border_within, from_place, over_border}
+use Rattle.{re_search.proofs.Prelude.{◌≡◌, ℕ, zero, suc, ◌+◌, ◌-◌, ◌*◌, ◌<◌, ◌≤◌, ◌⊎◌, ◌∙◌, ap, replicate, length-replicate, get_or-replicate, inl, inr, Bool, List, [], ◌∷◌, ◌++◌, length, max, take, get_or, sym, subst, arith, ◌↔◌, slice_index, mul-le-mul_left, Text, Expression, IsFound, IsPart, FoundPast, AddsEnds, Sought, LineEnds, AreAllEnds, AreEnds, AreEndsIn, ArePartsOf, AddsUpTo, spent, FindsBefore, FindsPart, Span, Option, Some, None, IfSome, In, IsAhead, Window, false, true, past, cases_lt, dec_le, get_or_past}, re_meter.{specs.Meters.{Steps, AddsAtMost}, proofs.lemmas.Adding.adds_within}, re_match.proofs.lemmas.{StepSums.adds_on, WindowLaws.{border_within, from_place, over_border}}, re_ends.proofs.lemmas.FoundEnds.both_past}
 
 -- ---- parts
 

@@ -1,7 +1,5 @@
 -- What a list of one matcher says of the lines of a block.
-use Rattle.re_search.proofs.Prelude.{◌≡◌, false, List, [], ◌∷◌, length, map, get_or, ap, arith, Bool, sym, subst, All-head, Text, Matcher, matched_expression, wants_whole, Matches, AreAlike, SomeMatches, Sought, IsSought, sought_of, get_or_default, ◌↔◌, All}
-use Rattle.re_syntax.proofs.lemmas.Decisions.{Any-first}
-use Rattle.re_syntax.proofs.lemmas.SomeOfJoined.{Any-single}
+use Rattle.{re_search.proofs.Prelude.{◌≡◌, false, List, [], ◌∷◌, length, map, get_or, ap, arith, Bool, sym, subst, All-head, Text, Matcher, matched_expression, wants_whole, Matches, AreAlike, SomeMatches, Sought, IsSought, sought_of, get_or_default, ◌↔◌, All}, re_syntax.proofs.lemmas.{Decisions.Any-first, SomeOfJoined.Any-single}}
 
 -- a list of one
 only_one : {A B : Type 0} (f : A → B) (xs : List A) (x : A) → length xs ≡ 1 → get_or xs 0 x ≡ x → map f xs ≡ f x ∷ []

@@ -1,9 +1,5 @@
 -- One matcher more of a list: what is known of those that were asked, before it was and afterwards.
-use Rattle.re_search.proofs.Prelude.{◌≡◌, ℕ, ◌+◌, ◌*◌, ◌<◌, ◌≤◌, Bool, inl, inr, List, [], ◌∷◌, ◌++◌, length, map, take, get_or, sym, ap, ◌∙◌, arith, add-one, set, take-suc, take_all, map-set_same, get_or-map, length-map, Text, Expression, Matches, SomeMatches, Matcher, AreAlike, AreSame, expressions_of, matched_expression, subst, wants_whole}
-use Rattle.re_auto.specs.Meters.{Steps}
-use Rattle.re_match.proofs.lemmas.StepSums.{adds_on}
-use Rattle.re_auto.specs.Searches.{AddsAtMost}
-use Rattle.re_syntax.proofs.lemmas.SomeOfJoined.{Any-append-cases, Any-single}
+use Rattle.{re_search.proofs.Prelude.{◌≡◌, ℕ, ◌+◌, ◌*◌, ◌<◌, ◌≤◌, Bool, inl, inr, List, [], ◌∷◌, ◌++◌, length, map, take, get_or, sym, ap, ◌∙◌, arith, add-one, set, take-suc, take_all, map-set_same, get_or-map, length-map, Text, Expression, Matches, SomeMatches, Matcher, AreAlike, AreSame, expressions_of, matched_expression, subst, wants_whole}, re_auto.specs.{Meters.Steps, Searches.AddsAtMost}, re_match.proofs.lemmas.StepSums.adds_on, re_syntax.proofs.lemmas.SomeOfJoined.{Any-append-cases, Any-single}}
 
 -- two lists whose elements look the same to f one by one, and the element of the second at place i
 module _ {A B : Type 0} (f : A → B) (old now : List A) (same : map f now ≡ map f old) (i : ℕ) (d : A) where

@@ -1,6 +1,5 @@
 -- The next part for two lists of expressions together, by the parts for each.
-use Rattle.re_search.proofs.Prelude.{◌≡◌, ℕ, ◌≤◌, ◌⊎◌, inl, inr, Bool, List, ◌++◌, Option, None, Some, refl, arith, Text, Expression, Holds, IsFound, IsPart, FindsPart, Span}
-use Rattle.re_syntax.proofs.lemmas.SomeOfJoined.{Any-left, Any-right, Any-append-cases}
+use Rattle.{re_search.proofs.Prelude.{◌≡◌, ℕ, ◌≤◌, ◌⊎◌, inl, inr, Bool, List, ◌++◌, Option, None, Some, refl, arith, Text, Expression, Holds, IsFound, IsPart, FindsPart, Span}, re_syntax.proofs.lemmas.SomeOfJoined.{Any-left, Any-right, Any-append-cases}}
 
 -- the stretch from i to j begins before that from k to l, or with it and ends no earlier
 pub record Leads (i j k l : ℕ) : Type 0 where

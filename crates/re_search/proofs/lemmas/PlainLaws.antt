@@ -1,7 +1,5 @@
 -- Strings that are added one after another, byte by byte.
-use Rattle.re_search.proofs.Prelude.{Option, Some, None, is_some, false, eq-eqb, ◌≡◌, ◌≢◌, ℕ, ◌+◌, ◌<◌, List, [], ◌∷◌, ◌++◌, length, map, take, get_or, refl, sym, ap, ◌∙◌, subst, append_assoc, append-nil, arith, map-append, All-append, All-from_get_or, false≢true, IsFirstByte, is_byte, Text, Expression, newline, HasNoNewline, terminated, AddsEach, string_expression}
-use Rattle.re_syntax.proofs.lemmas.LinesLaws.{all_none, all_cons, terminated-append}
-use Rattle.re_search.proofs.lemmas.PlainStrings.{one_more}
+use Rattle.{re_search.proofs.{Prelude.{Option, Some, None, is_some, false, eq-eqb, ◌≡◌, ◌≢◌, ℕ, ◌+◌, ◌<◌, List, [], ◌∷◌, ◌++◌, length, map, take, get_or, refl, sym, ap, ◌∙◌, subst, append_assoc, append-nil, arith, map-append, All-append, All-from_get_or, false≢true, IsFirstByte, is_byte, Text, Expression, newline, HasNoNewline, terminated, AddsEach, string_expression}, lemmas.PlainStrings.one_more}, re_syntax.proofs.lemmas.LinesLaws.{all_none, all_cons, terminated-append}}
 
 -- no string
 pub no_strings : (old : Text) → AddsEach [] old old

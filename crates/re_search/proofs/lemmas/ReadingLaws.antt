@@ -1,9 +1,6 @@
 -- What the text of a pattern is read as and means, and why it is refused.
-use Rattle.re_search.proofs.Prelude.{◌≡◌, ℕ, ◌+◌, ◌*◌, ◌<◌, ◌^◌, List, [], ◌∷◌, ◌++◌, length, IsTrue, Bool, true, false, true≢false, inl, inr, map, refl, sym, ap, ◌∙◌, ◌≤◌, arith, if◌then◌else◌, PatternFault, Syntax, Fixed, Text, HasPositions, TooLarge, Expression, empty, one_of, none_of, begin, end, cat_none, cat_more, alt_none, alt_more, repeat, byte, cat, alt, sequence, folded, copies, positions, most_positions, up_to_word, IsMeant, IsSpelled, expression_of, has_limit, IsSmallFor, IsReadable, IsRefusedFor, Pattern, String, Tree, pattern_expression, meaning, meant_by, IsPattern}
-use Rattle.std.specs.Borrow.{Bor}
+use Rattle.{re_search.proofs.Prelude.{◌≡◌, ℕ, ◌+◌, ◌*◌, ◌<◌, ◌^◌, List, [], ◌∷◌, ◌++◌, length, IsTrue, Bool, true, false, true≢false, inl, inr, map, refl, sym, ap, ◌∙◌, ◌≤◌, arith, if◌then◌else◌, PatternFault, Syntax, Fixed, Text, HasPositions, TooLarge, Expression, empty, one_of, none_of, begin, end, cat_none, cat_more, alt_none, alt_more, repeat, byte, cat, alt, sequence, folded, copies, positions, most_positions, up_to_word, IsMeant, IsSpelled, expression_of, has_limit, IsSmallFor, IsReadable, IsRefusedFor, Pattern, String, Tree, pattern_expression, meaning, meant_by, IsPattern}, std.specs.Borrow.Bor, re_syntax.proofs.lemmas.{SpelledUnique.{spells_one, fault_spells_none}, FixedTokens.fixed_spelled}}
 use Rattle.re_trees.specs.declared.tree.Tree.{Tree as SyntaxTree}
-use Rattle.re_syntax.proofs.lemmas.SpelledUnique.{spells_one, fault_spells_none}
-use Rattle.re_syntax.proofs.lemmas.FixedTokens.{fixed_spelled}
 
 -- a text means one expression
 pub means_one : (syntax : Syntax) (fold : Bool) (text : Text) (d e : Expression) → IsMeant syntax fold text d → IsMeant syntax fold text e → d ≡ e

@@ -1,8 +1,5 @@
 -- The steps of some matchers.
-use Rattle.re_search.proofs.Prelude.{◌≡◌, ℕ, ◌+◌, ◌*◌, ◌≤◌, arith, mul-le-mul_left}
-use Rattle.re_auto.specs.Meters.{Steps}
-use Rattle.re_auto.specs.Searches.{AddsAtMost}
-use Rattle.re_match.proofs.lemmas.StepSums.{adds_on}
+use Rattle.{re_search.proofs.Prelude.{◌≡◌, ℕ, ◌+◌, ◌*◌, ◌≤◌, arith, mul-le-mul_left}, re_auto.specs.{Meters.Steps, Searches.AddsAtMost}, re_match.proofs.lemmas.StepSums.adds_on}
 
 -- as many of each after others
 pub times_more : (n first next most : ℕ) {old mid new : Steps} → AddsAtMost (n * first) old mid → AddsAtMost (n * next) mid new → first + next ≤ most → AddsAtMost (n * most) old new

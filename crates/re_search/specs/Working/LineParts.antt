@@ -1,9 +1,8 @@
 -- The search for the parts of one line: what is known of the line, and how much work it took.
-use Rattle.std.specs.Prelude.{◌≡◌, ℕ, zero, suc, ◌+◌, ◌-◌, ◌<◌, ◌≤◌, ◌↔◌, ◌⊎◌, List, length, slice_index, Option, MatchOption}
-use Rattle.re_syntax.specs.Bytes.{Text}
-use Rattle.re_syntax.specs.Parts.{IsFound, IsPart}
-use Rattle.re_trees.specs.declared.span.Span.{Span}
-use Rattle.re_ends.specs.Working.GreatestEnds.{FoundPast}
+use Rattle.std.specs.Prelude.{◌≡◌, ℕ, zero, suc, ◌+◌, ◌-◌, ◌<◌, ◌≤◌, ◌↔◌, ◌⊎◌, List, length}
+use Rattle.std.specs.Prelude.{slice_index, Option, MatchOption}
+use Rattle.re_syntax.specs.{Bytes.Text, Parts.{IsFound, IsPart}}
+use Rattle.{re_trees.specs.declared.span.Span.Span, re_ends.specs.Working.GreatestEnds.FoundPast}
 use Rattle.re_search.specs.Working.Sought.{Sought}
 
 -- for how many bytes there is room, how many places were looked at, where the window begins that

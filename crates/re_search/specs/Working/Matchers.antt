@@ -1,10 +1,9 @@
 -- The expression of a matcher of any kind, the entries of its cache, and how its steps are counted.
 use Rattle.std.specs.Prelude.{◌≡◌, ℕ, ◌+◌, Bool, true, false, All, List, [], length, map}
 use Rattle.re_syntax.specs.{Bytes.Text, Expression.Expression, Working.Trees.expression_of}
-use Rattle.re_auto.specs.Meters.{Steps}
-use Rattle.re_search.specs.declared.matcher.Matcher.{Matcher}
-use Rattle.re_match.specs.{Working.Strings.matched_strings, Working.Strings.CountsLook}
-use Rattle.re_match.specs.{Working.CachedMatchers.AnswersLine, Working.Same.SameMatcher}
+use Rattle.{re_auto.specs.Meters.Steps, re_search.specs.declared.matcher.Matcher.Matcher}
+use Rattle.re_match.specs.Working.Strings.{matched_strings, CountsLook}
+use Rattle.re_match.specs.Working.{CachedMatchers.AnswersLine, Same.SameMatcher}
 use Rattle.re_search.specs.declared.matcher.Matcher.TheVariants as m
 
 -- the expression that a matcher looks for

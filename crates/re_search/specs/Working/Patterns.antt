@@ -1,10 +1,10 @@
 -- What the text of a pattern is read as.
 use Rattle.std.specs.Prelude.{◌≡◌, ◌≤◌, Bool, true, false, IsTrue, if◌then◌else◌, length}
-use Rattle.re_syntax.specs.{declared.syntax.Syntax.Syntax, Bytes.Text, Expression.Expression}
-use Rattle.re_syntax.specs.{Holds.folded, Holds.positions, Profile.most_positions}
-use Rattle.re_syntax.specs.{Spelled.IsSpelled, Spelled.has_limit, Working.Trees.expression_of}
-use Rattle.re_search.specs.{declared.pattern.Pattern.Pattern, Reading.IsSmallFor}
-use Rattle.re_search.specs.Working.Strings.{string_expression}
+use Rattle.re_syntax.specs.{declared.syntax.Syntax.Syntax, Expression.Expression}
+use Rattle.re_syntax.specs.{Profile.most_positions, Bytes.Text, Working.Trees.expression_of}
+use Rattle.re_syntax.specs.{Holds.{positions, folded}, Spelled.{has_limit, IsSpelled}}
+use Rattle.re_search.specs.{Working.Strings.string_expression, declared.pattern.Pattern.Pattern}
+use Rattle.re_search.specs.Reading.{IsSmallFor}
 use Rattle.re_search.specs.declared.pattern.Pattern.TheVariants as p
 
 abbrev pub pattern_expression : Pattern → Expression

@@ -1,8 +1,7 @@
 -- What several matchers search for together, and what they find in a block of whole lines.
 use Rattle.std.specs.Prelude.{ℕ, Bool, List, Option}
 use Rattle.re_syntax.specs.{Bytes.Text, Expression.Expression}
-use Rattle.re_trees.specs.declared.span.Span.{Span}
-use Rattle.re_auto.specs.Searches.{SomeMatches}
+use Rattle.{re_trees.specs.declared.span.Span.Span, re_auto.specs.Searches.SomeMatches}
 use Rattle.re_runs.specs.Working.Blocks.{PassesAll, FindsNext, HoldsOfMany}
 use Rattle.re_search.specs.{declared.matcher.Matcher.Matcher, Working.Matchers.expressions_of}
 

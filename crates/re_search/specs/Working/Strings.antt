@@ -1,7 +1,7 @@
 -- Expressions that are strings, each of which is added to some bytes with a newline after it.
 use Rattle.std.specs.Prelude.{◌≡◌, ◌≤◌, List, All, ◌++◌, length, map}
-use Rattle.re_syntax.specs.Expression.{Expression, byte, sequence, choice}
-use Rattle.re_syntax.specs.{Bytes.Text, Lines.HasNoNewline, Lines.terminated}
+use Rattle.re_syntax.specs.{Expression.{Expression, byte, sequence, choice}, Bytes.Text}
+use Rattle.re_syntax.specs.Lines.{HasNoNewline, terminated}
 
 -- the sequence of a string's bytes
 abbrev pub string_expression : Text → Expression

@@ -1,5 +1,4 @@
-use Rattle.gaxtrel.proofs.Prelude.{◌≡◌, ◌∙◌, ◌≤◌, [], ◌∷◌, ◌++◌, ap, append_assoc, arith, length, map, refl, rules, sym, map-append, All-push, lines_of, room_of, most_kept}
-use Rattle.grep_core.proofs.lemmas.MatcherLemmas.{AreMatchers-push, refused_or_memory}
+use Rattle.{gaxtrel.proofs.Prelude.{◌≡◌, ◌∙◌, ◌≤◌, [], ◌∷◌, ◌++◌, ap, append_assoc, arith, length, map, refl, rules, sym, map-append, All-push, lines_of, room_of, most_kept}, grep_core.proofs.lemmas.MatcherLemmas.{AreMatchers-push, refused_or_memory}}
 use Rattle.gaxtrel.proofs.each.matchers_of.Goals as goal
 
 pub loop-text-preserved : goal.loop-text-preserved

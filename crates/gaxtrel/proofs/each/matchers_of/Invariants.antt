@@ -1,5 +1,4 @@
-use Rattle.gaxtrel.proofs.Prelude.{◌≡◌, List, ◌++◌, Text, lines_of, HaveRoom}
-use Rattle.grep_core.specs.Working.MatcherLists.{AreMatchers}
+use Rattle.{gaxtrel.proofs.Prelude.{◌≡◌, List, ◌++◌, Text, lines_of, HaveRoom}, grep_core.specs.Working.MatcherLists.AreMatchers}
 use Rattle.gaxtrel.proofs.each.matchers_of.Given as goal
 
 -- the first texts were read, and the others are left

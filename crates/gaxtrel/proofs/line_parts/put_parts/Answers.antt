@@ -1,8 +1,4 @@
-use Rattle.gaxtrel.proofs.Prelude.{arith}
-use Rattle.re_meter.proofs.lemmas.Adding.{adds_none}
-use Rattle.re_search.proofs.lemmas.KeptMatchers.{as_many, none_asked, same_over, still_alike}
-use Rattle.re_search.proofs.lemmas.LinePartsLaws.{all_parts}
-use Rattle.gaxtrel.proofs.ArrayLemmas.{all_put, none_put, one_put}
+use Rattle.{gaxtrel.proofs.{Prelude.arith, ArrayLemmas.{all_put, none_put, one_put}}, re_meter.proofs.lemmas.Adding.adds_none, re_search.proofs.lemmas.{KeptMatchers.{as_many, none_asked, same_over, still_alike}, LinePartsLaws.all_parts}}
 use Rattle.gaxtrel.proofs.line_parts.put_parts.Goals as goal
 
 pub loop-part-init : goal.loop-part-init

@@ -1,6 +1,4 @@
-use Rattle.gaxtrel.proofs.Prelude.{◌+◌, ◌*◌, ◌-◌, ◌≤◌, length, sought_of, AddsAtMost, AreSame, expressions_of, AreParts}
-use Rattle.re_search.specs.Working.LineParts.{ArePartsOf, spent}
-use Rattle.gaxtrel.proofs.ArrayLemmas.{PutSoFar}
+use Rattle.{gaxtrel.proofs.{Prelude.{◌+◌, ◌*◌, ◌-◌, ◌≤◌, length, sought_of, AddsAtMost, AreSame, expressions_of, AreParts}, ArrayLemmas.PutSoFar}, re_search.specs.Working.LineParts.{ArePartsOf, spent}}
 use Rattle.gaxtrel.proofs.line_parts.put_parts.Given as goal
 
 -- the parts up to here were found and written

@@ -1,5 +1,4 @@
-use Rattle.gaxtrel.proofs.Prelude.{IsTrue, ◌↔◌, rules, IsSought}
-use Rattle.gaxtrel.proofs.ServedLemmas.{asked_line, line_served, stopped}
+use Rattle.gaxtrel.proofs.{Prelude.{IsTrue, ◌↔◌, rules, IsSought}, ServedLemmas.{asked_line, line_served, stopped}}
 use Rattle.gaxtrel.proofs.search.gaxtrel_is_match.Goals as goal
 
 pub returns-then-not-allows : goal.returns-then-not-allows

@@ -1,6 +1,4 @@
-use Rattle.gaxtrel.proofs.Prelude.{arith, inl, inr}
-use Rattle.gaxtrel.proofs.KeptLemmas.{less_of}
-use Rattle.gaxtrel.proofs.ServedLemmas.{asked, lines_served}
+use Rattle.gaxtrel.proofs.{Prelude.{arith, inl, inr}, KeptLemmas.less_of, ServedLemmas.{asked, lines_served}}
 use Rattle.gaxtrel.proofs.search.gaxtrel_lines.Goals as goal
 
 pub returns-then-found-lines-clause-found : goal.returns-then-found-lines-clause-found

@@ -1,5 +1,4 @@
-use Rattle.gaxtrel.proofs.Prelude.{None, Some, refl}
-use Rattle.gaxtrel.proofs.ServedLemmas.{asked, next_served}
+use Rattle.gaxtrel.proofs.{Prelude.{None, Some, refl}, ServedLemmas.{asked, next_served}}
 use Rattle.gaxtrel.proofs.search.gaxtrel_next_line.Goals as goal
 
 pub returns-in_default-found-clause-found : goal.returns-in_default-found-clause-found

@@ -1,5 +1,4 @@
-use Rattle.gaxtrel.proofs.Prelude.{inl, inr, refl, rules}
-use Rattle.gaxtrel.proofs.ServedLemmas.{asked_line, numbers_served, stopped}
+use Rattle.gaxtrel.proofs.{Prelude.{inl, inr, refl, rules}, ServedLemmas.{asked_line, numbers_served, stopped}}
 use Rattle.gaxtrel.proofs.search.gaxtrel_which.Goals as goal
 
 pub returns-then-not-allows-clause-found : goal.returns-then-not-allows-clause-found

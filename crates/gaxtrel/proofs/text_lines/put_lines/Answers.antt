@@ -1,8 +1,4 @@
-use Rattle.gaxtrel.proofs.Prelude.{arith, refl, ap, ◌≡◌, ◌∙◌, ◌+◌, ◌-◌, take, drop, length-drop, take_rest, IsSought, sought_of}
-use Rattle.re_search.proofs.lemmas.KeptMatchers.{same_over}
-use Rattle.grep_io.proofs.lemmas.PassedLemmas.{count_lines}
-use Rattle.gaxtrel.proofs.TextLemmas.{no_line_left}
-use Rattle.gaxtrel.proofs.LineLemmas.{no_more, no_room, one_line, searched, within_text}
+use Rattle.{gaxtrel.proofs.{Prelude.{arith, refl, ap, ◌≡◌, ◌∙◌, ◌+◌, ◌-◌, take, drop, length-drop, take_rest, IsSought, sought_of}, TextLemmas.no_line_left, LineLemmas.{no_more, no_room, one_line, searched, within_text}}, re_search.proofs.lemmas.KeptMatchers.same_over, grep_io.proofs.lemmas.PassedLemmas.count_lines}
 use Rattle.gaxtrel.proofs.text_lines.put_lines.Goals as goal
 
 pub returns-then-at-text-clause-put : goal.returns-then-at-text-clause-put

@@ -1,5 +1,4 @@
-use Rattle.gaxtrel.proofs.Prelude.{◌-◌, ◌*◌, length, AddsAtMost, AreSame, expressions_of, sought_of}
-use Rattle.gaxtrel.proofs.LineLemmas.{LinesSoFar}
+use Rattle.gaxtrel.proofs.{Prelude.{◌-◌, ◌*◌, length, AddsAtMost, AreSame, expressions_of, sought_of}, LineLemmas.LinesSoFar}
 use Rattle.gaxtrel.proofs.text_lines.put_lines.Given as goal
 
 -- the first lines were found and written

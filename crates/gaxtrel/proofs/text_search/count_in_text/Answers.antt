@@ -1,6 +1,4 @@
-use Rattle.gaxtrel.proofs.Prelude.{refl, sym, arith, false≢true, length-take-le, sought_of}
-use Rattle.re_search.proofs.lemmas.KeptMatchers.{same_sought}
-use Rattle.gaxtrel.proofs.TextLemmas.{counts_front, counts_last, counts_without, cut_within, few_counted, front_cost, last_cost}
+use Rattle.{gaxtrel.proofs.{Prelude.{refl, sym, arith, false≢true, length-take-le, sought_of}, TextLemmas.{counts_front, counts_last, counts_without, cut_within, few_counted, front_cost, last_cost}}, re_search.proofs.lemmas.KeptMatchers.same_sought}
 use Rattle.gaxtrel.proofs.text_search.count_in_text.Goals as goal
 
 pub slice_bounds-count_matched-end : goal.slice_bounds-count_matched-end

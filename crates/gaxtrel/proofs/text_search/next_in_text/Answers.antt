@@ -1,6 +1,4 @@
-use Rattle.gaxtrel.proofs.Prelude.{refl, sym, arith, false≢true, length-take-le, sought_of}
-use Rattle.re_search.proofs.lemmas.KeptMatchers.{same_sought}
-use Rattle.gaxtrel.proofs.TextLemmas.{cut_within, front_cost, last_cost, next_at_last, next_in_front, none_at_last, none_in_front}
+use Rattle.{gaxtrel.proofs.{Prelude.{refl, sym, arith, false≢true, length-take-le, sought_of}, TextLemmas.{cut_within, front_cost, last_cost, next_at_last, next_in_front, none_at_last, none_in_front}}, re_search.proofs.lemmas.KeptMatchers.same_sought}
 use Rattle.gaxtrel.proofs.text_search.next_in_text.Goals as goal
 
 pub slice_bounds-next_matched-end : goal.slice_bounds-next_matched-end

@@ -1,8 +1,4 @@
-use Rattle.gaxtrel.proofs.Prelude.{◌≡◌, ◌∙◌, get_or, arith, refl, sym, drop_all, length-map, expressions_of, matched_expression, wants_whole}
-use Rattle.re_search.proofs.lemmas.KeptMatchers.{one_kept}
-use Rattle.re_search.proofs.lemmas.OneMatcherMore.{steps_more, value_at, within}
-use Rattle.gaxtrel.proofs.ArrayLemmas.{all_put}
-use Rattle.gaxtrel.proofs.WhichLemmas.{one_asked}
+use Rattle.{gaxtrel.proofs.{Prelude.{◌≡◌, ◌∙◌, get_or, arith, refl, sym, drop_all, length-map, expressions_of, matched_expression, wants_whole}, ArrayLemmas.all_put, WhichLemmas.one_asked}, re_search.proofs.lemmas.{KeptMatchers.one_kept, OneMatcherMore.{steps_more, value_at, within}}}
 use Rattle.gaxtrel.proofs.which.put_numbers.Goals as goal
 
 pub loop-matcher-preserved : goal.loop-matcher-preserved

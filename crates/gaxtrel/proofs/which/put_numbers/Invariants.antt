@@ -1,5 +1,4 @@
-use Rattle.gaxtrel.proofs.Prelude.{◌≡◌, ◌+◌, ◌*◌, ◌≤◌, drop, length, AddsAtMost, AreSame, expressions_of, AreNumbers}
-use Rattle.gaxtrel.proofs.ArrayLemmas.{PutSoFar}
+use Rattle.gaxtrel.proofs.{Prelude.{◌≡◌, ◌+◌, ◌*◌, ◌≤◌, drop, length, AddsAtMost, AreSame, expressions_of, AreNumbers}, ArrayLemmas.PutSoFar}
 use Rattle.gaxtrel.proofs.which.put_numbers.Given as goal
 
 -- the numbers of the first matchers were found and written

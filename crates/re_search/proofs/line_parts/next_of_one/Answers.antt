@@ -1,7 +1,4 @@
-use Rattle.re_search.proofs.Prelude.{◌∙◌, inl, refl, arith, length}
-use Rattle.re_match.proofs.lemmas.SameLaws.{same_twice}
-use Rattle.re_match.proofs.lemmas.WindowLaws.{from_place, part_later}
-use Rattle.re_search.proofs.lemmas.LinePartsLaws.{none_later, parts_after, passed_right, stretch_steps, window_ends, window_known, window_steps}
+use Rattle.{re_search.proofs.{Prelude.{◌∙◌, inl, refl, arith, length}, lemmas.LinePartsLaws.{none_later, parts_after, passed_right, stretch_steps, window_ends, window_known, window_steps}}, re_match.proofs.lemmas.{SameLaws.same_twice, WindowLaws.{from_place, part_later}}}
 use Rattle.re_search.proofs.line_parts.next_of_one.Goals as goal
 
 pub returns-in-Some-clause-reported : goal.returns-in-Some-clause-reported

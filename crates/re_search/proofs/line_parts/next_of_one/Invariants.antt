@@ -1,5 +1,4 @@
-use Rattle.re_search.proofs.Prelude.{◌≡◌, ℕ, ◌≤◌, ◌-◌, false, [], ◌∷◌, length, IsFound, IsSame, ArePartsOf, spent, matched_expression}
-use Rattle.re_meter.specs.Meters.{Steps, AddsAtMost}
+use Rattle.{re_search.proofs.Prelude.{◌≡◌, ℕ, ◌≤◌, ◌-◌, false, [], ◌∷◌, length, IsFound, IsSame, ArePartsOf, spent, matched_expression}, re_meter.specs.Meters.{Steps, AddsAtMost}}
 use Rattle.re_search.proofs.line_parts.next_of_one.Given as goal
 
 -- no part begins before this place

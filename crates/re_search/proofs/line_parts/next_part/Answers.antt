@@ -1,6 +1,4 @@
-use Rattle.re_search.proofs.Prelude.{subst, sym, arith, IfSome, FindsPart, Sought, ArePartsOf}
-use Rattle.re_search.proofs.lemmas.OneMatcher.{alone}
-use Rattle.re_search.proofs.lemmas.LinePartsLaws.{known_of_all, known_after, known_whole}
+use Rattle.re_search.proofs.{Prelude.{subst, sym, arith, IfSome, FindsPart, Sought, ArePartsOf}, lemmas.{OneMatcher.alone, LinePartsLaws.{known_of_all, known_after, known_whole}}}
 use Rattle.re_search.proofs.line_parts.next_part.Goals as goal
 
 pub returns-then-seen-gt0-clause-reported : goal.returns-then-seen-gt0-clause-reported

@@ -1,5 +1,4 @@
-use Rattle.re_search.proofs.Prelude.{◌+◌, ◌≤◌, arith, sym, subst}
-use Rattle.re_search.proofs.lemmas.LinePartsLaws.{none_first, none_last, passed_on, first_from}
+use Rattle.re_search.proofs.{Prelude.{◌+◌, ◌≤◌, arith, sym, subst}, lemmas.LinePartsLaws.{none_first, none_last, passed_on, first_from}}
 use Rattle.re_search.proofs.line_parts.part_from.Goals as goal
 
 pub places-init : goal.places-init

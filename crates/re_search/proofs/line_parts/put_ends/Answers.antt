@@ -1,8 +1,4 @@
-use Rattle.re_search.proofs.Prelude.{◌∙◌, ◌+◌, ◌-◌, arith, length, length-replicate, get_or-replicate, ap, get_or, matched_expression, expressions_of}
-use Rattle.re_search.proofs.lemmas.OneMatcherMore.{one_more, all_asked, steps_more}
-use Rattle.re_search.proofs.lemmas.KeptMatchers.{none_asked, one_kept}
-use Rattle.re_search.proofs.lemmas.LinePartsLaws.{no_ends, ends_more}
-use Rattle.re_meter.proofs.lemmas.Adding.{adds_none, adds_within}
+use Rattle.{re_search.proofs.{Prelude.{◌∙◌, ◌+◌, ◌-◌, arith, length, length-replicate, get_or-replicate, ap, get_or, matched_expression, expressions_of}, lemmas.{OneMatcherMore.{one_more, all_asked, steps_more}, KeptMatchers.{none_asked, one_kept}, LinePartsLaws.{no_ends, ends_more}}}, re_meter.proofs.lemmas.Adding.{adds_none, adds_within}}
 use Rattle.re_search.proofs.line_parts.put_ends.Goals as goal
 
 pub loop-matcher-init : goal.loop-matcher-init

@@ -1,6 +1,4 @@
-use Rattle.std.specs.Prelude.{vec_capacity}
-use Rattle.re_search.proofs.Prelude.{◌≡◌, ◌+◌, ◌*◌, ◌≤◌, false, length, take, AreSame, AreAllEnds, expressions_of}
-use Rattle.re_auto.specs.Searches.{AddsAtMost}
+use Rattle.{std.specs.Prelude.vec_capacity, re_search.proofs.Prelude.{◌≡◌, ◌+◌, ◌*◌, ◌≤◌, false, length, take, AreSame, AreAllEnds, expressions_of}, re_auto.specs.Searches.AddsAtMost}
 use Rattle.re_search.proofs.line_parts.put_ends.Given as goal
 
 abbrev pub invariant-loop-matcher : goal.invariant-loop-matcher

@@ -1,5 +1,4 @@
-use Rattle.re_search.proofs.Prelude.{◌∙◌, ◌<◌, ◌^◌, length, refl, sym, inl, inr, rules, true≢false, Fixed}
-use Rattle.re_search.proofs.lemmas.ReadingLaws.{fixed_read, too_many, fixed_positions}
+use Rattle.re_search.proofs.{Prelude.{◌∙◌, ◌<◌, ◌^◌, length, refl, sym, inl, inr, rules, true≢false, Fixed}, lemmas.ReadingLaws.{fixed_read, too_many, fixed_positions}}
 use Rattle.re_search.proofs.pattern.read_fixed.Goals as goal
 
 pub returns-clause-read : goal.returns-clause-read

@@ -1,5 +1,4 @@
-use Rattle.re_search.proofs.Prelude.{inr, arith}
-use Rattle.re_search.proofs.lemmas.ReadingLaws.{tree_read, too_many}
+use Rattle.re_search.proofs.{Prelude.{inr, arith}, lemmas.ReadingLaws.{tree_read, too_many}}
 use Rattle.re_search.proofs.pattern.read_small.Goals as goal
 
 pub returns-then-branch-gt-MOST_POSITIONS-clause-refused : goal.returns-then-branch-gt-MOST_POSITIONS-clause-refused

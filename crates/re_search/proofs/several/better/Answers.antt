@@ -1,5 +1,4 @@
-use Rattle.re_search.proofs.Prelude.{inl, inr, sym, arith}
-use Rattle.re_search.proofs.lemmas.PartOfBoth.{Leads, second_alone, first_alone, first_leads, second_leads}
+use Rattle.re_search.proofs.{Prelude.{inl, inr, sym, arith}, lemmas.PartOfBoth.{Leads, second_alone, first_alone, first_leads, second_leads}}
 use Rattle.re_search.proofs.several.better.Goals as goal
 
 pub returns-in_default : goal.returns-in_default

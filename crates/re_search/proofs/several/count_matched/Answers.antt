@@ -1,9 +1,4 @@
-use Rattle.re_search.proofs.Prelude.{◌-◌, ◌≡◌, ◌+◌, None, Some, length, drop, ap, subst, arith, length-drop, take_rest, lines_of, expressions_of, sought_of, Sought, IsSought, FindsSought}
-use Rattle.re_search.proofs.lemmas.KeptMatchers.{same_over, same_sought}
-use Rattle.re_search.proofs.lemmas.OneMatcher.{sought_alone}
-use Rattle.re_runs.proofs.lemmas.CountedBlocks.{counts_same}
-use Rattle.re_runs.proofs.lemmas.NextLines.{CountsTo, counts_next, counts_all}
-use Rattle.re_search.proofs.lemmas.SearchedBlocks.{times_more}
+use Rattle.{re_search.proofs.{Prelude.{◌-◌, ◌≡◌, ◌+◌, None, Some, length, drop, ap, subst, arith, length-drop, take_rest, lines_of, expressions_of, sought_of, Sought, IsSought, FindsSought}, lemmas.{KeptMatchers.{same_over, same_sought}, OneMatcher.sought_alone, SearchedBlocks.times_more}}, re_runs.proofs.lemmas.{CountedBlocks.counts_same, NextLines.{CountsTo, counts_next, counts_all}}}
 use Rattle.re_search.proofs.several.count_matched.Goals as goal
 
 pub returns-in_default-clause-reported : goal.returns-in_default-clause-reported

@@ -1,6 +1,4 @@
-use Rattle.re_search.proofs.Prelude.{◌*◌, ◌-◌, length, AreSame, expressions_of, sought_of, IsSought}
-use Rattle.re_auto.specs.Searches.{AddsAtMost}
-use Rattle.re_runs.proofs.lemmas.NextLines.{CountsTo}
+use Rattle.{re_search.proofs.Prelude.{◌*◌, ◌-◌, length, AreSame, expressions_of, sought_of, IsSought}, re_auto.specs.Searches.AddsAtMost, re_runs.proofs.lemmas.NextLines.CountsTo}
 use Rattle.re_search.proofs.several.count_matched.Given as goal
 
 -- the lines before the rest were counted

@@ -1,6 +1,4 @@
-use Rattle.re_search.proofs.Prelude.{arith, refl, false≢true}
-use Rattle.re_search.proofs.lemmas.OneMatcherMore.{none_more, one_matches, all_asked, steps_more}
-use Rattle.re_search.proofs.lemmas.KeptMatchers.{one_kept}
+use Rattle.re_search.proofs.{Prelude.{arith, refl, false≢true}, lemmas.{OneMatcherMore.{none_more, one_matches, all_asked, steps_more}, KeptMatchers.one_kept}}
 use Rattle.re_search.proofs.several.is_matched.Goals as goal
 
 pub loop-matcher-preserved : goal.loop-matcher-preserved

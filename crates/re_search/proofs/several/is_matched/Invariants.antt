@@ -1,5 +1,4 @@
-use Rattle.re_search.proofs.Prelude.{◌+◌, ◌*◌, length, take, SomeMatches, AreSame, expressions_of}
-use Rattle.re_auto.specs.Searches.{AddsAtMost}
+use Rattle.{re_search.proofs.Prelude.{◌+◌, ◌*◌, length, take, SomeMatches, AreSame, expressions_of}, re_auto.specs.Searches.AddsAtMost}
 use Rattle.re_search.proofs.several.is_matched.Given as goal
 
 abbrev pub invariant-loop-matcher : goal.invariant-loop-matcher

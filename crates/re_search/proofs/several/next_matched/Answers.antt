@@ -1,9 +1,4 @@
-use Rattle.re_search.proofs.Prelude.{◌≡◌, ◌+◌, length, refl, ap, subst, arith, lines_of, mul-le-mul_left, slice_range, false≢true, expressions_of, sought_of, Sought, IsSought}
-use Rattle.re_meter.proofs.lemmas.Adding.{adds_within}
-use Rattle.re_runs.proofs.lemmas.NextLines.{finds_same, none_next, next_from, passed_from, long}
-use Rattle.re_search.proofs.lemmas.KeptMatchers.{same_over, same_sought}
-use Rattle.re_search.proofs.lemmas.OneMatcher.{sought_alone}
-use Rattle.re_search.proofs.lemmas.SearchedBlocks.{times_more}
+use Rattle.{re_search.proofs.{Prelude.{◌≡◌, ◌+◌, length, refl, ap, subst, arith, lines_of, mul-le-mul_left, slice_range, false≢true, expressions_of, sought_of, Sought, IsSought}, lemmas.{KeptMatchers.{same_over, same_sought}, OneMatcher.sought_alone, SearchedBlocks.times_more}}, re_meter.proofs.lemmas.Adding.adds_within, re_runs.proofs.lemmas.NextLines.{finds_same, none_next, next_from, passed_from, long}}
 use Rattle.re_search.proofs.several.next_matched.Goals as goal
 
 pub returns-then-matchers-eq1-clause-reported : goal.returns-then-matchers-eq1-clause-reported

@@ -1,5 +1,4 @@
-use Rattle.re_search.proofs.Prelude.{◌*◌, ◌-◌, ◌≤◌, length, AreSame, expressions_of, sought_of, PassesUnsought}
-use Rattle.re_auto.specs.Searches.{AddsAtMost}
+use Rattle.{re_search.proofs.Prelude.{◌*◌, ◌-◌, ◌≤◌, length, AreSame, expressions_of, sought_of, PassesUnsought}, re_auto.specs.Searches.AddsAtMost}
 use Rattle.re_search.proofs.several.next_matched.Given as goal
 
 -- the lines before the place were searched, and none is matched

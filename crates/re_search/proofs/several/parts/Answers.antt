@@ -1,6 +1,4 @@
-use Rattle.re_search.proofs.Prelude.{arith, matched_expression}
-use Rattle.re_search.proofs.lemmas.OneMatcherMore.{one_more, all_asked, steps_more}
-use Rattle.re_search.proofs.lemmas.KeptMatchers.{one_kept}
+use Rattle.re_search.proofs.{Prelude.{arith, matched_expression}, lemmas.{OneMatcherMore.{one_more, all_asked, steps_more}, KeptMatchers.one_kept}}
 use Rattle.re_search.proofs.several.parts.Goals as goal
 
 pub loop-matcher-preserved : goal.loop-matcher-preserved

@@ -1,5 +1,4 @@
-use Rattle.re_search.proofs.Prelude.{◌+◌, ◌-◌, ◌*◌, length, take, false, FindsPart, AreSame, expressions_of}
-use Rattle.re_auto.specs.Searches.{AddsAtMost}
+use Rattle.{re_search.proofs.Prelude.{◌+◌, ◌-◌, ◌*◌, length, take, false, FindsPart, AreSame, expressions_of}, re_auto.specs.Searches.AddsAtMost}
 use Rattle.re_search.proofs.several.parts.Given as goal
 
 abbrev pub invariant-loop-matcher : goal.invariant-loop-matcher

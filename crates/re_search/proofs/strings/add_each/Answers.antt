@@ -1,5 +1,4 @@
-use Rattle.re_search.proofs.Prelude.{[], ◌∷◌, subst, expression_of, AddsEach}
-use Rattle.re_search.proofs.lemmas.PlainLaws.{no_strings, next_string}
+use Rattle.re_search.proofs.{Prelude.{[], ◌∷◌, subst, expression_of, AddsEach}, lemmas.PlainLaws.{no_strings, next_string}}
 use Rattle.re_search.proofs.strings.add_each.Goals as goal
 
 pub trees-init : goal.trees-init

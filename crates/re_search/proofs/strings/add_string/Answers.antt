@@ -1,5 +1,4 @@
-use Rattle.re_search.proofs.Prelude.{rules, IfSome, ◌≡◌, ◌∷◌, [], ◌++◌, sym, IfSome_then, newline}
-use Rattle.re_search.proofs.lemmas.PlainLaws.{no_newline, string_added}
+use Rattle.re_search.proofs.{Prelude.{rules, IfSome, ◌≡◌, ◌∷◌, [], ◌++◌, sym, IfSome_then, newline}, lemmas.PlainLaws.{no_newline, string_added}}
 use Rattle.re_search.proofs.strings.add_string.Goals as goal
 
 pub returns : goal.returns

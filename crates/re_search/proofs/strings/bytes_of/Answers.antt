@@ -1,5 +1,4 @@
-use Rattle.re_search.proofs.Prelude.{rules, ◌≡◌, [], ◌∷◌, ◌++◌, subst, byte, expression_of}
-use Rattle.re_search.proofs.lemmas.PlainStrings.{byte_more}
+use Rattle.re_search.proofs.{Prelude.{rules, ◌≡◌, [], ◌∷◌, ◌++◌, subst, byte, expression_of}, lemmas.PlainStrings.byte_more}
 use Rattle.re_search.proofs.strings.bytes_of.Goals as goal
 
 pub trees-preserved : goal.trees-preserved

@@ -1,13 +1,9 @@
 -- `empty` makes a handle that owns nothing.
-use Rattle.gaxtrel.proofs.Machine.{◌≡◌, List, [], ◌∷◌, ◌++◌, refl, sym, subst, Option, None, Val, vnull, SProp, ent, emp, id⊢, ftrue, WpFn, agg, fact, fact_i, tables, yes, owns, types_at, plain, null_ptr, nothing, Stays, stay_dropped, Goes-dropped, walk_of, handle_tells, proved_at, leaves, Held}
+use Rattle.gaxtrel.{proofs.{Machine.{◌≡◌, List, [], ◌∷◌, ◌++◌, refl, sym, subst, Option, None, Val, vnull, SProp, ent, emp, id⊢, ftrue, WpFn, agg, fact, fact_i, tables, yes, owns, types_at, plain, null_ptr, nothing, Stays, stay_dropped, Goes-dropped, walk_of, handle_tells, proved_at, leaves, Held}, Values.both, HandleValues.{Z, al, handle_good, handle_in}, handle.Handle.empty.Statement.statement}, specs.contracts.handle.Handle.empty.{ended, clauses}}
 use types.Kit.{‵, raw, ◌⊛◌, ◌$◌, ◌∵◌, !, qed, by, keep, drop, split, fsplit, fjoin, suffices, use0}
 use types.Run.{lit, no_more, and_then, returns, enter}
 use types.ByLocal.{alloc_all, pass_all, free_all, look_at, get, sets}
-use Rattle.gaxtrel.proofs.Values.{both}
-use Rattle.gaxtrel.proofs.HandleValues.{Z, al, handle_good, handle_in}
-use Rattle.gaxtrel.specs.contracts.handle.Handle.empty.{ended, clauses}
 use Rattle.gaxtrel.specs.contracts.handle.Handle.empty.Key.{name as #self}
-use Rattle.gaxtrel.proofs.handle.Handle.empty.Statement.{statement}
 use Rattle.gaxtrel.proofs.handle.Handle.empty.Code as code
 
 pub empty_spec : {M : Type 1} → statement M

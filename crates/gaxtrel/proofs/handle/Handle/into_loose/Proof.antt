@@ -1,15 +1,9 @@
 -- `into_loose` gives the pointer of a loose box back.
-use Rattle.gaxtrel.proofs.Machine.{◌≡◌, List, [], ◌∷◌, ◌++◌, refl, sym, ap, ◌∙◌, subst, Option, Some, bare, Val, vptr, SProp, ent, emp, id⊢, never, fst∗, ftrue, WpFn, sem, agg, sub, whole, fact, fact_i, tables, yes, lone, owns, types_at, plain, Ptr, block_ptr, null_ptr, ptr_val, in_a_block, nothing, heard, Stays, stay_dropped, walk_of, Goes-blank, proved_at, leaves, Held, held_owns}
+use Rattle.{gaxtrel.{proofs.{Machine.{◌≡◌, List, [], ◌∷◌, ◌++◌, refl, sym, ap, ◌∙◌, subst, Option, Some, bare, Val, vptr, SProp, ent, emp, id⊢, never, fst∗, ftrue, WpFn, sem, agg, sub, whole, fact, fact_i, tables, yes, lone, owns, types_at, plain, Ptr, block_ptr, null_ptr, ptr_val, in_a_block, nothing, heard, Stays, stay_dropped, walk_of, Goes-blank, proved_at, leaves, Held, held_owns}, Values.{both, loose_good, loose_in}, HandleValues.{R, Z, L, g, Handle, handle_out}, handle.Handle.into_loose.Statement.statement}, specs.contracts.handle.Handle.into_loose.{ended, clauses}}, std.specs.{contracts.impls.GlobalAllocator.TheImpl.ghosts, Box.Ownership.box_owns}}
 use types.Kit.{‵, raw, ◌⊛◌, ◌$◌, ◌∵◌, !, qed, by, move, keep, drop, split, fsplit, fjoin, suffices, use0, rewrite}
 use types.Run.{stop, fld, of_opd, no_more, and_then, returns, enter}
 use types.ByLocal.{alloc_all, pass_all, free_all, look_at, get, get_in, sets}
-use Rattle.std.specs.contracts.impls.GlobalAllocator.TheImpl.{ghosts}
-use Rattle.std.specs.Box.Ownership.{box_owns}
-use Rattle.gaxtrel.proofs.Values.{both, loose_good, loose_in}
-use Rattle.gaxtrel.proofs.HandleValues.{R, Z, L, g, Handle, handle_out}
-use Rattle.gaxtrel.specs.contracts.handle.Handle.into_loose.{ended, clauses}
 use Rattle.gaxtrel.specs.contracts.handle.Handle.into_loose.Key.{name as #self}
-use Rattle.gaxtrel.proofs.handle.Handle.into_loose.Statement.{statement}
 use Rattle.gaxtrel.proofs.handle.Handle.into_loose.Code as code
 
 pub into_loose_spec : {M : Type 1} → statement M

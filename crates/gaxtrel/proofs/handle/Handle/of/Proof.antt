@@ -1,13 +1,9 @@
 -- `of` takes the pointer of a loose box.
-use Rattle.gaxtrel.proofs.Machine.{◌≡◌, List, [], ◌∷◌, ◌++◌, refl, sym, subst, Some, Val, vptr, SProp, ent, emp, id⊢, ftrue, WpFn, agg, sub, whole, fact, fact_i, tables, no, owns, types_at, plain, block_ptr, nothing, Stays, stay_dropped, walk_of, Goes-blank, proved_at, leaves}
+use Rattle.gaxtrel.{proofs.{Machine.{◌≡◌, List, [], ◌∷◌, ◌++◌, refl, sym, subst, Some, Val, vptr, SProp, ent, emp, id⊢, ftrue, WpFn, agg, sub, whole, fact, fact_i, tables, no, owns, types_at, plain, block_ptr, nothing, Stays, stay_dropped, walk_of, Goes-blank, proved_at, leaves}, Values.{both, loose_good, loose_out}, HandleValues.{R, Z, L, g, Loose, handle_in}, handle.Handle.of.Statement.statement}, specs.contracts.handle.Handle.of.{ended, clauses}}
 use types.Kit.{‵, raw, ◌⊛◌, ◌$◌, ◌∵◌, !, qed, by, keep, drop, split, fsplit, fjoin, suffices, use0}
 use types.Run.{stop, fld, of_opd, no_more, and_then, returns, enter}
 use types.ByLocal.{alloc_all, pass_all, free_all, look_at, get, get_in, sets}
-use Rattle.gaxtrel.proofs.Values.{both, loose_good, loose_out}
-use Rattle.gaxtrel.proofs.HandleValues.{R, Z, L, g, Loose, handle_in}
-use Rattle.gaxtrel.specs.contracts.handle.Handle.of.{ended, clauses}
 use Rattle.gaxtrel.specs.contracts.handle.Handle.of.Key.{name as #self}
-use Rattle.gaxtrel.proofs.handle.Handle.of.Statement.{statement}
 use Rattle.gaxtrel.proofs.handle.Handle.of.Code as code
 
 pub of_spec : {M : Type 1} → statement M

@@ -1,9 +1,4 @@
-use Rattle.gaxtrel.proofs.Prelude.{Global, Option, Some, Vec, [], ap, arith, length, rules, subst, sym, ℕ, ◌<◌, ◌^◌, ◌≡◌, ◌≤◌, Text}
-use Rattle.grep_core.specs.Counted.{Tallied}
-use Rattle.grep_core.specs.Reading.{most_lines}
-use Rattle.grep_cmd.specs.Replies.{GaveLines, ScriptGives}
-use Rattle.gaxtrel.specs.Live.{AnswersText, LiveKept}
-use Rattle.gaxtrel.proofs.CommandLemmas.{text_answered}
+use Rattle.{gaxtrel.{proofs.{Prelude.{Global, Option, Some, Vec, [], ap, arith, length, rules, subst, sym, ℕ, ◌<◌, ◌^◌, ◌≡◌, ◌≤◌, Text}, CommandLemmas.text_answered}, specs.Live.{AnswersText, LiveKept}}, grep_core.specs.{Counted.Tallied, Reading.most_lines}, grep_cmd.specs.Replies.{GaveLines, ScriptGives}}
 use Rattle.gaxtrel.proofs.live.Live.answer.Goals as goal
 
 pub returns : goal.returns

@@ -1,19 +1,14 @@
 -- `into_box` makes the box again.
-use Rattle.gaxtrel.proofs.Machine.{◌≡◌, List, [], ◌∷◌, ◌++◌, refl, sym, ap, subst, a_type, dcons, dnil, Val, vptr, inst_fn, SProp, ent, id⊢, ftrue, flft, WpFn, sub, whole, fact, tables, no, RattleType, owns, types_at, plain, block_ptr, nothing, only, param, layout, bounded, param_laws, triple_of, Stays, stay_dropped, walk_of, Goes-blank, fm, Good, box_out, box_in, proved_at, leaves}
+use Rattle.{gaxtrel.{proofs.{Machine.{◌≡◌, List, [], ◌∷◌, ◌++◌, refl, sym, ap, subst, a_type, dcons, dnil, Val, vptr, inst_fn, SProp, ent, id⊢, ftrue, flft, WpFn, sub, whole, fact, tables, no, RattleType, owns, types_at, plain, block_ptr, nothing, only, param, layout, bounded, param_laws, triple_of, Stays, stay_dropped, walk_of, Goes-blank, fm, Good, box_out, box_in, proved_at, leaves}, Values.{both, Loose, loose_good, loose_out}, loose.Loose.into_box.Statement.statement}, specs.contracts.loose.Loose.into_box.{ended, clauses}}, core.proofs.alloc.Shapes.after, std_alloc.proofs.boxed.Box.from_raw.Met.met}
 use types.Kit.{‵, raw, ◌⊛◌, some, later, at_ret, ◌$◌, ◌∵◌, !, qed, by, move, keep, drop, split, split3, join, fsplit, fjoin, pick, suffices, use1, await, rewrite, feq_i}
 use types.Run.{stop, fld, of_opd, no_more, and_then, first, blocks, exec, returns, enter}
 use types.ByLocal.{alloc_all, pass_all, free_all, look_at, get, get_in, sets, lands_last, env}
 use contract.BorrowLft.{◌⊑◌}
 use denote.Triple.Clauses.{Lasts, lasts}
 use denote.Triple.Call.{calls_at_last}
-use Rattle.core.proofs.alloc.Shapes.{after}
 use Rattle.std_alloc.proofs.BoxSteps.Form as box
-use Rattle.gaxtrel.proofs.Values.{both, Loose, loose_good, loose_out}
 use Rattle.std_alloc.specs.contracts.boxed.Box.from_raw as callee
-use Rattle.std_alloc.proofs.boxed.Box.from_raw.Met.{met}
-use Rattle.gaxtrel.specs.contracts.loose.Loose.into_box.{ended, clauses}
 use Rattle.gaxtrel.specs.contracts.loose.Loose.into_box.Key.{name as #self}
-use Rattle.gaxtrel.proofs.loose.Loose.into_box.Statement.{statement}
 use Rattle.gaxtrel.proofs.loose.Loose.into_box.Code as code
 
 pub into_box_spec : {M : Type 1} → statement M

@@ -1,17 +1,13 @@
 -- `of` takes the box apart.
-use Rattle.gaxtrel.proofs.Machine.{◌≡◌, List, [], ◌∷◌, ◌++◌, refl, sym, ap, ◌∙◌, subst, a_type, dcons, dnil, bare, Val, vptr, vstruct, of_list, inst_fn, SProp, ent, emp, never, id⊢, fst∗, ftrue, fsep, flft, WpFn, sem, agg, sub, whole, fact, fact_i, tables, no, RattleType, owns, types_at, plain, RawPtr, Ptr, block_ptr, null_ptr, ptr_val, in_a_block, nothing, only, heard, param, layout, bounded, param_laws, triple_of, Stays, stay_dropped, walk_of, Goes-blank, handle_tells, fm, box_owns, box_out, box_in, proved_at, leaves}
+use Rattle.{gaxtrel.{proofs.{Machine.{◌≡◌, List, [], ◌∷◌, ◌++◌, refl, sym, ap, ◌∙◌, subst, a_type, dcons, dnil, bare, Val, vptr, vstruct, of_list, inst_fn, SProp, ent, emp, never, id⊢, fst∗, ftrue, fsep, flft, WpFn, sem, agg, sub, whole, fact, fact_i, tables, no, RattleType, owns, types_at, plain, RawPtr, Ptr, block_ptr, null_ptr, ptr_val, in_a_block, nothing, only, heard, param, layout, bounded, param_laws, triple_of, Stays, stay_dropped, walk_of, Goes-blank, handle_tells, fm, box_owns, box_out, box_in, proved_at, leaves}, Values.{both, loose_good, loose_in}, loose.Loose.of.Statement.statement}, specs.contracts.loose.Loose.of.{ended, clauses}}, std_alloc.proofs.boxed.Box.into_raw_with_allocator.Met.met}
 use types.Kit.{‵, raw, ◌⊛◌, some, later, ◌$◌, ◌∵◌, !, qed, by, move, keep, drop, split, split3, join, fsplit, fjoin, fpick, pick, suffices, use0, use1, await, rewrite, feq_l}
 use types.Run.{stop, fld, of_opd, no_more, and_then, returns, enter}
 use types.ByLocal.{alloc_all, pass_all, free_all, look_at, get, get_in, sets, lands_as}
 use denote.Struct.Tuple.{Tuple}
 use denote.Triple.Call.{calls_at}
 use Rattle.std_alloc.proofs.BoxSteps.Form as box
-use Rattle.gaxtrel.proofs.Values.{both, loose_good, loose_in}
 use Rattle.std_alloc.specs.contracts.boxed.Box.into_raw_with_allocator as callee
-use Rattle.std_alloc.proofs.boxed.Box.into_raw_with_allocator.Met.{met}
-use Rattle.gaxtrel.specs.contracts.loose.Loose.of.{ended, clauses}
 use Rattle.gaxtrel.specs.contracts.loose.Loose.of.Key.{name as #self}
-use Rattle.gaxtrel.proofs.loose.Loose.of.Statement.{statement}
 use Rattle.gaxtrel.proofs.loose.Loose.of.Code as code
 
 pub of_spec : {M : Type 1} → statement M

@@ -1,5 +1,4 @@
-use Rattle.gaxtrel.proofs.Prelude.{eq-eqb, eqb-true, terms_of}
-use Rattle.gaxtrel.proofs.KeptLemmas.{all_may}
+use Rattle.gaxtrel.proofs.{Prelude.{eq-eqb, eqb-true, terms_of}, KeptLemmas.all_may}
 use Rattle.gaxtrel.proofs.patterns.Patterns.allows.Goals as goal
 
 pub returns : goal.returns

@@ -1,5 +1,4 @@
-use Rattle.gaxtrel.proofs.Prelude.{◌≡◌, ◌∙◌, ◌*◌, ◌+◌, ◌<◌, ◌≤◌, inl, inr, length, min, ap, arith, refl, rules, subst, sym, length-map, expressions_of, Allows, Kept, terms_of}
-use Rattle.gaxtrel.proofs.KeptLemmas.{past_limit, some_of, within_limit}
+use Rattle.gaxtrel.proofs.{Prelude.{◌≡◌, ◌∙◌, ◌*◌, ◌+◌, ◌<◌, ◌≤◌, inl, inr, length, min, ap, arith, refl, rules, subst, sym, length-map, expressions_of, Allows, Kept, terms_of}, KeptLemmas.{past_limit, some_of, within_limit}}
 use Rattle.gaxtrel.proofs.patterns.Patterns.most_of.Goals as goal
 
 pub returns-then-self-eq0-clause-within : goal.returns-then-self-eq0-clause-within

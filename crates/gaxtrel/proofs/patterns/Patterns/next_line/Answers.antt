@@ -1,6 +1,4 @@
-use Rattle.gaxtrel.proofs.Prelude.{◌∙◌, None, Some, ap, arith, sought_of, take_rest, sought_in}
-use Rattle.gaxtrel.proofs.KeptLemmas.{still_right}
-use Rattle.gaxtrel.proofs.TextLemmas.{none_past, line_found}
+use Rattle.gaxtrel.proofs.{Prelude.{◌∙◌, None, Some, ap, arith, sought_of, take_rest, sought_in}, KeptLemmas.still_right, TextLemmas.{none_past, line_found}}
 use Rattle.gaxtrel.proofs.patterns.Patterns.next_line.Goals as goal
 
 pub invariant_of-self : goal.invariant_of-self

@@ -1,5 +1,4 @@
-use Rattle.gaxtrel.proofs.Prelude.{refl, expressions_of}
-use Rattle.gaxtrel.proofs.ServedLemmas.{serves_itself}
+use Rattle.gaxtrel.proofs.{Prelude.{refl, expressions_of}, ServedLemmas.serves_itself}
 use Rattle.gaxtrel.proofs.patterns.Patterns.of_each.Goals as goal
 
 pub invariant_of-result : goal.invariant_of-result

@@ -1,6 +1,4 @@
-use Rattle.gaxtrel.proofs.Prelude.{[], ◌∷◌, refl, All-cons, All-nil, IsReadable, matched_expression}
-use Rattle.grep_core.proofs.lemmas.MatcherLemmas.{refused_or_memory}
-use Rattle.gaxtrel.proofs.ServedLemmas.{serves_itself}
+use Rattle.{gaxtrel.proofs.{Prelude.{[], ◌∷◌, refl, All-cons, All-nil, IsReadable, matched_expression}, ServedLemmas.serves_itself}, grep_core.proofs.lemmas.MatcherLemmas.refused_or_memory}
 use Rattle.gaxtrel.proofs.patterns.Patterns.of_text.Goals as goal
 
 pub returns-clause-made : goal.returns-clause-made

@@ -1,6 +1,4 @@
-use Rattle.gaxtrel.proofs.Prelude.{◌≡◌, ◌+◌, ◌-◌, inl, inr, ap, arith, length, refl}
-use Rattle.gaxtrel.proofs.KeptLemmas.{less_of}
-use Rattle.gaxtrel.proofs.TextLemmas.{whole_lines}
+use Rattle.gaxtrel.proofs.{Prelude.{◌≡◌, ◌+◌, ◌-◌, inl, inr, ap, arith, length, refl}, KeptLemmas.less_of, TextLemmas.whole_lines}
 use Rattle.gaxtrel.proofs.patterns.Patterns.reach.Goals as goal
 
 pub returns-then-from-text-clause-reached : goal.returns-then-from-text-clause-reached

@@ -1,5 +1,4 @@
-use Rattle.re_search.proofs.Prelude.{◌≡◌, ◌++◌, [], ◌∷◌, map, ap, ◌∙◌, arith, map-append, alt, expression_of, positions, pattern_expression}
-use Rattle.re_search.proofs.lemmas.ReadingLaws.{choice_positions, meant_positions}
+use Rattle.re_search.proofs.{Prelude.{◌≡◌, ◌++◌, [], ◌∷◌, map, ap, ◌∙◌, arith, map-append, alt, expression_of, positions, pattern_expression}, lemmas.ReadingLaws.{choice_positions, meant_positions}}
 use Rattle.re_search.proofs.choice.Choice.add.Goals as goal
 
 pub overflow_add-self : goal.overflow_add-self

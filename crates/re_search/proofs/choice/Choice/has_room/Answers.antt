@@ -1,5 +1,4 @@
-use Rattle.re_search.proofs.Prelude.{map, ap, arith, alt, expression_of, positions}
-use Rattle.std.proofs.lemmas.Bool.{leb-true, le-leb}
+use Rattle.{re_search.proofs.Prelude.{map, ap, arith, alt, expression_of, positions}, std.proofs.lemmas.Bool.{leb-true, le-leb}}
 use Rattle.re_search.proofs.choice.Choice.has_room.Goals as goal
 
 pub returns : goal.returns

@@ -1,5 +1,4 @@
-use Rattle.re_search.proofs.Prelude.{◌∙◌, ◌+◌, ◌-◌, ◌<◌, ◌↔◌, false, [], ◌∷◌, ap, subst, sym, FoundPast, LineEnds, with_items_is, length, slice_index, matched_expression}
-use Rattle.re_search.proofs.lemmas.LinePartsLaws.{zeros_added}
+use Rattle.re_search.proofs.{Prelude.{◌∙◌, ◌+◌, ◌-◌, ◌<◌, ◌↔◌, false, [], ◌∷◌, ap, subst, sym, FoundPast, LineEnds, with_items_is, length, slice_index, matched_expression}, lemmas.LinePartsLaws.zeros_added}
 use Rattle.re_search.proofs.line_parts.LineParts.look_at.Goals as goal
 
 pub returns-clause-right : goal.returns-clause-right

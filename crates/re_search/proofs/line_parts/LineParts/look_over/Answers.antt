@@ -1,5 +1,4 @@
-use Rattle.re_search.proofs.Prelude.{◌≡◌, ◌∙◌, false, inr, arith, ap, subst, sym, AreAllEnds, sought_of, LineEnds, Window, with_items_is, length}
-use Rattle.re_search.proofs.lemmas.LinePartsLaws.{all_known}
+use Rattle.re_search.proofs.{Prelude.{◌≡◌, ◌∙◌, false, inr, arith, ap, subst, sym, AreAllEnds, sought_of, LineEnds, Window, with_items_is, length}, lemmas.LinePartsLaws.all_known}
 use Rattle.re_search.proofs.line_parts.LineParts.look_over.Goals as goal
 
 pub returns-clause-right : goal.returns-clause-right

@@ -1,5 +1,4 @@
-use Rattle.re_search.proofs.Prelude.{inl, inr, err_from_is_err_and}
-use Rattle.re_search.proofs.lemmas.ReadingLaws.{read_meant, refused_unreadable}
+use Rattle.re_search.proofs.{Prelude.{inl, inr, err_from_is_err_and}, lemmas.ReadingLaws.{read_meant, refused_unreadable}}
 use Rattle.re_search.proofs.matcher.Matcher.new.Goals as goal
 
 pub returns-in-Ok-clause-meant : goal.returns-in-Ok-clause-meant

@@ -1,6 +1,4 @@
-use Rattle.re_search.proofs.Prelude.{◌≡◌, ◌∙◌, ap, arith, positions, expression_of, pattern_expression}
-use Rattle.re_search.proofs.lemmas.ReadingLaws.{meant_positions, positions_string}
-use Rattle.re_search.proofs.pattern.Pattern.into_matcher.Goals.{in_default-via-in-String+else-not-fold, in_default-via-in_default}
+use Rattle.re_search.proofs.{Prelude.{◌≡◌, ◌∙◌, ap, arith, positions, expression_of, pattern_expression}, lemmas.ReadingLaws.{meant_positions, positions_string}, pattern.Pattern.into_matcher.Goals.{in_default-via-in-String+else-not-fold, in_default-via-in_default}}
 use Rattle.re_search.proofs.pattern.Pattern.into_matcher.Goals as goal
 
 pub tree_matcher-requires-clause-small : goal.tree_matcher-requires-clause-small

@@ -1,5 +1,4 @@
-use Rattle.re_search.proofs.Prelude.{sym, ap, ◌∙◌, meaning}
-use Rattle.re_syntax.proofs.lemmas.FixedTokens.{fixed_spelled}
+use Rattle.{re_search.proofs.Prelude.{sym, ap, ◌∙◌, meaning}, re_syntax.proofs.lemmas.FixedTokens.fixed_spelled}
 use Rattle.re_search.proofs.pattern.Pattern.into_tree.Goals as goal
 
 pub returns-in-Ok : goal.returns-in-Ok

@@ -1,5 +1,4 @@
-use Rattle.re_search.proofs.Prelude.{sym}
-use Rattle.re_search.proofs.lemmas.ReadingLaws.{positions_string}
+use Rattle.re_search.proofs.{Prelude.sym, lemmas.ReadingLaws.positions_string}
 use Rattle.re_search.proofs.pattern.Pattern.positions.Goals as goal
 
 pub returns-in-String : goal.returns-in-String
