@@ -230,7 +230,7 @@ uint32_t gaxtrel_count_lines(gaxtrel_matcher *matcher, const uint8_t *text, size
 uint32_t gaxtrel_session_open(gaxtrel_session *session, size_t states);
 
 /* Answers commands one after the other, each with the lines that it counts, and keeps the replies
-   until the next call of this function: how many bytes they have goes to `count`. The commands go
+   until the next call that answers some: how many bytes they have goes to `count`. The commands go
    on from the session as the last call left it, and end with the text, whose last line may lack its
    newline. Of them `work` has no more than their edits cost (occur(1), COST). GAXTREL_OK: none is
    refused. GAXTREL_REFUSED: some are, as the replies say. GAXTREL_NO_MEMORY: the first commands were
@@ -239,6 +239,14 @@ uint32_t gaxtrel_session_open(gaxtrel_session *session, size_t states);
    written. */
 uint32_t gaxtrel_session_answer(gaxtrel_session *session, const uint8_t *commands, size_t length,
                                 size_t *count);
+
+/* Answers one command with the lines that it counts, of which the last may lack its newline, as
+   gaxtrel_session_answer answers the command, a newline and the lines: so no line is taken for a
+   command. GAXTREL_MISUSED: `command` has a newline, or counts more or fewer lines, and nothing is
+   done or written. GAXTREL_NO_MEMORY: as above, or before that is known, and then nothing is done or
+   written; `count` is as before. */
+uint32_t gaxtrel_session_edit(gaxtrel_session *session, const uint8_t *command, size_t command_length,
+                              const uint8_t *lines, size_t lines_length, size_t *count);
 
 /* Copies the replies from a place on to `into`, as many bytes as it has room for. How many bytes all
    replies have goes to `count`. GAXTREL_OK, or GAXTREL_NO_SESSION as above. */
@@ -263,6 +271,8 @@ GAXTREL_PLACE(gaxtrel_private_lines, gaxtrel_line)
 #undef GAXTREL_PLACE
 
 #define GAXTREL_TEXT(call, held, text, ...) call(held, gaxtrel_private_text(text), __VA_ARGS__)
+#define GAXTREL_TEXTS(call, held, text, length, lines, ...)                                              \
+    call(held, gaxtrel_private_text(text), length, gaxtrel_private_text(lines), __VA_ARGS__)
 #define GAXTREL_INTO(call, held, from, into, ...) call(held, from, gaxtrel_private_into(into), __VA_ARGS__)
 #define GAXTREL_PARTS(call, held, line, length, from, parts, ...)                                        \
     call(held, gaxtrel_private_text(line), length, from, gaxtrel_private_parts(parts), __VA_ARGS__)
@@ -282,6 +292,7 @@ GAXTREL_PLACE(gaxtrel_private_lines, gaxtrel_line)
 #define gaxtrel_lines(...) GAXTREL_LINES(gaxtrel_lines, __VA_ARGS__)
 #define gaxtrel_count_lines(...) GAXTREL_TEXT(gaxtrel_count_lines, __VA_ARGS__)
 #define gaxtrel_session_answer(...) GAXTREL_TEXT(gaxtrel_session_answer, __VA_ARGS__)
+#define gaxtrel_session_edit(...) GAXTREL_TEXTS(gaxtrel_session_edit, __VA_ARGS__)
 #define gaxtrel_session_replies(...) GAXTREL_INTO(gaxtrel_session_replies, __VA_ARGS__)
 
 #ifdef __cplusplus

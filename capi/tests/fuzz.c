@@ -259,6 +259,7 @@ static void misuse(gaxtrel_matcher *m, gaxtrel_session *s) {
     LAW(CALL(gaxtrel_count_lines(m, TEXT, &lines)) == GAXTREL_MISUSED && lines == 77);
     LAW(CALL(gaxtrel_session_open(s, below(2) ? 0 : 65537 + below(9))) == GAXTREL_NO_STATES);
     LAW(CALL(gaxtrel_session_answer(s, TEXT, &count)) == GAXTREL_NO_SESSION);
+    LAW(CALL(gaxtrel_session_edit(s, TEXT, text, 0, &count)) == GAXTREL_NO_SESSION);
     LAW(CALL(gaxtrel_session_replies(s, 0, text, length, &count)) == GAXTREL_NO_SESSION && count == 77);
 }
 
@@ -283,10 +284,22 @@ static void add_command(void) {
     written = (size_t)(at - (char *)commands);
 }
 
+/* Some commands are answered; where they are one with just its lines, often by the call for that. */
+static uint32_t send(gaxtrel_session *s, const uint8_t *bytes, size_t count, size_t *all) {
+    const uint8_t *end = memchr(bytes, '\n', count);
+    if (end && below(2)) {
+        size_t first = end - bytes, rest = count - first - 1;
+        uint32_t status =
+            CALL(gaxtrel_session_edit(s, copied(ends[0], bytes, first), first, copied(ends[1], end + 1, rest), rest, all));
+        if (status != GAXTREL_MISUSED) return status;
+    }
+    return CALL(gaxtrel_session_answer(s, copied(ends[1], bytes, count), count, all));
+}
+
 /* The replies to some commands, as a text of C: how many bytes they have. */
 static size_t answer(gaxtrel_session *s, const uint8_t *bytes, size_t count, char *replies) {
     size_t all = 77, other = 77, spare = below(3);
-    uint32_t status = CALL(gaxtrel_session_answer(s, copied(ends[1], bytes, count), count, &all));
+    uint32_t status = send(s, bytes, count, &all);
     size_t cut = below(all + 1), left = all - cut;
     uint8_t *into = ends[2] - left - spare;
     memset(into - 1, 77, left + spare + 1);

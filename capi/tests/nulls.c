@@ -16,6 +16,7 @@ NO_NULL(gaxtrel_parts);
 NO_NULL(gaxtrel_next_line);
 NO_NULL(gaxtrel_count_lines);
 NO_NULL(gaxtrel_session_answer);
+NO_NULL(gaxtrel_session_edit);
 NO_NULL(gaxtrel_session_replies);
 
 static int wrong_match(gaxtrel_matcher *m, uint32_t wanted) {
@@ -46,7 +47,8 @@ static int wrong(void) {
     gaxtrel_free(&m);
     if (gaxtrel_session_open(&s, 1) != GAXTREL_OK) return 13;
     if (gaxtrel_session_answer(&s, NULL, 0, &count) != GAXTREL_OK || count != 0) return 14;
-    if (gaxtrel_session_replies(&s, 0, NULL, 0, &count) != GAXTREL_OK || count != 0) return 15;
+    if (gaxtrel_session_edit(&s, NULL, 0, NULL, 0, &count) != GAXTREL_REFUSED || count != 19) return 17;
+    if (gaxtrel_session_replies(&s, 0, NULL, 0, &count) != GAXTREL_OK || count != 19) return 15;
     gaxtrel_session_free(&s);
     return 0;
 }

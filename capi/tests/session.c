@@ -61,11 +61,47 @@ static int answered(gaxtrel_session *s, bool *refused) {
     return 0;
 }
 
+/* One command with its lines: the number of the first check that fails. */
+static const struct {
+    const char *command, *lines;
+    uint32_t status;
+    const char *replies;
+} edits[] = {
+    {"file f 2", "show\nab", GAXTREL_OK, "ok\n"},
+    {"file f 2", "show\nab\nshow", GAXTREL_MISUSED, "ok\n"},
+    {"file f 2", "show\n", GAXTREL_MISUSED, "ok\n"},
+    {"splice 0 0 1 1\n", "a", GAXTREL_MISUSED, "ok\n"},
+    {"splice 0 0 1 1", "\n", GAXTREL_OK, "ok\n"},
+    {"close 1", "", GAXTREL_REFUSED, "refused NoSuchFile\n"},
+    {"close 1", "a", GAXTREL_MISUSED, "refused NoSuchFile\n"},
+    {"patterns 1", "b", GAXTREL_OK, "ok\n"},
+    {"page 0 2", "", GAXTREL_OK, "hits 1\np 0 1 - ab\nstatus 0\n"},
+};
+
+static int edited(void) {
+    gaxtrel_session s = GAXTREL_NONE;
+    size_t count = 0;
+    int wrong = gaxtrel_session_open(&s, 16) == GAXTREL_OK ? 0 : 40;
+    for (size_t k = 0; !wrong && k < sizeof edits / sizeof *edits; k++) {
+        uint32_t status = gaxtrel_session_edit(&s, (const uint8_t *)edits[k].command, strlen(edits[k].command),
+                                               (const uint8_t *)edits[k].lines, strlen(edits[k].lines), &count);
+        if (status != edits[k].status) wrong = 41;
+        else if (replies(&s, count) != (long)count || strcmp(got, edits[k].replies)) wrong = 42;
+    }
+    left = 0;
+    if (!wrong && gaxtrel_session_edit(&s, (const uint8_t *)"missing m", 9, NULL, 0, &count) != GAXTREL_NO_MEMORY) wrong = 43;
+    left = -1;
+    if (!wrong && replies(&s, count) != (long)count) wrong = 44;
+    gaxtrel_session_free(&s);
+    return wrong;
+}
+
 static int misused(void) {
     gaxtrel_session s = GAXTREL_NONE;
     size_t count = 5;
     uint8_t into[2] = {7, 7};
     if (gaxtrel_session_answer(&s, (const uint8_t *)"show\n", 5, &count) != GAXTREL_NO_SESSION || count != 5) return 10;
+    if (gaxtrel_session_edit(&s, into, 2, into, 0, &count) != GAXTREL_NO_SESSION || count != 5) return 23;
     if (gaxtrel_session_replies(&s, 0, into, 2, &count) != GAXTREL_NO_SESSION || count != 5 || into[0] != 7) return 11;
     if (gaxtrel_session_open(&s, 0) != GAXTREL_NO_STATES || gaxtrel_session_open(&s, 65537) != GAXTREL_NO_STATES) return 12;
     if (gaxtrel_session_answer(&s, (const uint8_t *)"show\n", 5, &count) != GAXTREL_NO_SESSION) return 13;
@@ -84,6 +120,7 @@ static int misused(void) {
 
 int main(void) {
     int wrong = misused();
+    if (!wrong) wrong = edited();
     long runs = 0, refusals = 0;
     for (long n = -1; !wrong; n++) {
         gaxtrel_session s = GAXTREL_NONE;

@@ -13,7 +13,7 @@ put_few b [] = omega arith
 put_few b (t ∷ ts) = omega arith
 
 -- a text has no more lines than bytes
-few_lines : (t : Text) → length (lines_of t) ≤ length t
+pub few_lines : (t : Text) → length (lines_of t) ≤ length t
 unfolding lines_of
 few_lines [] = omega arith
 few_lines (b ∷ t) =

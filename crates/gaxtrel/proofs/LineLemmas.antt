@@ -111,7 +111,7 @@ module _ (sought : Sought) (text : Text) (from number : ℕ) where
         let (frees, front, behind) = divided x.before x.line x.after (drop at text) x.divided in
         let passes : lines ≡ length x.before = counted x.before frees (ap (λ w. take w (drop at text)) x.starts ∙ front) in
         let m = number + s.before + lines in
-        let is : k ≡ min m (2 ^ 64 - 1) = omega (arith, is_here, s.numbered) in
+        let is : k ≡ min m (2 ^ 64 - 1) = omega (arith, s.numbered) in
         let past : next.end + 1 ≡ length (terminated x.before) + (length x.line + 1) = omega (arith, x.starts, x.ends) in
         let left : lines_of (drop (at + (next.end + 1)) text) ≡ x.after = ap lines_of (sym (drop-drop (next.end + 1) at text) ∙ ap (λ w. drop w (drop at text)) past) ∙ behind in
         let end : at + (next.end + 1) ≡ at + next.end + 1 = omega arith in
@@ -119,13 +119,13 @@ module _ (sought : Sought) (text : Text) (from number : ℕ) where
         let written : now ≡ set mid count (line_at (at + next.start) (at + next.end) m) = put ∙ ap (λ w. set mid count (record { start = at + next.start; end = at + next.end; number = w })) is in
         record {
           before = s.before + lines + 1;
-          numbered = omega (arith, is_after, is);
+          numbered = omega arith;
           found = one_put s.found (λ more are. subst (λ l. AreLines sought l at (number + s.before) (line_at (at + next.start) (at + next.end) m ∷ more)) (sym x.divided)
               (then_line sought x.before x.line x.after at (number + s.before) (at + next.start) (at + next.end) m more x.passed x.holds (omega (arith, x.starts)) (omega (arith, x.ends)) (omega (arith, passes))
               (subst (λ (p : List Text × ℕ × ℕ). AreLines sought p.0 p.1 p.2 more) (λ i. (left i, end i, one i)) are))) written;
           low = omega (arith, s.low);
-          near = omega (arith, here, within, length-drop at text);
-          fits = omega (arith, below, ap length written, length-set mid count (line_at (at + next.start) (at + next.end) m));
+          near = omega (arith, length-drop at text);
+          fits = omega (arith, ap length written, length-set mid count (line_at (at + next.start) (at + next.end) m));
           after = end ∙ sym (ap (λ l. after_lines from (take (count + 1) l)) written ∙ ap (after_lines from) (take_more_set mid count _ below) ∙ after_more from (take count mid) _);
         }
 

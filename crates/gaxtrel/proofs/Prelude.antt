@@ -11,9 +11,6 @@ pub use Rattle.{
   re_search.specs.Working.Sought.{CountsSought, FindsSought, IsSought, Sought, sought_of},
   re_syntax.specs.Bytes.{Text},
   re_syntax.specs.Lines.{HasNoNewline, ended_lines_of, newline, put_before, terminated},
-}
-unfoldable pub use Rattle.re_syntax.specs.Lines.{lines_of}
-pub use Rattle.{
   re_trees.specs.declared.span.Span.{Span},
   std.proofs.Common.{All, Bool, Err, Global, IfErr, IfOk, IsTrue, List, MatchBool, None, Ok, Option, Result, Some, Vec, [], add-one, ap, append-nil, append_assoc, arith, drop, false, get_or, if◌then◌else◌, inl, inr, length, length-append, map, min, mul-le-mul_left, nat_eq, refl, rules, set, subst, suc, sym, take, true, zero, ℕ, ◌*◌, ◌++◌, ◌+◌, ◌-◌, ◌/◌, ◌<◌, ◌^◌, ◌↔◌, ◌∙◌, ◌∷◌, ◌≡◌, ◌≤◌, ◌⊎◌},
   std.proofs.Math.Seq.{drop-append-add, drop-cons, take-append-add, take-append_seam},
@@ -22,3 +19,4 @@ pub use Rattle.{
   std.proofs.lemmas.List.Elements.{All-append, All-cons, All-head, All-nil, All-push, All-tail},
   std.specs.Bool.{⊤},
 }
+unfoldable pub use Rattle.re_syntax.specs.Lines.{lines_of}

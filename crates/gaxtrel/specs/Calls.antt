@@ -1,16 +1,16 @@
 -- What the calls of the library take and answer.
-use Rattle.std.specs.Prelude.{map, Some, ◌≤◌, ◌↔◌, min, None, ◌^◌, length, ◌∷◌, List, ◌+◌, [], ◌⊎◌}
-use Rattle.std.specs.Prelude.{◌≡◌, ◌-◌, ◌*◌, ℕ, take, Bool, ◌<◌, drop, Option}
-use Rattle.re_syntax.specs.{Bytes.Text, Lines.{ended_lines_of, lines_of, terminated}}
-use Rattle.re_syntax.specs.{Parts.ArePartsFrom, declared.syntax.Syntax.Syntax}
-use Rattle.re_syntax.specs.{declared.fault.FaultKind.FaultKind, Expression.Expression}
-use Rattle.{re_syntax.specs.Holds.Matches, re_trees.specs.declared.span.Span.Span}
-use Rattle.re_meter.specs.Meters.{fresh, AddsAtMost, Steps}
-use Rattle.re_search.specs.Working.Sought.{FindsSought, IsSought, Sought}
-use Rattle.gaxtrel.specs.declared.held.Held.{Held, TheVariants.{Session, Patterns}}
-use Rattle.gaxtrel.specs.declared.{part.GaxtrelPart.GaxtrelPart, text_lines.GaxtrelLine.GaxtrelLine}
-use Rattle.gaxtrel.specs.{declared.work.GaxtrelWork.GaxtrelWork, Kept.{Allows, Kept, Serves, Terms}}
-use Rattle.gaxtrel.specs.{Kept.{sought_in, terms_of}, Live.LiveKept}
+use Rattle.std.specs.Prelude.{◌≡◌, ℕ, ◌+◌, ◌-◌, ◌*◌, ◌^◌, ◌<◌, ◌≤◌, ◌↔◌, ◌⊎◌, Bool, List, [], ◌∷◌}
+use Rattle.std.specs.Prelude.{Option, Some, None, drop, length, map, min, take}
+use Rattle.re_syntax.specs.{Holds.Matches, Bytes.Text, Parts.ArePartsFrom, Expression.Expression}
+use Rattle.re_syntax.specs.declared.{syntax.Syntax.Syntax, fault.FaultKind.FaultKind}
+use Rattle.re_syntax.specs.Lines.{ended_lines_of, lines_of, terminated}
+use Rattle.{re_trees.specs.declared.span.Span.Span, re_meter.specs.Meters.{fresh, AddsAtMost}}
+use Rattle.{re_meter.specs.Meters.Steps, re_search.specs.Working.Sought.{IsSought, FindsSought}}
+use Rattle.re_search.specs.Working.Sought.{Sought}
+use Rattle.gaxtrel.specs.declared.{part.GaxtrelPart.GaxtrelPart, work.GaxtrelWork.GaxtrelWork}
+use Rattle.gaxtrel.specs.declared.held.Held.{Held, TheVariants.{Patterns, Session}}
+use Rattle.gaxtrel.specs.{declared.text_lines.GaxtrelLine.GaxtrelLine, Live.{AnswersText, LiveKept}}
+use Rattle.gaxtrel.specs.Kept.{Allows, Kept, Serves, Terms, sought_in, terms_of}
 use Rattle.re_syntax.specs.declared.syntax.Syntax.TheVariants as s
 use Rattle.re_syntax.specs.declared.fault.FaultKind.TheVariants as f
 
@@ -77,8 +77,7 @@ Puts {A} Are old new count =
 
 -- the work of one call, as a meter counts it
 abbrev pub steps_of : GaxtrelWork → Steps
-steps_of work =
-    record { built = work.built; reused = work.reused; passed = work.passed }
+steps_of work = record { built = work.built; reused = work.reused; passed = work.passed }
 
 -- nothing is held, and no work is shown
 abbrev pub IsEmpty : Option Held → GaxtrelWork → Type 0
@@ -99,6 +98,15 @@ module _ (old new : Option Held) (work : GaxtrelWork) (answer : ℕ) where
   -- what the call is for is not held: 3, with what is held as it was, and no work
   abbrev pub IsMisused : Type 0
   IsMisused = (answer ≡ 3) × (new ≡ old) × (steps_of work ≡ fresh)
+
+  -- without a session the call is misused; else the commands of a text are answered, and their
+  -- replies counted
+  abbrev pub AnswersCommands : Text → ℕ → ℕ → Type 0
+  AnswersCommands commands was count =
+      (session_in old ≡ None → IsMisused × (count ≡ was))
+      × ((before : LiveKept) → session_in old ≡ Some before → (after : LiveKept)
+      × (session_in new ≡ Some after) × (count ≡ length after.replies)
+      × AnswersText before.state commands fresh after (steps_of work) answer)
 
   -- without patterns the call is misused; else they are held still, and this holds of them
   abbrev pub Asks : (Terms → Sought → Type 0) → Type 0
@@ -137,8 +145,7 @@ Says answer count = (answer < 2) × ((answer ≡ 1) ↔ (1 ≤ count))
 
 -- the same of what was searched of so many bytes: 5 if that isn't all
 abbrev pub SaysOf : ℕ → ℕ → ℕ → ℕ → Type 0
-SaysOf answer count end bytes =
-    ((end < bytes) × (answer ≡ 5)) ⊎ ((bytes ≤ end) × Says answer count)
+SaysOf answer count end bytes = ((end < bytes) × (answer ≡ 5)) ⊎ ((bytes ≤ end) × Says answer count)
 
 -- 1 and the place that was found, or 0
 abbrev pub Tells : ℕ → GaxtrelPart → Option Span → Type 0

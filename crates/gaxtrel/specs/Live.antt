@@ -1,7 +1,8 @@
 -- What C keeps of a session, and how a text of commands is answered.
-use Rattle.std.specs.Prelude.{◌≡◌, ℕ, ◌++◌, ◌⊎◌, List, [], drop, length, take}
-use Rattle.{re_syntax.specs.{Bytes.Text, Lines.lines_of}, re_meter.specs.Meters.Steps}
-use Rattle.grep_core.specs.{Files.{File, whole}, Output.written}
+use Rattle.std.specs.Prelude.{◌≡◌, ℕ, ◌++◌, ◌⊎◌, List, [], Option, Some, drop, length, take}
+use Rattle.re_syntax.specs.{Bytes.Text, Lines.{HasNoNewline, lines_of}}
+use Rattle.{re_meter.specs.Meters.Steps, grep_core.specs.{Files.{File, whole}, Output.written}}
+use Rattle.script_commands.specs.Commands.{Command, counts, line_command}
 use Rattle.grep_cmd.specs.declared.script.ScriptEnd.{TheVariants.{Clean, Refused}, ScriptEnd}
 use Rattle.grep_cmd.specs.Replies.{AnswersScript, HasAllButLast, IsUpToReport, ScriptState, end_for}
 
@@ -47,3 +48,17 @@ module _ (before : ScriptState) (text : Text) (begun : Steps) (after : LiveKept)
     -- the commands of a text were answered so
     abbrev pub AnswersText : ℕ → Type 0
     AnswersText answer = AnswersAll answer ⊎ ((answer ≡ 2) × AnswersFirst)
+
+-- how many lines a command counts
+abbrev pub count_of : Option Command → ℕ
+count_of (Some (counts count edit)) = count
+count_of _ = 0
+
+-- a command without a newline, and as many lines as it counts
+abbrev pub IsOneCommand : Text → Text → Type 0
+IsOneCommand command lines =
+    HasNoNewline command × (length (lines_of lines) ≡ count_of (line_command command))
+
+-- the answer where nothing is done: 3 if they are none, 2 if memory is refused before that is known
+abbrev pub IsNoEdit : Text → Text → ℕ → Type 0
+IsNoEdit command lines answer = (answer ≡ 2) ⊎ ((answer ≡ 3) × (IsOneCommand command lines → ⊥))

@@ -25,8 +25,7 @@ options_for syntax fold whole lines apart = record {
 
 -- the options have their size, this syntax, and no more patterns than are allowed
 abbrev pub AreKnown : GaxtrelOptions → Syntax → Type 0
-AreKnown o syntax =
-    (o.size ≡ 32) × (o.patterns ≤ most_patterns) × (o.syntax ≡ syntax_number syntax)
+AreKnown o syntax = (o.size ≡ 32) × (o.patterns ≤ most_patterns) × (o.syntax ≡ syntax_number syntax)
 
 -- the patterns that a text is: its lines, or one
 abbrev pub texts_for : GaxtrelOptions → Text → List Text

@@ -5,6 +5,7 @@
 mod array;
 mod compile;
 mod each;
+mod edit;
 mod handle;
 mod held;
 mod holder;

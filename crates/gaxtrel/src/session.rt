@@ -1,13 +1,16 @@
 //! The calls for a live session.
-ghost use Rattle.std.specs.Prelude.{◌≡◌, ◌≤◌, ◌↔◌, Some, None, [], drop, length};
-ghost use Rattle.{re_syntax.specs.Profile.most_states, re_meter.specs.Meters.fresh};
-ghost use Rattle.{grep_cmd.specs.Replies.new_state, gaxtrel.specs.Live.{LiveKept, AnswersText}};
-ghost use Rattle.gaxtrel.specs.{Live.text_over, Calls.{IsEmpty, IsMisused, session_in, steps_of}};
+ghost use Rattle.std.specs.Prelude.{◌≡◌, ◌≤◌, ◌↔◌, ◌⊎◌, ◌++◌, ◌∷◌, Some, None, [], drop, length};
+ghost use Rattle.re_syntax.specs.{Lines.newline, Profile.most_states};
+ghost use Rattle.{re_meter.specs.Meters.fresh, grep_cmd.specs.Replies.new_state};
+ghost use Rattle.gaxtrel.specs.Live.{IsNoEdit, IsOneCommand, LiveKept, text_over};
+ghost use Rattle.gaxtrel.specs.Calls.{AnswersCommands, IsEmpty, IsMisused, session_in, steps_of};
 
+use crate::edit::script_of;
 use crate::held::Held;
 use crate::holder::GaxtrelHolder;
 use crate::live::Live;
 use crate::numbers::MISUSED;
+use crate::work::no_work;
 use re_auto::fresh_meter;
 use std::alloc::Global;
 
@@ -57,13 +60,8 @@ pub extern "C" fn gaxtrel_session_answer(
     commands: &[u8],
     count: &mut usize,
 ) -> u32
-    ensures answered { (before : LiveKept) → session_in session.old.handle.held ≡ Some before →
-        (after : LiveKept) × (session_in session.new.handle.held ≡ Some after)
-        × AnswersText before.state commands.now fresh after (steps_of session.new.work) result
-        × (count.new ≡ length after.replies) }
-    ensures none { session_in session.old.handle.held ≡ None → IsMisused
-        session.old.handle.held session.new.handle.held session.new.work result
-        × (count.new ≡ count.old) }
+    ensures { AnswersCommands session.old.handle.held session.new.handle.held session.new.work
+        result commands.now count.old count.new }
 {
     let Some(mut boxed) = session.take(alloc) else {
         return 3;
@@ -76,6 +74,35 @@ pub extern "C" fn gaxtrel_session_answer(
     *count = live.count();
     *session = GaxtrelHolder::of(boxed, &meter);
     ended
+}
+
+/// Answers a command with the lines that it counts, as `gaxtrel_session_answer` answers it, a
+/// newline and the lines: so no line is taken for a command. Answers 3, and does nothing, if the
+/// command has a newline, or counts more or fewer lines; 2, and does nothing, if memory is refused
+/// before that is known.
+#[unsafe(no_mangle)]
+pub extern "C" fn gaxtrel_session_edit(
+    alloc: Global,
+    session: &mut GaxtrelHolder,
+    command: &[u8],
+    lines: &[u8],
+    count: &mut usize,
+) -> u32
+    ensures { (IsOneCommand command.now lines.now
+        × AnswersCommands session.old.handle.held session.new.handle.held session.new.work result
+        (command.now ++ newline ∷ lines.now) count.old count.new)
+        ⊎ (IsNoEdit command.now lines.now result
+        × (session.new.handle.held ≡ session.old.handle.held)
+        × (steps_of session.new.work ≡ fresh) × (count.new ≡ count.old)) }
+{
+    let script = match script_of(alloc, command, lines) {
+        Ok(script) => script,
+        Err(answer) => {
+            session.work = no_work();
+            return answer;
+        }
+    };
+    gaxtrel_session_answer(alloc, session, &script, count)
 }
 
 /// The replies to the last commands: how many bytes they have goes to `count`, and those from a

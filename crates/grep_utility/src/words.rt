@@ -2,8 +2,8 @@
 ghost use Rattle.std.specs.Prelude.{◌≡◌, [], ◌∷◌, ◌++◌, IfOk, MatchResult};
 ghost use Rattle.grep_utility.specs.Working.Tokens.{token_of, OrMemory, AreRead, drafted, asked};
 ghost use Rattle.grep_utility.specs.Words.{completed, context_of, may_follow, no_numbers};
-ghost use Rattle.grep_utility.specs.Words.{with_piece, nothing_asked, pieces, reads_on, texts_of};
-ghost use Rattle.grep_utility.specs.Words.{with_context};
+ghost use Rattle.grep_utility.specs.Words.{nothing_asked, pieces, reads_on, texts_of, with_context};
+ghost use Rattle.grep_utility.specs.Words.{with_piece};
 
 pub mod around;
 pub mod tokens;

@@ -19,5 +19,4 @@ is_held None = false
 
 -- they are apart and limited as before, and search for the same
 abbrev pub Stays : Kept → Kept → Type 0
-Stays old new =
-    (sought_in new ≡ sought_in old) × (new.apart ≡ old.apart) × (new.limit ≡ old.limit)
+Stays old new = (sought_in new ≡ sought_in old) × (new.apart ≡ old.apart) × (new.limit ≡ old.limit)

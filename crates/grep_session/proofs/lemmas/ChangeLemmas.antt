@@ -39,7 +39,7 @@ neither false b off = (refl, off)
 -- an expression that is as good under one flag as under the other, or is none
 turned : (line : Text) (u v : Bool) (es : List Expression) (first n : ℕ) (d : Expression) → (v ≡ u) ⊎ (es ≡ []) → At line u first es n d → At line v first es n d
 turned line u v es first n d (inl same) p = rw same p
-turned line u v es first n d (inr none) p = absurd (omega (arith, p.0, p.1, ap length none))
+turned line u v es first n d (inr none) p = absurd (omega (arith, ap length none))
 
 back_again : {v u : Bool} {es : List Expression} → (v ≡ u) ⊎ (es ≡ []) → (u ≡ v) ⊎ (es ≡ [])
 back_again (inl same) = inl (sym same)
@@ -78,7 +78,7 @@ module _ {change : Change} {es : List Expression} {options : Options} (h : HasCh
       | inl fewer ↦ (
           let place : m - (0 + length h.front + length h.gone) ≡ n - (0 + length h.front + length h.come) = omega arith in
           (omega arith, omega arith, rw place at p.2))
-      | inr none ↦ absurd (omega (arith, p.0, p.1, ap length none))
+      | inr none ↦ absurd (omega (arith, ap length none))
     ])
 
     moved : At text whole (0 + length h.front + length h.come) h.back n d → m ≡ n + (change.gone - change.come) → (change.first + change.gone ≤ m) × (n ≡ m - (change.gone - change.come)) × At text h.was.line_regexp (0 + length h.front + length h.gone) h.back m d
@@ -87,7 +87,7 @@ module _ {change : Change} {es : List Expression} {options : Options} (h : HasCh
           let p = turned text whole h.was.line_regexp h.back _ n d (back_again back_alike) q in
           let place : n - (0 + length h.front + length h.come) ≡ m - (0 + length h.front + length h.gone) = omega arith in
           (omega arith, omega arith, (omega arith, omega arith, rw place at p.2)))
-      | inr none ↦ absurd (omega (arith, q.0, q.1, ap length none))
+      | inr none ↦ absurd (omega (arith, ap length none))
     ]
 
   left_decides : (n : ℕ) (d : Expression) → Decides (has_number n left) (Stays n d)
@@ -96,13 +96,13 @@ module _ {change : Change} {es : List Expression} {options : Options} (h : HasCh
       to : Left n → Stays n d
       to s = elim (at_either text h.was.line_regexp 0 h.front (h.gone ++ h.back) s.0 d ((was s.0 d).0 s.1)) [
         | inl f ↦ elim s.2 [
-          | inl low ↦ inl (subst (λ i. At text whole 0 h.front i d) (sym low.1) (turned text h.was.line_regexp whole h.front 0 s.0 d front_alike f))
-          | inr high ↦ absurd (let no : ⊥ = omega (arith, high.0, f.1, h.at) in no)
+          | inl low ↦ inl (rw low.1 (turned text h.was.line_regexp whole h.front 0 s.0 d front_alike f))
+          | inr high ↦ absurd (omega (arith, high.0, f.1, h.at))
         ]
         | inr r ↦ elim s.2 [
-          | inl low ↦ absurd (let no : ⊥ = omega (arith, low.0, r.0, h.at) in no)
+          | inl low ↦ absurd (omega (arith, low.0, r.0, h.at))
           | inr high ↦ elim (at_either text h.was.line_regexp (0 + length h.front) h.gone h.back s.0 d r) [
-            | inl g ↦ absurd (let no : ⊥ = omega (arith, high.0, g.1, h.at, h.went) in no)
+            | inl g ↦ absurd (omega (arith, high.0, g.1, h.at, h.went))
             | inr b ↦ inr (moves n s.0 d high.0 high.1 b)
           ]
         ]

@@ -1,5 +1,5 @@
 -- What is found in the lines of a chunk after a change, from what is found in each line.
-use Rattle.{grep_session.proofs.{Prelude.{◌≡◌, ℕ, ◌+◌, ◌-◌, ◌*◌, ◌<◌, ◌≤◌, ◌==◌, Bool, true, false, not, ◌||◌, Any, MatchBool, Decides, take, drop, Matches, StaysSame, Chosen, IsSought, IsParted, is_parted, is_sought, had_gone, has_own, came, marked_cost, pairs_cost, parting, if◌then◌else◌, List, [], ◌∷◌, ◌++◌, All, inl, inr, length, map, get_or, refl, sym, ap, subst, ◌∙◌, arith, append_assoc, length-append, append-nil, false≢true, nat_eq, nat_tests, length-map, nil_from_length, get_or_default, take-append_seam, drop-append_seam, All-append, All-tail, Text, Expression, Span, AddsAtMost, Steps, Options, FoundIn, finds_at, is_paired, numbers_at, Matched, AreBelow, KeptLine, no_line, line_text, seen, Change, HasChanged, SearchesEach, AreAllParts, AreMatches, has_new_parts, left_numbers, AddsMatching, IsKept, HasNewParts}, lemmas.{NumberLemmas.some_decides, MarkedLemmas.{marked_lines, pairs_times}, StepLemmas.not_searched, ChangeLemmas.{line_right, numbers_right, parts_decides, went_decides}}}, std.{specs.Bool.⊤, proofs.{Math.ListN.get_or-map, lemmas.Bool.{cases_Bool, Decides.Decides-and}}}, re_meter.proofs.lemmas.Adding.{adds_both, adds_within}, grep_core.proofs.lemmas.Verdicts.decided_yes, line_chunks.proofs.lemmas.{PairLaws.lt_yes, SeenLaws.{length-seen, line_seen}}}
+use Rattle.{grep_session.proofs.{Prelude.{◌≡◌, ℕ, ◌+◌, ◌-◌, ◌*◌, ◌<◌, ◌≤◌, ◌==◌, Bool, true, false, not, ◌||◌, Any, MatchBool, Decides, take, drop, Matches, StaysSame, Chosen, IsSought, IsParted, is_parted, is_sought, had_gone, has_own, came, marked_cost, pairs_cost, parting, if◌then◌else◌, List, [], ◌∷◌, ◌++◌, All, inl, inr, length, map, get_or, refl, sym, ap, subst, ◌∙◌, arith, append_assoc, length-append, append-nil, false≢true, nat_eq, nat_tests, length-map, nil_from_length, get_or_default, take-append_seam, drop-append_seam, All-append, All-tail, Text, Expression, Span, AddsAtMost, Steps, Options, FoundIn, finds_at, is_paired, numbers_at, Matched, AreBelow, KeptLine, no_line, line_text, seen, Change, HasChanged, SearchesEach, AreAllParts, AreMatches, has_new_parts, left_numbers, AddsMatching, IsKept}, lemmas.{NumberLemmas.some_decides, MarkedLemmas.{marked_lines, pairs_times}, StepLemmas.not_searched, ChangeLemmas.{line_right, numbers_right, parts_decides, went_decides}}}, std.{specs.Bool.⊤, proofs.{Math.ListN.get_or-map, lemmas.Bool.{cases_Bool, Decides.Decides-and}}}, re_meter.proofs.lemmas.Adding.{adds_both, adds_within}, grep_core.proofs.lemmas.Verdicts.decided_yes, line_chunks.proofs.lemmas.{PairLaws.lt_yes, SeenLaws.{length-seen, line_seen}}}
 
 -- what holds of each text with what was found in it holds of all lines
 all_seen : (P : KeptLine → Type 0) (texts : List Text) (found : FoundIn) → ((k : ℕ) → k < length texts → P (record { text = get_or texts k []; found = finds_at found k })) → All P (seen texts found)
@@ -82,9 +82,9 @@ module _ {change : Change} {es : List Expression} {options : Options} (h : HasCh
       column_decides : (k : ℕ) → k < length texts → Decides (is_parted change old new k) (IsParted change h.gone options h.come es (get_or texts k []))
       column_decides k high =
           let one = line k high in
-          let d = subst (λ ns. Decides (has_new_parts change ns (numbers_at k new)) (HasNewParts change h.gone options h.come one.text)) (sym (own k (inside k high))) (parts_decides h one (kept k high) (numbers_at k new) (adds_at k high)) in
+          let d = rw (← own k (inside k high)) at (parts_decides h one (kept k high) (numbers_at k new) (adds_at k high)) in
           let some = some_decides one.text options.line_regexp 0 es (numbers_at k new) (numbers_right h one (kept k high) (numbers_at k new) (adds_at k high)) in
-          subst (λ t. Decides (is_parted change old new k) (IsParted change h.gone options h.come es t)) (is_text k high) (Decides-and (is_paired k new) (has_new_parts change (numbers_at k old) (numbers_at k new)) some d)
+          rw (is_text k high) at (Decides-and (is_paired k new) (has_new_parts change (numbers_at k old) (numbers_at k new)) some d)
 
       -- what is found in each is right
       pub column_right : (parts : List (List Span)) → AreAllParts change es options lines old new parts → All (IsKept es options) (seen texts (record { size = length lines; pairs = new; parts = parts }))
@@ -133,7 +133,7 @@ module _ {change : Change} {es : List Expression} {options : Options} (h : HasCh
       pub chunk_steps : (new : List (ℕ × ℕ)) (ended : Steps) → AreMatches change texts options.line_regexp es old new → AddsAtMost (marked_cost (is_parted change old new) (parting es options) texts (length lines)) mid ended → SearchesEach change h.gone h.come es options texts begun ended
       chunk_steps new ended m more =
           let t = marked_lines (is_parted change old new) (parting es options) texts (IsParted change h.gone options h.come es) (column_decides new m) (length lines) (length-map lines line_text) in
-          record { paired = searched.0; are_paired = searched.1; parted = t.0; are_parted = t.1; few = adds_both _ _ _ _ begun mid ended searched.2 (subst (λ n. AddsAtMost n mid ended) t.2 more) }
+          record { paired = searched.0; are_paired = searched.1; parted = t.0; are_parted = t.1; few = adds_both _ _ _ _ begun mid ended searched.2 (rw t.2 at more) }
 
 -- the pairs of a chunk after a change are of its lines
 pub matches_below : (change : Change) (texts : List Text) (entire : Bool) (es : List Expression) (old new : List (ℕ × ℕ)) → AreMatches change texts entire es old new → AreBelow (length texts) new

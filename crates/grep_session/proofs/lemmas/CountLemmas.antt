@@ -1,5 +1,5 @@
 -- Which kept lines grep selects, and how many, where what is kept of them is right.
-use Rattle.{grep_session.proofs.{Prelude.{◌≡◌, ℕ, ◌+◌, ◌<◌, ◌≤◌, Bool, true, false, List, [], ◌∷◌, length, map, take, get_or, All, Some, ◌⊎◌, inl, inr, refl, sym, ap, ◌∙◌, arith, if◌then◌else◌, Decides, Expression, HoldsOfMany, matched_expression, AreMeant, File, Inputs, Inside, IsSession, inputs_of, Options, Selected, file_at, KeptFile, KeptLine, SelectedFrom, line_text, IsKept, IsFileKept, kept_lines, kept_file, is_selected, selected_count, false≢true, length-map, All-tail, All-take, All-get_or, file_with}, lemmas.KeptLaws.selected_reported}, std.proofs.lemmas.List.{get_or-map, take-map}, grep_core.proofs.lemmas.LawsHold.means_one}
+use Rattle.{grep_session.proofs.{Prelude.{◌≡◌, ℕ, ◌+◌, ◌<◌, ◌≤◌, Bool, true, false, List, [], ◌∷◌, length, map, take, get_or, All, Some, ◌⊎◌, inl, inr, refl, sym, ap, ◌∙◌, arith, if◌then◌else◌, Decides, Expression, HoldsOfMany, matched_expression, AreMeant, File, Inputs, Inside, IsSession, inputs_of, Options, Selected, file_at, KeptFile, KeptLine, SelectedFrom, line_text, IsKept, IsFileKept, kept_lines, kept_file, is_selected, selected_count, false≢true, length-map, All-tail, All-take, All-get_or}, lemmas.KeptLaws.selected_reported}, std.proofs.lemmas.List.{get_or-map, take-map}, grep_core.proofs.lemmas.LawsHold.means_one}
 
 module _ (es : List Expression) (options : Options) where
   pub many_selected : (lines : List KeptLine) → All (IsKept es options) lines → HoldsOfMany (Selected es options) (map line_text lines) (selected_count options lines)
@@ -42,7 +42,7 @@ module _ (es : List Expression) (options : Options) where
     lines_kept = rw is at kept
 
     lines_are : map line_text lines ≡ (kept_file file).lines
-    lines_are = ap (λ l. (file_with file.name.items l).lines) (sym is)
+    lines_are = rw is
 
     pub file_counted : (place count : ℕ) → count ≡ selected_count options (take place lines) → HoldsOfMany (Selected es options) (take place (kept_file file).lines) count
     file_counted place count e = rw lines_are at (counted_before _ _ _ lines_kept e)

@@ -52,7 +52,7 @@ module _ {W : Type 0} (p : Reporting W) where
       onward (Err e) is = tt
 
   pub file_missing : {E : Type 0} (name : Text) {kept : Option (List KeptLine)} {some : Bool} {a b : W} (r : Result Bool E) → kept ≡ None → IfOk r (λ now. now ≡ some) → Writes contents failures a b (written margin (summary_as (form options) many name Missing 0)) r → Gives (FilesDue (file_with name kept ∷ [])) some a b r
-  file_missing name {some = some} {a = a} {b = b} r is now w =
+  file_missing name r is now w =
       rw is (summary_written _ [] _ r ([], refl, refl) (groups_none {E = Unit {0}} (rows_none es options many name (form options))) now w)
 
   module _ (name : Text) {kept : Option (List KeptLine)} {text : List KeptLine} (is : kept ≡ Some text) (right : IfSome kept (All (IsKept es options))) where
@@ -64,13 +64,13 @@ module _ {W : Type 0} (p : Reporting W) where
 
     pub file_written : {E F : Type 0} {some mid : Bool} {selected : ℕ} {a b c : W} (r : Result Bool E) → selected ≡ selected_count options text → (All (IsKept es options) text → Gives {E = F} (LinesDue name text) some a b (Ok mid)) → IfOk r (λ now. now ≡ mid)
         → Writes contents failures b c (written margin (summary_as (form options) many name Whole selected)) r → Gives (FilesDue (file_with name kept ∷ [])) some a c r
-    file_written {some = some} {a = a} {c = c} r counted g now w =
-        subst (λ k. Gives (FilesDue (file_with name k ∷ [])) some a c r) (sym is) (summary_written name (map line_text text) Whole r (chosen_kept.0, chosen_kept.1, chosen_kept.2 ∙ sym counted) (g all_kept) now w)
+    file_written r counted g now w =
+        rw is (summary_written name (map line_text text) Whole r (chosen_kept.0, chosen_kept.1, chosen_kept.2 ∙ sym counted) (g all_kept) now w)
 
     -- a write failed within the rows of the lines
     pub file_stopped : {E F : Type 0} {some : Bool} {a b : W} {r : Result Bool E} {s : Result Bool F} → IsErr r → IsErr s → (All (IsKept es options) text → Gives (LinesDue name text) some a b r) → Gives (FilesDue (file_with name kept ∷ [])) some a b s
-    file_stopped {some = some} {a = a} {b = b} {s = s} err too g =
-        subst (λ k. Gives (FilesDue (file_with name k ∷ [])) some a b s) (sym is) (groups_front err too (g all_kept) (λ us due. (_, output_all es options many name (map line_text text) Whole (form options) us chosen_kept.0 due chosen_kept.1)))
+    file_stopped err too g =
+        rw is (groups_front err too (g all_kept) (λ us due. (_, output_all es options many name (map line_text text) Whole (form options) us chosen_kept.0 due chosen_kept.1)))
 
   -- ---- files
 
@@ -176,14 +176,14 @@ module _ {W : Type 0} (p : Reporting W) where
 
         next_message : (now : Bool) → stop ≡ now → (rest : List Text) → MatchBool now (rest ≡ []) (MessagesDue (drop (i + 1) files) rest) → MessagesDue (drop i files) (own ++ rest)
         next_message now e rest h =
-            subst (λ fs. MessagesDue fs (own ++ rest)) (sym (drop-item files i file inside is)) (message_first file (drop (i + 1) files) rest stop (stops_reported es options file kept) (subst (λ b. MatchBool b (rest ≡ []) (MessagesDue (drop (i + 1) files) rest)) (sym e) h))
+            rw (drop-item files i file inside is) (message_first file (drop (i + 1) files) rest stop (stops_reported es options file kept) (rw e h))
 
         pub messages_on : {c : W} → stop ≡ false → GoesOut contents failures b c (written margin own) → MessagesTo (i + 1) a c
         messages_on {c} goes w = record { reported = s.reported ++ own; leads = leads_on s.leads (record { with_rest = next_message false goes }); wrote = joined {T = Unit {0}} {E = Unit {0}} c (Ok tt) w }
 
         pub messages_last : {E : Type 0} {c : W} → stop ≡ true → GoesOut contents failures b c (written margin own) → ReportsMessages contents failures es options (map kept_file files) margin a c {T = Unit {0}} {E = E} (Ok tt)
         messages_last {c = c} stops w =
-            record { reported = s.reported ++ own; are_messages = s.leads.with_rest own (subst (MessagesDue (drop i files)) (append-nil own) (next_message true stops [] refl)); wrote = joined {T = Unit {0}} {E = Unit {0}} c (Ok tt) w }
+            record { reported = s.reported ++ own; are_messages = s.leads.with_rest own (rw (append-nil own) at (next_message true stops [] refl)); wrote = joined {T = Unit {0}} {E = Unit {0}} c (Ok tt) w }
 
         pub messages_stop : {T E : Type 0} {c : W} (r : Result T E) → IsErr r → StopsWithin contents failures b c (written margin own) → ReportsMessages contents failures es options (map kept_file files) margin a c r
         messages_stop {c = c} r err w =

@@ -116,7 +116,7 @@ fit_lose files new marks more f m fit = fit_as _ _ _ _ f m (fit_lost _ _ fit)
 
 -- a file was added
 pub fit_pushed : (files : List KeptFile) (marks : List Marked) (file : KeptFile) (new : List KeptFile) (more : List Marked) → new ≡ files ++ file ∷ [] → more ≡ marks ++ new_mark (length (kept_file file).lines) ∷ [] → AreFit (map kept_file files) marks → AreFit (map kept_file new) more
-fit_pushed files marks file new more f m fit = fit_as (map kept_file files ++ kept_file file ∷ []) (map kept_file new) (marks ++ new_mark (length (kept_file file).lines) ∷ []) more (ap (map kept_file) f ∙ map-append kept_file files (file ∷ [])) m (fit_added (map kept_file files) marks fit (kept_file file))
+fit_pushed files marks file new more f m fit = fit_as (map kept_file files ++ kept_file file ∷ []) (map kept_file new) (marks ++ new_mark (length (kept_file file).lines) ∷ []) more (cc (map-append kept_file files (file ∷ []))) m (fit_added (map kept_file files) marks fit (kept_file file))
 
 -- ---- marks that edits are promised to leave
 

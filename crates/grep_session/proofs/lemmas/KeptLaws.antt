@@ -1,10 +1,10 @@
 -- If what is kept is right, the verdicts from it, the messages and the status are those of grep.
-use Rattle.{grep_session.proofs.{Prelude.{get_or, ◌≡◌, ℕ, Bool, true, false, ◌&&◌, not, IsTrue, ◌↔◌, Decides, List, [], ◌∷◌, map, All, Any, Option, None, Some, MatchBool, IfSome, refl, sym, ◌∙◌, inl, inr, arith, if◌then◌else◌, list_any, Text, Expression, ArePartsFrom, AreParts, Span, Options, Status, Selected, HasSelected, message, FaultMet, Stops, Message, AnySelected, StatusOf, is_fault, ending_of, status_by, KeptLine, line_text, KeptFile, span_places, kept_lines, file_with, kept_file, IsKept, IsFileKept, matches_none, is_selected, has_selected_in, has_selected, end_with, OnLine, PartsFit, FileFits, is_faulty, any_missing, status_by_files, status_given, false≢true, All-head, All-tail, All-nil, All-cons, ap}, lemmas.NumberLemmas.some_decides}, std.specs.Prelude.⊤, re_syntax.proofs.lemmas.Decisions.{Any-none, Any-first, Any-later, Any-cases}, grep_core.proofs.lemmas.{PassLemmas.or_decides, StatusLaws.{StatusOf-quiet, StatusOf-error, StatusOf-selected, StatusOf-none}, Verdicts.{decided_yes, decided_no}}}
+use Rattle.{grep_session.proofs.{Prelude.{get_or, ◌≡◌, ℕ, Bool, true, false, ◌&&◌, not, IsTrue, ◌↔◌, Decides, List, [], ◌∷◌, map, All, Any, Option, None, Some, MatchBool, IfSome, refl, sym, ◌∙◌, inl, inr, arith, if◌then◌else◌, list_any, Text, Expression, ArePartsFrom, AreParts, Span, Options, Status, Selected, HasSelected, message, FaultMet, Stops, Message, AnySelected, StatusOf, is_fault, ending_of, status_by, KeptLine, line_text, KeptFile, span_places, kept_lines, file_with, kept_file, IsKept, IsFileKept, matches_none, is_selected, has_selected_in, has_selected, end_with, OnLine, PartsFit, FileFits, is_faulty, any_missing, status_by_files, status_given, false≢true, All-head, All-tail, All-nil, All-cons}, lemmas.NumberLemmas.some_decides}, std.specs.Prelude.⊤, re_syntax.proofs.lemmas.Decisions.{Any-none, Any-first, Any-later, Any-cases}, grep_core.proofs.lemmas.{PassLemmas.or_decides, StatusLaws.{StatusOf-quiet, StatusOf-error, StatusOf-selected, StatusOf-none}, Verdicts.{decided_yes, decided_no}}}
 use Rattle.grep_core.specs.declared.status.Status.TheVariants.{Selected as selected}
 
 -- the status of a run that did not stop
 pub status_in_turn : (quiet some : Bool) (status : Status) → (quiet && some) ≡ false → status ≡ (if quiet && some then selected else status)
-status_in_turn quiet some status e = ap (λ b. if b then selected else status) (sym e)
+status_in_turn quiet some status e = rw e
 
 -- whether the verdict holds of some element of a mapped list
 mapped_reported : {A B : Type 0} (f : A → B) (p : A → Bool) (P : B → Type 0) (K : A → Type 0) → ((x : A) → K x → Decides (p x) (P (f x))) → (xs : List A) → All K xs → Decides (list_any p xs) (Any P (map f xs))

@@ -50,7 +50,7 @@ module _ (mark : ℕ → Bool) (many : ℕ) (texts : List Text) where
 pub searched_next : (mark : ℕ → Bool) (texts : List Text) (k : ℕ) (line : Text) (begun mid ended : Steps) → mark k ≡ true → get_or texts k [] ≡ line → AddsAtMost (marked_cost mark 1 texts k) begun mid → AddsAtMost (length line + 1) mid ended → AddsAtMost (marked_cost mark 1 texts (k + 1)) begun ended
 searched_next mark texts k line begun mid ended on is a b =
     let once : length line + 1 ≡ search_cost 1 line = omega arith in
-    marked_next mark 1 texts k (length line + 1) begun mid ended (once ∙ ap (search_cost 1) (sym is) ∙ ap (λ b. if b then search_cost 1 (get_or texts k []) else 0) (sym on)) a b
+    marked_next mark 1 texts k (length line + 1) begun mid ended (cc) a b
 
 -- by more patterns
 pub pairs_times : (many : ℕ) (lines : List Text) → many * pairs_cost 1 lines ≡ pairs_cost many lines

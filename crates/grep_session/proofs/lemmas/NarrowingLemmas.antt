@@ -49,11 +49,11 @@ string_means syntax fold t e fixed m =
 pub narrower_string : (syntax : Syntax) (options : Options) (old new : Text) (gone come : Expression) → Narrows syntax options old new → IsMeant syntax options.ignore_case old gone → IsMeant syntax options.ignore_case new come → (line : Text) → Matches come line options.line_regexp → Matches gone line options.line_regexp
 narrower_string syntax options old new gone come narrows was is line m =
     let fold = options.ignore_case in
-    let there : Matches come line false = subst (λ entire. Matches come line entire) narrows.1 m in
-    let whole : string_expression fold new ≡ string_expression fold (narrows.3.0 ++ (old ++ narrows.3.1)) = ap (string_expression fold) narrows.3.2 in
-    let holds = subst (λ e. Holds line e there.0 there.1) (string_means syntax fold new come narrows.0 is ∙ whole) there.3 in
+    let there = rw narrows.1 at m in
+    let whole : string_expression fold new ≡ string_expression fold (narrows.3.0 ++ (old ++ narrows.3.1)) = rw narrows.3.2 in
+    let holds = rw (string_means syntax fold new come narrows.0 is ∙ whole) at there.3 in
     let inner = inner_holds line fold narrows.3.0 old narrows.3.1 there.0 there.1 there.2 holds in
-    subst (λ entire. Matches gone line entire) (sym narrows.1) (subst (λ e. Matches e line false) (sym (string_means syntax fold old gone narrows.0 was)) inner)
+    rw narrows.1 (rw (string_means syntax fold old gone narrows.0 was) inner)
 
 -- ---- whether a text is in another
 

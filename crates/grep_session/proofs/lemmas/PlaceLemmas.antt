@@ -18,9 +18,9 @@ pub none_due : (es : List Expression) (options : Options) (many : Bool) (name : 
 none_due es options many name texts nothing is = refl
 none_due es options many name texts names is = refl
 none_due es options many name texts counts is = refl
-none_due es options many name texts lines is = absurd (cc is)
-none_due es options many name texts parts is = absurd (cc is)
-none_due es options many name texts (around c) is = absurd (cc is)
+none_due es options many name texts lines is = absurd cc
+none_due es options many name texts parts is = absurd cc
+none_due es options many name texts (around c) is = absurd cc
 
 module _ {W : Type 0} (p : Reporting W) (name : Text) (context : Context) (texts : List Text) where
   open p use {contents, failures, margin, es, options, many}
@@ -107,12 +107,12 @@ module _ {W : Type 0} (p : Reporting W) (name : Text) (context : Context) (texts
 
   -- the rows of all lines
   all_due : (shape : Form) → context_as shape ≡ Some context → (rows : List Text) → EachGives (DueAs shape) (enumerate_from 0 texts) rows → AllAs shape texts rows
-  all_due (around c) is rows h = subst (λ c. AllAs (around c) texts rows) (sym (same_Some c context is)) h
-  all_due lines is rows h = let zeros = same_Some _ context is in plain_due lines tt (ap (λ (c : Context). c.before) (sym zeros)) (ap (λ (c : Context). c.after) (sym zeros)) [] texts [] rows refl (rows_none es options many name lines) h
-  all_due parts is rows h = let zeros = same_Some _ context is in plain_due parts tt (ap (λ (c : Context). c.before) (sym zeros)) (ap (λ (c : Context). c.after) (sym zeros)) [] texts [] rows refl (rows_none es options many name parts) h
-  all_due nothing is rows h = absurd (let no : ⊥ = cc is in no)
-  all_due names is rows h = absurd (let no : ⊥ = cc is in no)
-  all_due counts is rows h = absurd (let no : ⊥ = cc is in no)
+  all_due (around c) is rows h = rw (same_Some c context is) h
+  all_due lines is rows h = let zeros = same_Some _ context is in plain_due lines tt (rw (← zeros)) (rw (← zeros)) [] texts [] rows refl (rows_none es options many name lines) h
+  all_due parts is rows h = let zeros = same_Some _ context is in plain_due parts tt (rw (← zeros)) (rw (← zeros)) [] texts [] rows refl (rows_none es options many name parts) h
+  all_due nothing is rows h = absurd (cc is)
+  all_due names is rows h = absurd (cc is)
+  all_due counts is rows h = absurd (cc is)
 
   -- ---- the rows of one line
 
@@ -162,7 +162,7 @@ module _ {W : Type 0} (p : Reporting W) (name : Text) (context : Context) (texts
     fits = fits;
     wrote = groups_none (record { with_rest = λ rest h. all_due (form options) fits rest (due_next 0 k n rest h) });
     here = n.hit;
-    reported = ((λ _. begins_from es options context texts k (λ j e. n.passed j (omega arith) (omega (arith, e)))), (λ _. refl));
+    reported = ((λ _. begins_from es options context texts k (λ j e. n.passed j (omega arith) (omega arith))), (λ _. refl));
     first = λ _. refl;
   }
 

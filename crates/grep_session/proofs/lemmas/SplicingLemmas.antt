@@ -1,5 +1,5 @@
 -- Some patterns of a session went, and others came in their place: the matchers after that, and after they are put back.
-use Rattle.{grep_session.proofs.{Prelude.{◌≡◌, ℕ, ◌+◌, ◌≤◌, List, [], ◌∷◌, ◌++◌, All, All-append, All-nil, AllZip, inl, inr, length, map, refl, sym, ap, ◌∙◌, arith, map-append, length-append, length-map, Syntax, Text, IsMeant, Matcher, IsReadable, matched_expression, room_of, wants_whole, Options, Inputs, AreMeant, Expression, Edit, EditFault, EditGives, Applies, Reads, RefusesFirst, Result, Err, AreSame, IsSession, inputs_of, Inside, most_patterns, AreMatchers, KeepAtMost, IsFileKept, kept_file, lost, Bool, subst}, lemmas.{EditLemmas.searched_session, FoundLemmas.{all_first, all_rest}, SplicedLists.{IsSpliced, map_parts, same_parts}}}, grep_core.proofs.lemmas.MatcherLemmas.AllZip-append}
+use Rattle.{grep_session.proofs.{Prelude.{◌≡◌, ℕ, ◌+◌, ◌≤◌, List, [], ◌∷◌, ◌++◌, All, All-append, All-nil, AllZip, inl, inr, length, map, refl, sym, ap, ◌∙◌, arith, map-append, length-append, length-map, Syntax, Text, IsMeant, Matcher, IsReadable, matched_expression, room_of, wants_whole, Options, Inputs, AreMeant, Expression, Edit, EditFault, EditGives, Applies, Reads, RefusesFirst, Result, Err, AreSame, IsSession, inputs_of, Inside, most_patterns, AreMatchers, KeepAtMost, IsFileKept, kept_file, lost, Bool}, lemmas.{EditLemmas.searched_session, FoundLemmas.{all_first, all_rest}, SplicedLists.{IsSpliced, map_parts, same_parts}}}, grep_core.proofs.lemmas.MatcherLemmas.AllZip-append}
 
 -- f of the elements is as before, after those that went were put back
 back_same : {X Y : Type 0} (f : X → Y) {first many count : ℕ} {xs all now new : List X} (m : IsSpliced first many count xs all) (b : IsSpliced first count many now new) → b.come ≡ m.gone → map f now ≡ map f all → map f new ≡ map f xs
@@ -82,9 +82,9 @@ module _ {s : Inside} {first many count : ℕ} {texts : List Text} {all : List M
       → All (IsFileKept (map matched_expression t.matchers.items) s.options) t.files.items → map kept_file t.files.items ≡ map kept_file s.files.items → t.marks.items ≡ map lost s.marks.items → IsSession t
   spliced_session t is read few rooms same kept files marks =
       let Small : ℕ → Type 0 = λ room. room ≤ s.states in
-      let was = subst (All Small) (map_parts room_of s.matchers.items m.front m.gone m.back m.old_is) old.rooms in
+      let was = rw (map_parts room_of s.matchers.items m.front m.gone m.back m.old_is) at old.rooms in
       let back = all_rest Small (map room_of m.gone) _ (all_rest Small (map room_of m.front) _ was) in
-      let now = subst (All Small) (sym (map_parts room_of all m.front m.come m.back m.new_is)) (All-append Small (map room_of m.front) _ (all_first Small _ _ was) (All-append Small (map room_of m.come) (map room_of m.back) rooms back)) in
+      let now = rw (← map_parts room_of all m.front m.come m.back m.new_is) at (All-append Small (map room_of m.front) _ (all_first Small _ _ was) (All-append Small (map room_of m.come) (map room_of m.back) rooms back)) in
       searched_session s t s.syntax s.options texts all is read old are_matchers few now same kept files marks
 
 -- ---- what is reported

@@ -1,5 +1,5 @@
 -- A command on a file with a failed read, worked by hand.
-use Rattle.{grep_utility.proofs.{Prelude.{◌≡◌, ℕ, true, false, List, [], ◌∷◌, Option, Some, Ok, refl, sym, ap, ◌∙◌, subst, arith, ◌⊎◌, inl, inr, codes, false≢true, All-nil, All-cons, Basic, Text, byte, list_of, ended_lines_of, IsReadable, Options, no_options, Error, File, broken, HasSelected, FaultMet, Messages, StatusOf, Out, Source, Reading, fails_after, Steps, Writer, devices, Devices, files_of, Finishes, count_more, CommandGives, Folder, sources_named, FailuresAre, Wrote, ReportsMemory, HasReturned, list, read, word_of, meaning_of, broken_words, broken_text, broken_output, broken_messages, BrokenFollows}, lemmas.{FullLemmas.{few_counted, command_gives}, KnownLemmas.one_broken, WorkedLemmas.{es, a_meant, selected_a, not_selected, not_quiet}}}, std.specs.{Str.chars, Fmt.digits}, re_syntax.proofs.lemmas.Decisions.Any-first}
+use Rattle.{grep_utility.proofs.{Prelude.{◌≡◌, ℕ, true, false, List, [], ◌∷◌, Option, Some, Ok, refl, sym, subst, arith, ◌⊎◌, inl, inr, codes, false≢true, All-nil, All-cons, Basic, Text, byte, list_of, ended_lines_of, IsReadable, Options, no_options, Error, File, broken, HasSelected, FaultMet, Messages, StatusOf, Out, Source, Reading, fails_after, Steps, Writer, devices, Devices, files_of, Finishes, CommandGives, Folder, sources_named, FailuresAre, Wrote, ReportsMemory, HasReturned, list, read, word_of, meaning_of, broken_words, broken_text, broken_output, broken_messages, BrokenFollows}, lemmas.{FullLemmas.{few_counted, command_gives}, KnownLemmas.one_broken, WorkedLemmas.{es, a_meant, selected_a, not_selected, not_quiet}}}, std.specs.{Str.chars, Fmt.digits}, re_syntax.proofs.lemmas.Decisions.Any-first}
 
 abbrev broken_options : Options
 broken_options = record no_options { line_number = true }
@@ -48,8 +48,8 @@ module _ (folder : Folder) (opens : folder.opens (codes "f") ≡ Some true) (byt
   module _ (given : List (Option Text) → Type 0) (reported_too : (left : List (Option Text)) → given left → HasReturned 1 1 left) (old new : Devices) (status : ℕ) (counts : FailuresAre 1 old new) where
     determined : (between : Devices) (s : _) (h : Finishes es broken_options broken_sources given old between s) → new ≡ between → h.story.readings ≡ did
     determined between s h same =
-        let once : h.story.failures ≡ 1 =
-        few_counted h.story.failures 1 (sym counts.counted ∙ ap (λ (d : Devices). d.source_failures) same ∙ h.story.counted ∙ ap (λ n. count_more n h.story.failures) counts.from_none) counts.few in
+        let once =
+        few_counted h.story.failures 1 (cc (counts.counted, h.story.counted, counts.from_none)) counts.few in
         one_broken es broken_options refl refl (record { name = codes "f"; opens = folder.opens (codes "f"); bytes = folder.bytes (codes "f") }) broken_text opens bytes h.story.failures once [] h.story.left (reported_too h.story.left h.story.gave_back) h.story.readings h.story.are_readings h.story.are_failures h.story.are_left
 
     -- what the command gives, for any history that tells how many readers came back

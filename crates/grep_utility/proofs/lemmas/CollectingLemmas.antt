@@ -1,17 +1,17 @@
 -- The buffered patterns, with one more line of a file at a time.
-use Rattle.{grep_utility.proofs.Prelude.{◌≡◌, ℕ, ◌-◌, ◌<◌, true, false, List, [], ◌∷◌, ◌++◌, All, Option, Ok, Err, sym, ap, subst, ◌∙◌, append_assoc, append-nil, arith, length_push, All-append, Text, newline, terminated, HasNoNewline, Device, Stage, Open, Ended, Failed, most_lines, AreHanded, Bool, Result, ReadFault, Numbered, HasHanded, NextIs, Adds, AddsLines}, re_syntax.proofs.lemmas.LinesLaws.{terminated-append, AreLines-lines_of}, grep_core.proofs.lemmas.NumberedLemmas.has_handed_none}
+use Rattle.{grep_utility.proofs.Prelude.{◌≡◌, ℕ, ◌-◌, ◌<◌, true, false, List, [], ◌∷◌, ◌++◌, All, Option, Ok, Err, sym, ap, ◌∙◌, append_assoc, append-nil, arith, length_push, All-append, Text, newline, terminated, HasNoNewline, Device, Stage, Open, Ended, Failed, most_lines, AreHanded, Bool, Result, ReadFault, Numbered, HasHanded, NextIs, Adds, AddsLines}, re_syntax.proofs.lemmas.LinesLaws.{terminated-append, AreLines-lines_of}, grep_core.proofs.lemmas.NumberedLemmas.has_handed_none}
 
 -- some patterns were added, and then others
 pub Adds-trans : (old mid new : Text) (ts us : List Text) → Adds old mid ts → Adds mid new us → Adds old new (ts ++ us)
 Adds-trans old mid new ts us h k = record {
-  bytes = k.bytes ∙ ap (λ l. l ++ terminated us) h.bytes ∙ append_assoc old (terminated ts) (terminated us) ∙ ap (λ l. old ++ l) (sym (terminated-append ts us));
+  bytes = cc (k.bytes, h.bytes, append_assoc old (terminated ts) (terminated us), terminated-append ts us);
   no_newlines = All-append HasNoNewline ts us h.no_newlines k.no_newlines;
 }
 
 -- no line that was handed out has a newline
 free_lines : (stage : Stage) (given : Text) (handed : List Text) → AreHanded stage given handed → All HasNoNewline handed
 free_lines Open given handed h = h.1
-free_lines Ended given handed h = subst (All HasNoNewline) h (AreLines-lines_of given).0
+free_lines Ended given handed h = rw h at (AreLines-lines_of given).0
 free_lines Failed given handed h = absurd h
 
 module _ {R : Type 0} (remaining : R → Option Text) (failures : R → ℕ) where
@@ -37,7 +37,7 @@ module _ {R : Type 0} (remaining : R → Option Text) (failures : R → ℕ) whe
     -- one more line
     pub so_far_line : (after line : Text) → Gives (Ok true) → line ≡ new.lines.line → after ≡ mid ++ (line ++ newline ∷ []) → LinesSoFar reader new before after
     so_far_line after line next is pushed =
-        let beyond : after ≡ mid ++ terminated (new.lines.line ∷ []) = pushed ∙ ap (λ l. mid ++ (l ++ newline ∷ [])) is in
+        let beyond : after ≡ mid ++ terminated (new.lines.line ∷ []) = cc in
         record {
           lines = s.lines ++ new.lines.line ∷ [];
           handed = next reader s.lines s.handed;
@@ -58,4 +58,4 @@ module _ {R : Type 0} (remaining : R → Option Text) (failures : R → ℕ) whe
     pub fewer_left : Gives (Ok true) → most_lines - new.number < most_lines - old.number
     fewer_left next =
         let handed = next reader s.lines s.handed in
-        omega (arith, handed.few, handed.counted, s.handed.counted, length_push s.lines new.lines.line)
+        omega (arith, handed.few, handed.counted, length_push s.lines new.lines.line)

@@ -1,18 +1,18 @@
 -- How the whole command ends, from what its steps did.
-use Rattle.{grep_utility.proofs.Prelude.{◌≡◌, ℕ, nat_lt, ◌≤◌, Bool, true, false, List, [], ◌∷◌, Ok, Err, MatchBool, MatchResult, ◌⊎◌, inl, inr, length, refl, sym, ap, ◌∙◌, subst, arith, Option, ltb-false, false≢true, the_type, FaultKind, Syntax, PatternFault, Text, Steps, Matcher, IsOutOfMemory, expressions_of, Expression, Options, IsSameChoice, Writer, Devices, count_more, UsageFault, ReportsLines, GivesUp, SearchEnds, RefusesPattern, SearchesNamed, ReturnedAfter, DoesForRequest, CommandGives, Folder, sources_named, searched, IsPrepared, IsDue, HasNumber, due_text, CommandFault, TooMany, Refused, most_patterns, IsFirstRefused, folder_after_all, GivePatterns, too_many_patterns, fault_text, usage_texts, Asked, read, OrMemory, FirstUnread, StopsFor}, re_syntax.specs.declared.fault.FaultKind.TheVariants.Memory, grep_core.proofs.lemmas.{SameChoice.RunGives-same, GivenLaws.RunGives-given}}
+use Rattle.{grep_utility.proofs.Prelude.{◌≡◌, ℕ, nat_lt, ◌≤◌, Bool, true, false, List, [], ◌∷◌, Ok, Err, MatchBool, ◌⊎◌, inl, inr, length, refl, arith, Option, ltb-false, false≢true, the_type, FaultKind, Syntax, PatternFault, Text, Steps, Matcher, IsOutOfMemory, expressions_of, Expression, Options, IsSameChoice, Writer, Devices, count_more, UsageFault, ReportsLines, GivesUp, SearchEnds, RefusesPattern, SearchesNamed, ReturnedAfter, DoesForRequest, CommandGives, Folder, sources_named, searched, IsPrepared, IsDue, HasNumber, due_text, CommandFault, TooMany, Refused, most_patterns, IsFirstRefused, folder_after_all, GivePatterns, too_many_patterns, fault_text, usage_texts, Asked, read, OrMemory, FirstUnread, StopsFor}, re_syntax.specs.declared.fault.FaultKind.TheVariants.Memory, grep_core.proofs.lemmas.{SameChoice.RunGives-same, GivenLaws.RunGives-given}}
 use denote.Enum.Bare.{sameb}
-use Rattle.grep_core.specs.Reading.{Source as FileSource}
 use Rattle.grep_utility.specs.declared.words.UsageFault.TheVariants as usage
 use Rattle.grep_utility.specs.declared.prepare.CommandFault.TheVariants as due
+use Rattle.grep_core.specs.Reading.{Source as FileSource}
 
 -- a kind of fault that fails the test for out of memory is another kind
 pub kind_differs : (kind : FaultKind) (test : Bool) → test ≡ sameb the_type kind Memory → test ≡ false → kind ≡ Memory → ⊥
-kind_differs kind test is fails same = false≢true (sym fails ∙ is ∙ ap (λ k. sameb the_type k Memory) same)
+kind_differs kind test is fails same = false≢true (cc)
 
 -- a fault of patterns other than out of memory is that of the first refused pattern
 pub not_memory : (syntax : Syntax) (fold : Bool) (texts : List Text) (place : ℕ) (fault : PatternFault) → (fault.kind ≡ Memory → ⊥) → IsOutOfMemory fault ⊎ IsFirstRefused syntax fold texts place fault
     → IsFirstRefused syntax fold texts place fault
-not_memory syntax fold texts place fault differs (inl is) = absurd (differs (ap (λ (f : PatternFault). f.kind) is))
+not_memory syntax fold texts place fault differs (inl is) = absurd (differs (rw is))
 not_memory syntax fold texts place fault differs (inr first) = first
 
 -- a search for expressions that are the same choice as others, and no more, is one for these
@@ -46,7 +46,7 @@ module _ (asked : Asked) (folder : Folder) (before after : ℕ) where
 module _ (folder : Folder) (given : List (Option Text) → Type 0) (words : List Text) (asked : Asked) (is : read words ≡ Ok asked) where
   -- the words were read
   words_read : (old new : Devices) (status : ℕ) → DoesForRequest folder given old new status asked → CommandGives folder given old new status words
-  words_read old new status does = inl (subst (λ r. MatchResult r (DoesForRequest folder given old new status) (λ fault. GivesUp old new (usage_texts fault) 0 status)) (sym is) does)
+  words_read old new status does = inl (rw is does)
 
   module _ (out old new : Writer) (before after : ℕ) (steps : Steps) where
     abbrev first : Devices
@@ -64,7 +64,7 @@ module _ (folder : Folder) (given : List (Option Text) → Type 0) (words : List
         → CommandGives folder given first last 2 words
     by_count texts gives many count does =
         words_read first last 2
-        (inr (texts, gives, subst (λ b. MatchBool b (GivesUp first last (too_many_patterns ∷ []) 0 2) (RefusesPattern asked (folder_after_all folder asked.sources) texts (ReturnedAfter asked.sources given) first last 2 ⊎ SearchesNamed asked (folder_after_all folder asked.sources) texts (ReturnedAfter asked.sources given) first last 2)) (sym count) does))
+        (inr (texts, gives, rw count does))
 
     -- the command ends before its search
     pub ends_before : (fault : CommandFault) → IsDue asked folder before after fault → ReportsLines old new (due_text fault ∷ []) → CommandGives folder given first last 2 words
@@ -72,7 +72,7 @@ module _ (folder : Folder) (given : List (Option Text) → Type 0) (words : List
     ends_before (due.Broken word) h reported = words_read first last 2 (inl (_, h.1, reports _ h.0 reported h.2))
     ends_before due.Memory h reported = inr (reports _ 0 reported h)
     ends_before TooMany (texts, gives, many, same) reported = by_count texts gives true many (reports _ 0 reported same)
-    ends_before (Refused place fault) (texts, gives, few, first_refused, same) reported = by_count texts gives false few (inl (record { place = place; fault = fault; is_first = first_refused; gives_up = reports _ 0 reported same }))
+    ends_before (Refused place fault) (texts, gives, few, first_refused, same) reported = by_count texts gives _ few (inl (record { place = place; fault = fault; is_first = first_refused; gives_up = reports _ 0 reported same }))
 
   -- ---- the search
 
@@ -82,17 +82,17 @@ module _ (folder : Folder) (given : List (Option Text) → Type 0) (words : List
   ends_after mid matchers p beyond join old new status h =
       let later = folder_after_all folder asked.sources in
       let rest = ReturnedAfter asked.sources given in
-      let there = subst (λ f. SearchEnds (expressions_of matchers) asked.options (sources_named f (searched asked.files)) beyond old new status) p.used h in
+      let there = rw p.used at h in
       let known = given_ends asked.options (sources_named later (searched asked.files)) beyond rest join old new status (expressions_of matchers) there in
       let meant = served asked.options (sources_named later (searched asked.files)) rest old new status (expressions_of matchers) p.serve.es p.serve.same p.serve.fewer known in
       let searches : SearchesNamed asked later p.texts rest old new status = record { readable = p.serve.readable; es = p.serve.es; are_meant = p.serve.meant; ends = meant } in
       words_read old new status
-      (inr (p.texts, p.are_texts, subst (λ b. MatchBool b (GivesUp old new (too_many_patterns ∷ []) 0 status) (RefusesPattern asked later p.texts rest old new status ⊎ SearchesNamed asked later p.texts rest old new status)) (sym p.few) (inr searches)))
+      (inr (p.texts, p.are_texts, rw p.few (inr searches)))
 
 module _ (folder : Folder) (given : List (Option Text) → Type 0) (words : List Text) (old new : Devices) (status : ℕ) where
   words_fault : (fault : UsageFault) → read words ≡ Err fault → GivesUp old new (usage_texts fault) 0 status → CommandGives folder given old new status words
   words_fault fault is h =
-      inl (subst (λ r. MatchResult r (DoesForRequest folder given old new status) (λ f. GivesUp old new (usage_texts f) 0 status)) (sym is) h)
+      inl (rw is h)
 
   -- they were not
   pub words_refused : (fault : UsageFault) → OrMemory fault (read words ≡ Err fault) → GivesUp old new (usage_texts fault) 0 status → CommandGives folder given old new status words

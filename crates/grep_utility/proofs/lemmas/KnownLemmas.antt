@@ -1,5 +1,5 @@
 -- Known sources, whose number of failures says that no read failed.
-use Rattle.{grep_utility.proofs.Prelude.{◌≡◌, ℕ, ◌+◌, ◌-◌, ◌^◌, ◌≤◌, min, Bool, true, false, ◌||◌, if◌then◌else◌, IsTrue, List, [], ◌∷◌, ◌++◌, length, Option, None, Some, IfSome, All, Any, append-nil, refl, sym, ap, ◌∙◌, subst, arith, inl, inr, false≢true, Consumes, length-append, All-head, All-tail, Text, Expression, Options, IfHolds, File, Ending, broken, HasSelected, FaultMet, FaultMetBy, Source, Reading, not_opened, fails_after, ends_after, IsReadingOf, file_of, failures_of, AreReadings, FailuresMet, LeftMet, HasReturned, AllIsKnown, IsKnown, full_reading, in_full, unopened_by, unopened, CountDecides}, std.proofs.lemmas.List.nil_from_length, re_syntax.proofs.lemmas.SomeOfJoined.Any-single}
+use Rattle.{grep_utility.proofs.Prelude.{◌≡◌, ℕ, ◌-◌, ◌^◌, ◌≤◌, min, Bool, true, false, if◌then◌else◌, IsTrue, List, [], ◌∷◌, ◌++◌, length, Option, None, Some, All, append-nil, refl, sym, ap, ◌∙◌, arith, inl, inr, false≢true, length-append, All-head, All-tail, Text, Expression, Options, IfHolds, File, broken, HasSelected, FaultMet, Source, Reading, not_opened, fails_after, ends_after, IsReadingOf, file_of, failures_of, AreReadings, FailuresMet, LeftMet, HasReturned, AllIsKnown, IsKnown, full_reading, in_full, unopened_by, unopened, CountDecides}, std.proofs.lemmas.List.nil_from_length, re_syntax.proofs.lemmas.SomeOfJoined.Any-single}
 
 -- where it holds, the first case is
 by_yes : {P A B : Type 0} → IfHolds P A B → P → A
@@ -13,8 +13,8 @@ by_no (inr h) p = h.1
 module _ (es : List Expression) (options : Options) (loud : options.quiet ≡ false) (full : options.files_with_matches ≡ false) where
   -- a failed read is met in every file
   broken_met : (file : File) → file.ending ≡ broken → FaultMet es options file
-  broken_met file is = subst (λ (ending : Ending). FaultMetBy es options ending file) (sym is)
-      (λ left. absurd (false≢true (sym (ap (λ quiet. quiet || options.files_with_matches) loud ∙ full) ∙ left)))
+  broken_met file is = rw is
+      (λ left. absurd (false≢true (sym (cc) ∙ left)))
 
   -- no run stops before its end
   goes_on : (file : File) → IsTrue options.quiet × HasSelected es options file → ⊥
@@ -45,7 +45,7 @@ module _ (es : List Expression) (options : Options) (loud : options.quiet ≡ fa
   reads_full name (Some true) None k r h few = absurd k
   reads_full name (Some true) (Some all) k not_opened h few = absurd (false≢true (sym h))
   reads_full name (Some true) (Some all) k (fails_after front) h few = absurd (omega arith)
-  reads_full name (Some true) (Some all) k (ends_after bytes) h few = ap ends_after (sym h.1)
+  reads_full name (Some true) (Some all) k (ends_after bytes) h few = rw (← h.1)
   reads_full name (Some false) bytes k not_opened h few = refl
   reads_full name (Some false) bytes k (fails_after front) h few = absurd (false≢true h.0)
   reads_full name (Some false) bytes k (ends_after all) h few = absurd (false≢true h.0)
@@ -59,7 +59,7 @@ module _ (es : List Expression) (options : Options) (loud : options.quiet ≡ fa
       let here = fails_least source.name source.opens source.bytes (All-head IsKnown source sources k) r a.0 in
       let rest = least_met sources readings h.1 (All-tail IsKnown source sources k) a.1 (by_no h.3 (goes_on (file_of source.name r))) in
       let sum = h.4 in
-      omega (arith, own, here, rest, sum)
+      omega arith
 
   -- where there are no more, all were read in full
   pub all_in_full : (sources : List Source) (readings : List Reading) (n : ℕ) → All IsKnown sources → AreReadings sources readings → FailuresMet es options sources readings n → n ≤ unopened sources → readings ≡ in_full sources
@@ -72,49 +72,49 @@ module _ (es : List Expression) (options : Options) (loud : options.quiet ≡ fa
       let beyond = by_no h.3 (goes_on (file_of source.name r)) in
       let least = least_met sources readings h.1 (All-tail IsKnown source sources k) a.1 beyond in
       let sum = h.4 in
-      let first : r ≡ full_reading source.opens source.bytes = reads_full source.name source.opens source.bytes (All-head IsKnown source sources k) r a.0 (omega (arith, own, here, least, sum, few)) in
-      let rest : readings ≡ in_full sources = all_in_full sources readings h.1 (All-tail IsKnown source sources k) a.1 beyond (omega (arith, own, here, least, sum, few)) in
+      let first = reads_full source.name source.opens source.bytes (All-head IsKnown source sources k) r a.0 (omega arith) in
+      let rest = all_in_full sources readings h.1 (All-tail IsKnown source sources k) a.1 beyond (omega arith) in
       λ i. first i ∷ rest i
 
   -- one source, a read of which failed once its reader had given all its bytes
   module _ (source : Source) (all : Text) (opens : source.opens ≡ Some true) (bytes : source.bytes ≡ Some all) (n : ℕ) (once : n ≡ 1) (before left : List (Option Text)) (back : HasReturned 1 1 (before ++ left)) where
     gave_all : (given : Text) → AreReadings (source ∷ []) (fails_after given ∷ []) → LeftMet es options (source ∷ []) (fails_after given ∷ []) left → given ≡ all
-    gave_all given a l = sym (append-nil given) ∙ sym (subst (λ rest. Consumes (Some all) rest given) x_is (subst (λ known. Consumes known x given) bytes l.2.2))
+    gave_all given a l = sym (append-nil given) ∙ sym (rw x_is at (rw bytes at l.2.2))
       where
         x : Option Text
         x = l.2.0
 
         left_is : left ≡ x ∷ []
         left_is =
-            let none : l.1 ≡ [] = by_no l.3 (goes_on (file_of source.name (fails_after given))) in
+            let none = by_no l.3 (goes_on (file_of source.name (fails_after given))) in
             l.4 ∙ ap (λ t. l.0 ++ t) none ∙ append-nil l.0 ∙ l.2.1
 
         whole : HasReturned 1 1 (before ++ x ∷ [])
-        whole = subst (λ t. HasReturned 1 1 (before ++ t)) left_is back
+        whole = rw left_is at back
 
         none_before : before ≡ []
         none_before =
-            let len : length (before ++ x ∷ []) ≡ length before + 1 = length-append before (x ∷ []) in
+            let len = length-append before (x ∷ []) in
             let one : 1 ≡ min (length (before ++ x ∷ [])) (2 ^ 64 - 1) = whole.0 in
-            nil_from_length before (omega (arith, len, one))
+            nil_from_length before (omega arith)
 
         x_is : x ≡ Some []
         x_is = elim whole.1 [
           | inl none ↦ absurd (omega arith)
-          | inr some ↦ Any-single (λ rest. rest ≡ Some []) x (subst (λ t. Any (λ rest. rest ≡ Some []) (t ++ x ∷ [])) none_before some)
+          | inr some ↦ Any-single (λ rest. rest ≡ Some []) x (rw none_before at some)
         ]
 
     pub one_broken : (readings : List Reading) → AreReadings (source ∷ []) readings → FailuresMet es options (source ∷ []) readings n → LeftMet es options (source ∷ []) readings left → readings ≡ fails_after all ∷ []
     one_broken [] a h l = absurd a
     one_broken (r ∷ s ∷ rs) a h l = absurd a.1
-    one_broken (not_opened ∷ []) a h l = absurd (false≢true (sym (subst (λ o. IfSome o (λ b. b ≡ false)) opens a.0)))
+    one_broken (not_opened ∷ []) a h l = absurd (false≢true (sym (rw opens at a.0)))
     one_broken (ends_after given ∷ []) a h l =
         let own = all_met source.name (ends_after given) h.0 h.2 in
         let rest = by_no h.3 (goes_on (file_of source.name (ends_after given))) in
         let sum = h.4 in
         absurd (omega arith)
-    one_broken (fails_after given ∷ []) a h l = ap (λ t. fails_after t ∷ []) (gave_all given a l)
+    one_broken (fails_after given ∷ []) a h l = rw (gave_all _ a l)
 
 -- the count of failures tells that all sources were read in full
 pub count_decides : (options : Options) → CountDecides options
-count_decides options es sources readings loud full known are met = all_in_full es options loud full sources readings (unopened sources) known are met (omega arith)
+count_decides options es sources readings loud full known are met = all_in_full es options loud full sources _ (unopened sources) known are met (omega arith)

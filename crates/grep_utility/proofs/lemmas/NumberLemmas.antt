@@ -34,7 +34,7 @@ number_is (b ∷ t) = go (list_all (in_class Digit) (b ∷ t)) (nat_lt (value (b
     go true false e = let same : min (value (b ∷ t)) (2 ^ 64) ≡ 2 ^ 64 = omega (arith, ltb-false _ _ e) in rw (same, e) refl
 
 pub number_none : (t : Text) → digits_of t ≡ None → None ≡ number_of t
-number_none t is = ap (option_and_then less) (sym is) ∙ number_is t
+number_none t is = cc (number_is t)
 
 pub number_large : (t : Text) (v : ℕ) → digits_of t ≡ Some v → 2 ^ 64 ≤ v → None ≡ number_of t
 number_large t v is many = sym (cond-false _ _ _ (le-ltb v (2 ^ 64) many)) ∙ ap (option_and_then less) (sym is) ∙ number_is t
@@ -52,7 +52,7 @@ lines_are (b ∷ t) = go (list_all (in_class Digit) (b ∷ t))
     go true = ap Some (omega arith)
 
 pub lines_none : (t : Text) → digits_of t ≡ None → None ≡ lines_of t
-lines_none t is = ap (option_map (λ n. min n most_around)) (sym is) ∙ lines_are t
+lines_none t is = cc (lines_are t)
 
 pub lines_some : (t : Text) (v w : ℕ) → digits_of t ≡ Some v → w ≡ min v most_around → Some w ≡ lines_of t
-lines_some t v w is same = ap Some same ∙ ap (option_map (λ n. min n most_around)) (sym is) ∙ lines_are t
+lines_some t v w is same = cc (lines_are t)

@@ -1,5 +1,5 @@
 -- One matcher for strings serves for the patterns that are these.
-use Rattle.{grep_utility.proofs.Prelude.{◌≡◌, ◌≤◌, inl, inr, Bool, true, false, All, Any, List, [], ◌∷◌, ◌++◌, length, map, refl, sym, ap, ◌∙◌, subst, arith, map-append, length-map, All-nil, All-cons, All-push, AllZip, Syntax, Text, Expression, alt, alt_more, choice, Holds, folded, IsMeant, literal_meaning, AddsStrings, string_expression, IsReadable, Matcher, matched_expression, room_of, wants_whole, Options, IsSameChoice, Pattern, meaning, meant_by, pattern_expression, IsCounted, ArePatterns, AreGrouped, AreReadAs, IsJoined, most_kept, AreStrings, IsPattern, HasNoNewline, terminated, All-append, append_assoc}, re_syntax.proofs.lemmas.{SomeOfJoined.{Any-left, Any-right, Any-append-cases}, LinesLaws.terminated-append}, re_search.proofs.lemmas.ReadingLaws.read_meant, grep_core.proofs.lemmas.{MatcherLemmas.AllZip-append, SameChoice.{alt-is_same, other_way}}}
+use Rattle.{grep_utility.proofs.Prelude.{◌≡◌, ◌≤◌, inl, inr, Bool, true, false, All, Any, List, [], ◌∷◌, ◌++◌, length, map, refl, sym, ap, ◌∙◌, arith, map-append, length-map, All-nil, All-cons, All-push, AllZip, Syntax, Text, Expression, alt, choice, Holds, folded, IsMeant, literal_meaning, AddsStrings, string_expression, IsReadable, Matcher, matched_expression, room_of, wants_whole, Options, IsSameChoice, Pattern, meaning, meant_by, pattern_expression, IsCounted, ArePatterns, AreGrouped, AreReadAs, IsJoined, most_kept, AreStrings, IsPattern, HasNoNewline, terminated, All-append, append_assoc}, re_syntax.proofs.lemmas.{SomeOfJoined.{Any-left, Any-right, Any-append-cases}, LinesLaws.terminated-append}, re_search.proofs.lemmas.ReadingLaws.read_meant, grep_core.proofs.lemmas.{MatcherLemmas.AllZip-append, SameChoice.{alt-is_same, other_way}}}
 
 -- ---- what one pattern means
 
@@ -11,20 +11,20 @@ folded_choice (e ∷ f ∷ es) = folded_alt (e ∷ f ∷ es)
   where
     folded_alt : (es : List Expression) → folded (alt es) ≡ alt (map folded es)
     folded_alt [] = refl
-    folded_alt (e ∷ es) = ap (λ d. alt_more (folded e) d) (folded_alt es)
+    folded_alt (e ∷ es) = rw (folded_alt es)
 
 -- what a choice of strings means is a choice of what they mean
 meant_choice : (fold : Bool) (strings : List Text) → meaning fold (choice (map string_expression strings)) ≡ choice (map (literal_meaning fold) strings)
 meant_choice false strings = refl
-meant_choice true strings = folded_choice (map string_expression strings) ∙ ap choice (each strings)
+meant_choice true strings = cc (folded_choice (map string_expression strings), each strings)
   where
     each : (strings : List Text) → map folded (map string_expression strings) ≡ map (literal_meaning true) strings
     each [] = refl
-    each (t ∷ ts) = ap (λ es. folded (string_expression t) ∷ es) (each ts)
+    each (t ∷ ts) = rw (each ts)
 
 -- a choice is the same as its branches
 choice_same : (es : List Expression) → 1 ≤ length es → IsSameChoice es (choice es ∷ [])
-choice_same [] some = absurd (omega (arith, some))
+choice_same [] some = absurd (omega arith)
 choice_same (e ∷ []) some = λ line i j. (λ a. a, λ a. a)
 choice_same (e ∷ f ∷ es) some = other_way (alt (e ∷ f ∷ es) ∷ []) (e ∷ f ∷ es) (alt-is_same (e ∷ f ∷ es))
 
@@ -61,11 +61,10 @@ patterns_meant syntax fold (t ∷ ts) (p ∷ ps) are =
 pub next_read : (fold : Bool) (done : List Pattern) (strings : List Text) (p : Pattern) (old new : Text) → AreReadAs fold done strings → (adds : AddsStrings (pattern_expression p) old new) → AreReadAs fold (done ++ p ∷ []) (strings ++ adds.each.strings)
 next_read fold done strings p old new read adds =
     let added = adds.each.strings in
-    let is : meant_by fold p ≡ choice (map (literal_meaning fold) added) = ap (meaning fold) (adds.is ∙ ap choice adds.each.are) ∙ meant_choice fold added in
-    let some : 1 ≤ length (map (literal_meaning fold) added) = omega (arith, adds.some, ap length adds.each.are, length-map added string_expression, length-map added (literal_meaning fold)) in
-    subst (IsSameChoice (map (literal_meaning fold) (strings ++ added))) (sym (map-append (meant_by fold) done (p ∷ [])))
-    (subst (λ ds. IsSameChoice ds (map (meant_by fold) done ++ meant_by fold p ∷ [])) (sym (map-append (literal_meaning fold) strings added))
-    (more_choices (map (literal_meaning fold) strings) (map (meant_by fold) done) (map (literal_meaning fold) added) (meant_by fold p) read some is))
+    let is : meant_by fold p ≡ choice (map (literal_meaning fold) added) = cc (adds.is ∙ ap choice adds.each.are, meant_choice fold added) in
+    rw (map-append (meant_by fold) done (p ∷ []))
+    (rw (map-append (literal_meaning fold) strings added)
+    (more_choices (map (literal_meaning fold) strings) (map (meant_by fold) done) (map (literal_meaning fold) added) _ read (omega (arith, ap length adds.each.are, length-map added string_expression, length-map added (literal_meaning fold))) is))
 
 -- some texts are read as the strings so far, and the others are left
 abbrev pub StringsSoFar : Syntax → Bool → List Text → List Text → Text → Type 0
@@ -80,7 +79,7 @@ next_string syntax fold text left all p old new (done, is, strings, are, lines, 
       strings ++ added,
       adds.each.added ∙ ap (λ l. l ++ terminated added) are ∙ sym (terminated-append strings added),
       All-append HasNoNewline strings added lines adds.each.lines,
-      (patterns ++ p ∷ [], AllZip-append (IsPattern syntax fold) done (text ∷ []) patterns (p ∷ []) texts (read, tt), next_read fold patterns strings p old new meant adds),
+      (patterns ++ p ∷ [], AllZip-append (IsPattern syntax fold) done (text ∷ []) patterns (p ∷ []) texts (read, tt), next_read fold patterns strings p _ _ meant adds),
     )
 
 -- one matcher for all strings serves for them
@@ -88,10 +87,10 @@ pub joined_grouped : (options : Options) (patterns : List Pattern) (strings : Li
     → IsJoined options strings matchers → AreGrouped options.line_regexp (map (meant_by options.ignore_case) patterns) matchers []
 joined_grouped options patterns strings matchers read some joined =
     let meanings = map (literal_meaning options.ignore_case) strings in
-    let choice : IsSameChoice (matched_expression joined.one ∷ []) meanings = subst (λ e. IsSameChoice (e ∷ []) meanings) (sym joined.expression) (alt-is_same meanings) in
+    let choice : IsSameChoice (matched_expression joined.one ∷ []) meanings = rw joined.expression (alt-is_same meanings) in
     rw joined.alone (record {
       same = same_trans (matched_expression joined.one ∷ []) meanings (map (meant_by options.ignore_case) patterns) choice read;
-      fewer = omega (arith, some, length-map patterns (meant_by options.ignore_case));
-      wholes = All-push (λ w. w ≡ options.line_regexp) [] (wants_whole joined.one) (λ i d h. absurd (omega (arith, h))) joined.whole;
-      rooms = All-push (λ n. n ≤ most_kept) [] (room_of joined.one) (λ i d h. absurd (omega (arith, h))) (omega (arith, joined.room));
+      fewer = omega (arith, length-map patterns (meant_by options.ignore_case));
+      wholes = All-push (λ w. w ≡ options.line_regexp) [] (wants_whole joined.one) (λ i d h. absurd (omega arith)) joined.whole;
+      rooms = All-push (λ n. n ≤ most_kept) [] (room_of joined.one) (λ i d h. absurd (omega arith)) (omega arith);
     })

@@ -1,5 +1,5 @@
 -- The sources of patterns, one more at a time.
-use Rattle.{grep_utility.{proofs.{Prelude.{◌≡◌, ℕ, suc, ◌+◌, ◌<◌, true, false, List, [], ◌∷◌, ◌++◌, Option, Ok, Err, IfSome, inl, inr, length, map, drop, get_or, refl, sym, ap, ◌∙◌, subst, append_assoc, append-nil, add-one, drop-cons, Text, newline, list_of, joined, terminated, AreListed, File, whole, broken, StandsFor, IsReadingOf, file_of, failures_of, open_source, count_more, PatternSource, CommandFault, Folder, patterns_by, GivesPatterns, folder_after, folder_after_all, GivePatterns, FirstUnread, Adds, AddsLines, AddsSource, StopsFor, PatternsFrom, list, file, given_source}, lemmas.CollectingLemmas.Adds-trans}, specs.{Patterns.{FileGives, Unread, OneReaderEach}, Working.CollectedTexts.StopsBy}}, re_syntax.{specs.Lines.lines_of, proofs.lemmas.LinesLaws.{lines_of-terminated, AreListed-list_of}}, grep_core.{proofs.lemmas.{OneFile.whole-failures, OpenedLemmas.{opened, count_on, few_failures}}, specs.Messages.read_error}}
+use Rattle.{grep_utility.{proofs.{Prelude.{◌≡◌, ℕ, suc, ◌+◌, ◌<◌, true, false, List, [], ◌∷◌, ◌++◌, Option, Ok, Err, IfSome, inl, inr, length, map, drop, get_or, refl, sym, ap, ◌∙◌, subst, append_assoc, append-nil, add-one, drop-cons, Text, newline, list_of, joined, terminated, AreListed, whole, broken, StandsFor, IsReadingOf, file_of, failures_of, count_more, PatternSource, CommandFault, Folder, GivesPatterns, folder_after, folder_after_all, GivePatterns, FirstUnread, Adds, AddsLines, AddsSource, StopsFor, PatternsFrom, list, file, given_source}, lemmas.CollectingLemmas.Adds-trans}, specs.{Working.CollectedTexts.StopsBy, Patterns.{FileGives, Unread, OneReaderEach}}}, re_syntax.{specs.Lines.lines_of, proofs.lemmas.LinesLaws.{lines_of-terminated, AreListed-list_of}}, grep_core.{proofs.lemmas.{OneFile.whole-failures, OpenedLemmas.{opened, count_on, few_failures}}, specs.Messages.read_error}}
 use Rattle.grep_core.specs.Reading as reading
 use Rattle.grep_utility.specs.declared.prepare.CommandFault.TheVariants as fault
 
@@ -11,40 +11,40 @@ module _ {R : Type 0} (remaining : R → Option Text) (failures : R → ℕ) (so
       → (did : reading.Reading) × IsReadingOf source did × (file_of source.name did ≡ record { name = source.name; lines = lines; ending = ending }) × (after ≡ count_more before (failures_of did))
   gave lines ending s = (
     s.reading,
-    opened source s.reading opens (subst (λ known. IsReadingOf (open_source source.name known) s.reading) bytes s.is_reading),
+    opened source s.reading opens (rw bytes at s.is_reading),
     s.file,
-    counted ∙ ap (count_more before) (s.counted ∙ ap (λ n. count_more n (failures_of s.reading)) fresh) ∙ count_on before (failures_of s.reading) (few_failures s.reading),
+    counted ∙ ap (count_more before) (cc s.counted) ∙ count_on before (failures_of s.reading) (few_failures s.reading),
   )
 
   -- all its lines were added
   pub file_whole : (old new : Text) → AddsLines (remaining reader) (remaining read) (failures reader) (failures read) old new true → ((texts : List Text) × FileGives source (Ok texts) × Adds old new texts) × (after ≡ before)
   file_whole old new h =
       let did = gave h.texts whole (h.stands source.name) in
-      let none : failures_of did.0 ≡ 0 = whole-failures source.name did.0 (ap (λ (f : File). f.ending) did.2) in
-      ((h.texts, (did.0, did.1, sym (ap (λ (f : File). patterns_by f.ending f (failures_of did.0)) did.2)), h.adds), did.3 ∙ ap (count_more before) none)
+      let none = whole-failures source.name did.0 (rw did.2) in
+      ((h.texts, (did.0, did.1, sym (rw did.2)), h.adds), did.3 ∙ ap (count_more before) none)
 
   -- not all of them
   pub file_broken : (old new : Text) → AddsLines (remaining reader) (remaining read) (failures reader) (failures read) old new false → StopsBy (λ unread. FileGives source (Err unread)) before after (read_error source.name)
   file_broken old new h =
       let did = gave h.texts broken (h.stands source.name) in
-      (failures_of did.0, (did.0, did.1, sym (ap (λ (f : File). patterns_by f.ending f (failures_of did.0)) did.2)), did.3)
+      (failures_of did.0, (did.0, did.1, sym (rw did.2)), did.3)
 
 -- ---- a list
 
 terminated-joined : (t : Text) (ts : List Text) → terminated (t ∷ ts) ≡ joined (t ∷ ts) ++ newline ∷ []
 terminated-joined t [] = refl
-terminated-joined t (u ∷ ts) = ap (λ l. t ++ newline ∷ l) (terminated-joined u ts) ∙ sym (append_assoc t (newline ∷ joined (u ∷ ts)) (newline ∷ []))
+terminated-joined t (u ∷ ts) = cc (terminated-joined u ts, append_assoc t (newline ∷ joined (u ∷ ts)) (newline ∷ []))
 
 -- the patterns of a list, each followed by a newline, are its bytes and one newline
 terminated-list : (text : Text) (ts : List Text) → AreListed text ts → terminated ts ≡ text ++ newline ∷ []
 terminated-list text [] h = absurd (h.1 refl)
-terminated-list text (t ∷ ts) h = terminated-joined t ts ∙ ap (λ l. l ++ newline ∷ []) (sym h.2)
+terminated-list text (t ∷ ts) h = cc (terminated-joined t ts, h.2)
 
 -- its patterns were added
 pub list_added : (folder : Folder) (old new text : Text) → new ≡ old ++ (text ++ newline ∷ []) → AddsSource folder (list text) old new
 list_added folder old new text is =
     let listed = AreListed-list_of text in
-    (list_of text, refl, record { bytes = is ∙ ap (λ l. old ++ l) (sym (terminated-list text (list_of text) listed)); no_newlines = listed.0 })
+    (list_of text, refl, record { bytes = cc (terminated-list text (list_of text) listed); no_newlines = listed.0 })
 
 -- ---- all sources
 
@@ -62,7 +62,7 @@ module _ (start : Folder) (all : List PatternsFrom) (now : Folder) (source : Pat
   sources_more after h = record {
     texts = s.texts ++ h.0;
     adds = Adds-trans [] bytes after s.texts h.0 s.adds h.2;
-    give = λ more k. subst (λ l. GivePatterns start all l) (sym (append_assoc s.texts h.0 more)) (s.give (h.0 ++ more) (h.0, more, h.1, k, refl));
+    give = λ more k. rw (append_assoc s.texts h.0 more) (s.give (h.0 ++ more) (h.0, more, h.1, k, refl));
     stop = λ unread k. s.stop unread (inr (h.0, h.1, k));
     used = s.used;
   }
@@ -77,7 +77,7 @@ module _ (start : Folder) (all : List PatternsFrom) (now : Folder) (source : Pat
 
 -- what its readers had left is followed by what those of the others had
 pub each_more : (source : PatternsFrom) (sources : List PatternsFrom) (own others : List (Option Text)) → OneReaderEach (source ∷ []) own → OneReaderEach sources others → OneReaderEach (source ∷ sources) (own ++ others)
-each_more (list text) sources own others none h = subst (λ l. OneReaderEach sources (l ++ others)) (sym none) h
+each_more (list text) sources own others none h = rw none h
 each_more (file name) sources own others (rest, more, none, is) h = (rest, others, h, ap (λ l. l ++ others) is ∙ ap (λ l. rest ∷ (l ++ others)) none)
 
 -- all were read

@@ -1,5 +1,5 @@
 -- One command from its words to its bytes, worked by hand.
-use Rattle.{grep_utility.proofs.{Prelude.{◌≡◌, ℕ, zero, suc, ◌≤◌, nat_eq, true, false, List, [], ◌∷◌, Option, Some, Ok, All, refl, sym, ap, ◌∙◌, subst, arith, inl, inr, codes, ⊎_elim, ◌⊎◌, ⊤, false≢true, All-nil, All-cons, Basic, Text, Expression, byte, Matches, list_of, IsMeant, IsReadable, Options, no_options, Error, IsShown, Groups, File, whole, missing, Selected, HasSelected, FaultMet, Messages, StatusOf, Out, Source, Writer, devices, Steps, CommandGives, Folder, sources_named, IsKnown, full_files, unopened, Predicts, FailuresAre, Wrote, ReportsMemory, Asked, list, read, word_of, meaning_of, row_words, row_text, row_output, row_messages, RowFollows}, lemmas.FullLemmas.predicted}, std.specs.{Str.chars, Fmt.digits}, re_syntax.{specs.{Lines.lines_of, BasicTokens.ordinary}, proofs.lemmas.{Decisions.{Any-first, Any-later, Any-cases, Any-none}, SpelledParts.{single, none, item, last, spells}}}}
+use Rattle.{grep_utility.proofs.{Prelude.{◌≡◌, ℕ, zero, suc, ◌≤◌, nat_eq, true, false, List, [], ◌∷◌, Option, Some, Ok, All, refl, sym, ap, subst, arith, inl, inr, codes, ⊎_elim, ◌⊎◌, ⊤, false≢true, All-nil, All-cons, Basic, Text, Expression, byte, Matches, list_of, IsMeant, IsReadable, Options, no_options, Error, IsShown, Groups, File, whole, missing, Selected, HasSelected, FaultMet, Messages, StatusOf, Out, Source, Writer, devices, Steps, CommandGives, Folder, sources_named, IsKnown, full_files, unopened, Predicts, FailuresAre, Wrote, ReportsMemory, Asked, list, read, word_of, meaning_of, row_words, row_text, row_output, row_messages, RowFollows}, lemmas.FullLemmas.predicted}, std.specs.{Str.chars, Fmt.digits}, re_syntax.{specs.{Lines.lines_of, BasicTokens.ordinary}, proofs.lemmas.{Decisions.{Any-first, Any-later, Any-cases, Any-none}, SpelledParts.{single, none, item, last, spells}}}}
 
 -- ---- what the words ask for
 
@@ -22,7 +22,7 @@ in_itself : Matches (byte 97) (97 ∷ []) false
 in_itself = (0, 1, omega arith, (97, refl, refl, refl))
 
 not_in : (x : ℕ) → nat_eq x 97 ≡ false → Matches (byte 97) (x ∷ []) false → ⊥
-not_in x other (zero, j, _, (b, at, is, _)) = let same : x ≡ b = cc at in false≢true (sym other ∙ ap (λ c. nat_eq c 97) same ∙ is)
+not_in x other (zero, j, _, (b, at, is, _)) = let same : x ≡ b = cc at in false≢true (cc)
 not_in x other (suc i, j, _, (b, at, is, _)) = let no : ⊥ = cc at in no
 
 abbrev pub es : List Expression
@@ -61,7 +61,7 @@ are_files other = refl
 -- ---- what is written
 
 shown : (k : ℕ) → k ≤ 2 → IsShown es row_options (record { before = 2; after = 0 }) row_lines k
-shown k near = record { place = 2; on = omega arith; selected = selected_a; before = omega arith; after = omega (arith, near) }
+shown k near = record { place = 2; on = omega arith; selected = selected_a; before = omega arith; after = omega arith }
 
 groups : Groups es row_options (record { before = 2; after = 0 }) (Some (codes "h")) (λ n. Some n) row_lines (codes "--" ∷ row_output)
 unfolding digits
@@ -116,7 +116,7 @@ module _ (folder : Folder) (opens : folder.opens (codes "h") ≡ Some true) (byt
       (All-cons IsKnown (missing_source other) [] tt (All-nil IsKnown))
 
   files_are : full_files (sources_named folder (codes "h" ∷ codes "missing" ∷ [])) ≡ row_files
-  files_are = ap full_files sources_are ∙ are_files other
+  files_are = cc (are_files other)
 
   -- what the words foretell
   pub row_predicted : Predicts folder row_words 1 row_output row_messages Error
@@ -141,7 +141,7 @@ module _ (folder : Folder) (opens : folder.opens (codes "h") ≡ Some true) (byt
 
 -- the row follows
 pub row_follows : RowFollows
-row_follows folder opens bytes none old new status h n = predicted folder row_words row_output row_messages 1 Error (row_predicted folder opens bytes none) (λ left. ⊤) old new status h n
+row_follows folder opens bytes none = predicted folder row_words row_output row_messages 1 Error (row_predicted _ opens bytes none) (λ left. ⊤)
 
 -- the same for what a call says of its devices
 module _ (folder : Folder) (opens : folder.opens (codes "h") ≡ Some true) (bytes : folder.bytes (codes "h") ≡ Some row_text) (none : folder.opens (codes "missing") ≡ Some false) where
@@ -149,4 +149,4 @@ module _ (folder : Folder) (opens : folder.opens (codes "h") ≡ Some true) (byt
       → CommandGives folder given (devices out messages before steps) (devices new_out new_messages after new_steps) status words → FailuresAre 1 (devices out messages 0 steps) (devices new_out new_messages counted new_steps)
       → Wrote row_output row_messages Error (devices out messages 0 steps) (devices new_out new_messages counted new_steps) status ⊎ ReportsMemory messages new_messages
   row_given given out messages new_out new_messages before after counted steps new_steps status words at_first same_count same_words h counts =
-      predicted folder row_words row_output row_messages 1 Error (row_predicted folder opens bytes none) given (devices out messages 0 steps) (devices new_out new_messages counted new_steps) status (rw (same_words, at_first, ← same_count) at h) counts
+      predicted _ _ _ _ 1 _ (row_predicted _ opens bytes none) given _ _ status (rw (same_words, at_first, ← same_count) at h) counts

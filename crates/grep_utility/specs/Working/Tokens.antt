@@ -1,18 +1,16 @@
 -- How words are cut into pieces from the first one on, and what is made of them.
-use Rattle.std.specs.Prelude.{Some, Option, ◌≡◌, Result, Ok, ◌∷◌, List, Err, map, [], None}
+use Rattle.std.specs.Prelude.{Some, List, None, ◌≡◌, Err, Result, Ok, [], Option, map}
 use Rattle.std.specs.{String.string_bytes, Borrow.Bor, Str.chars}
-use Rattle.{re_syntax.specs.Bytes.Text, grep_utility.specs.Words.{ends_options, list, PatternsFrom}}
-use Rattle.grep_utility.specs.Words.{fault, source, Asked, flag, read, around, group, file}
-use Rattle.grep_utility.specs.Words.{reads_as, texts_of, pieces, a_group, an_operand, Draft, Token}
-use Rattle.grep_utility.specs.{Words.{word_of, operand}, declared.words.PatternSource.PatternSource}
-use Rattle.grep_utility.specs.declared.words.tokens.Word.TheVariants.{Operand, EndOfOptions, Group}
-use Rattle.grep_utility.specs.declared.words.{tokens.WordTokens.WordTokens, Request.Request}
-use Rattle.grep_utility.specs.declared.words.UsageFault.{UsageFault, TheVariants.Memory}
+use Rattle.re_syntax.specs.Bytes.{Text}
+use Rattle.grep_utility.specs.declared.words.tokens.WordTokens.{WordTokens}
+use Rattle.grep_utility.specs.declared.words.{PatternSource.PatternSource, Request.Request}
+use Rattle.grep_utility.specs.declared.words.UsageFault.{TheVariants.Memory, UsageFault}
+use Rattle.grep_utility.specs.Words.{source, texts_of, operand, read, file, Draft, around, pieces}
+use Rattle.grep_utility.specs.Words.{Token, list, reads_as, group, flag, fault, PatternsFrom, Asked}
 use Rattle.grep_utility.specs.declared.words.PatternSource.TheVariants as given
 use Rattle.grep_utility.specs.declared.words.Draft as code_draft
 use Rattle.grep_utility.specs.declared.words.tokens.Token as code
 use Rattle.grep_utility.specs.declared.words.tokens.Token.TheVariants as piece
-use Rattle.grep_utility.specs.declared.words.tokens.Word as kind
 
 -- ---- requests by their texts
 
@@ -52,12 +50,6 @@ token_of (Err f) = fault f
 -- the request and the numbers so far
 abbrev pub drafted : code_draft.Draft → Draft
 drafted d = record { asked = asked d.request; numbers = d.around }
-
--- what a word is, with the first character of a group
-abbrev pub IsWord : Text → kind.Word → Type 0
-IsWord word Operand = word_of word ≡ an_operand
-IsWord word EndOfOptions = word_of word ≡ ends_options
-IsWord word (Group letter rest) = word_of word ≡ a_group (letter ∷ chars rest.now)
 
 -- the pieces of words, where these letters of a group are left before them, or `--` was read
 abbrev pub tokens_from : Option (Bor Text) → List Text → List Token

@@ -1,9 +1,9 @@
 //! The options with their arguments, and the operands, of a command's words (XBD 12.2).
-ghost use Rattle.std.specs.{Prelude.{◌≡◌, ◌∷◌, [], MatchOption, None}, Str.chars};
-ghost use Rattle.std.specs.Iterator.{YieldsFirstBy, YieldsFirstRef, item_count};
-ghost use Rattle.grep_utility.specs.Words.{group, meaning_of, pieces, texts_of, with_argument};
-ghost use Rattle.grep_utility.specs.Working.Tokens.{AreUsedUp, IsWord, token_of, tokens_left};
-ghost use Rattle.grep_utility.specs.Working.Tokens.{words_left};
+ghost use Rattle.std.specs.Prelude.{◌≡◌, ◌∷◌, [], MatchOption, None, bytes_eq, codes, false};
+ghost use Rattle.std.specs.{Str.chars, Iterator.{YieldsFirstBy, YieldsFirstRef, item_count}};
+ghost use Rattle.grep_utility.specs.Words.{a_group, an_operand, group, meaning_of, pieces};
+ghost use Rattle.grep_utility.specs.Words.{texts_of, with_argument, word_of};
+ghost use Rattle.grep_utility.specs.Working.Tokens.{AreUsedUp, token_of, tokens_left, words_left};
 
 use crate::number::read_lines;
 use crate::words::UsageFault;
@@ -42,16 +42,6 @@ pub enum Token<'a> {
     /// This number of lines is shown on a side of selected ones.
     Around(Side, u64),
     Operand(&'a str),
-}
-
-/// What a word is, where no `--` is before it.
-#[derive(Clone, Copy, Drop)]
-enum Word<'a> {
-    Operand,
-    /// The word `--`.
-    EndOfOptions,
-    /// A hyphen and options: the first of them and the rest.
-    Group(char, &'a str),
 }
 
 /// What the character means as an option (XCU grep, OPTIONS; `A`, `B`, `C` and `o` after the GNU
@@ -108,23 +98,18 @@ fn split_first_char(text: &str) -> Option<(char, &str)>
     Some((first, characters.as_str()))
 }
 
-/// What the word is (XBD 12.2, Guidelines 4, 5, 10 and 13).
-fn kind_of_word(word: &str) -> Word<'_>
-    ensures { IsWord word.now result }
+/// The first option of a word other than `--`, and what follows it, if the word is a group of
+/// options (XBD 12.2, Guidelines 4, 5 and 13).
+fn group_of(word: &str) -> Option<(char, &str)>
+    requires { bytes_eq word.now (codes "--") ≡ false }
+    ensures { MatchOption result (word_of word.now ≡ an_operand) (λ found.
+        word_of word.now ≡ a_group (found.0 ∷ chars found.1.now)) }
 {
-    if word == "--" {
-        return Word::EndOfOptions;
-    }
-    let Some((first, letters)) = split_first_char(word) else {
-        return Word::Operand;
-    };
+    let (first, letters) = split_first_char(word)?;
     if first != '-' {
-        return Word::Operand;
+        return None;
     }
-    match split_first_char(letters) {
-        None => Word::Operand,
-        Some((letter, rest)) => Word::Group(letter, rest),
-    }
+    split_first_char(letters)
 }
 
 /// The pieces of words from the first word on, or the faults in their place.
@@ -171,13 +156,13 @@ impl<'a> WordTokens<'a> {
         ensures { YieldsFirstBy token_of tokens_left self.old result self.new }
     {
         let word = self.next_word()?;
-        match kind_of_word(word) {
-            Word::Operand => Some(Ok(Token::Operand(word))),
-            Word::Group(letter, rest) => Some(self.option(letter, rest)),
-            Word::EndOfOptions => {
-                self.letters = None;
-                self.operand()
-            }
+        if word == "--" {
+            self.letters = None;
+            return self.operand();
+        }
+        match group_of(word) {
+            Some((letter, rest)) => Some(self.option(letter, rest)),
+            None => Some(Ok(Token::Operand(word))),
         }
     }
 

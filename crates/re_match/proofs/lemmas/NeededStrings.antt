@@ -27,8 +27,7 @@ module _ (texts : List Text) (line : Text) where
   choice_matched : (es : List Expression) → All (NeedsOneOf texts) es → (i j : ℕ) → j ≤ length line → Holds line (alt es) i j → Matches (any_literal (record { texts = texts; fold = false })) line false
   choice_matched [] each i j within h = absurd h
   choice_matched (e ∷ es) each i j within (inl h) =
-      let n = All-head (NeedsOneOf texts) e es each in
-      stands_matched n.1 e n.4 (n.0, n.1, n.2, n.3, refl) i j within h
+      let n = All-head (NeedsOneOf texts) e es each in stands_matched n.1 e n.4 (n.0, n.1, n.2, n.3, refl) i j within h
   choice_matched (e ∷ es) each i j within (inr h) = choice_matched es (All-tail (NeedsOneOf texts) e es each) i j within h
 
 -- texts are needed if each branch needs some of them

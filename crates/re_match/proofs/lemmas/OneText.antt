@@ -11,9 +11,9 @@ module _ (text line : Text) where
   -- a stretch found from a place on is an occurrence in what is left from there
   found-occurs : {from i j : ℕ} → IsFound (sequence (map byte text) ∷ []) line false from i j → OccursAt (drop from line) text (i - from) × (j ≡ i + length text)
   found-occurs {from} {i} {j} f =
-      let stands : drop i line ≡ text ++ drop j line = holds-stands line text i j (Any-single (λ e. Holds line e i j) _ f.holds) in
+      let stands = holds-stands line text i j (Any-single (λ e. Holds line e i j) _ f.holds) in
       let same_place : from + (i - from) ≡ i = omega arith in
-      let left : drop (i - from) (drop from line) ≡ text ++ drop j line = drop-drop (i - from) from line ∙ ap (λ n. drop n line) same_place ∙ stands in
+      let left : drop (i - from) (drop from line) ≡ text ++ drop j line = cc (drop-drop (i - from) from line, stands) in
       (stands-occurs (drop from line) text (drop j line) (i - from) (omega (arith, length-drop from line)) left, place_after _ _ i j f.not_empty f.on_line stands)
 
   -- an occurrence of a text that is not empty, in what is left from a place on, is a stretch found
@@ -26,8 +26,7 @@ module _ (text line : Text) where
   -- where a search from a place on finds no occurrence of the text, there is no part
   pub no_part : (from : ℕ) → FindsNeedle (drop from line) text 0 None → (i j : ℕ) → IsFound (sequence (map byte text) ∷ []) line false from i j → ⊥
   no_part from none i j f =
-      let o = found-occurs f in
-      none (i - from) (omega arith) (omega (arith, o.0.fits)) o.0
+      let o = found-occurs f in none (i - from) (omega arith) (omega (arith, o.0.fits)) o.0
 
   -- the first occurrence from a place on of a text that is not empty is the part
   pub first_part : (from k : ℕ) → 0 < length text → FindsNeedle (drop from line) text 0 (Some k) → IsPart (sequence (map byte text) ∷ []) line false from (from + k) (from + k + length text)

@@ -17,10 +17,8 @@ module _ (l : Literals) (free : All HasNoNewline (keyed l)) (block : Text) where
   -- no string goes over a newline
   over_newline : (i j n : ℕ) → i ≤ n → n < j → j ≤ length block → get_or block n 0 ≡ newline → IsString (keyed l) (drop i (take j (keys l.fold block))) → ⊥
   over_newline i j n low high within at (k, w, lt, there, is) =
-      let bytes = keys l.fold block in
-      let size = length-map block (key l.fold) in
-      let place : i + (n - i) ≡ n = omega arith in
-      let below : i + (n - i) < j = omega arith in
+      let bytes = keys l.fold block in let size = length-map block (key l.fold) in
+      let place : i + (n - i) ≡ n = omega arith in let below : i + (n - i) < j = omega arith in
       let short : n - i < length (drop i (take j bytes)) = omega (arith, length-drop i (take j bytes), length-take j bytes) in
       let here : get_or bytes n 0 ≡ newline = get_or-map (key l.fold) block n 0 0 (omega arith) ∙ ap (key l.fold) at ∙ eqb-true (key l.fold newline) newline (key_newline l.fold newline) in
       let clean : HasNoNewline (drop i (take j bytes)) = rw (there ∙ is) at (free k w lt) in
@@ -33,20 +31,17 @@ module _ (l : Literals) (free : All HasNoNewline (keyed l)) (block : Text) where
     -- a string that ends there begins in the same line
     begins_in_line : (i : ℕ) → Occurs (keyed l) 0 (keys l.fold block) i stop → start ≤ i
     begins_in_line i (low, some, within, is) = by_contra _ _ (λ before.
-        let last : start - 1 + 1 ≡ start = omega arith in
-        let high : start - 1 < stop = omega (arith, start_low) in
+        let last : start - 1 + 1 ≡ start = omega arith in let high : start - 1 < stop = omega (arith, start_low) in
         over_newline i _ _ (omega arith) high fits (sym (get_or-take stop block (start - 1) 0 high) ∙ newline_before (take stop block) (start - 1) front last) is)
 
     -- the line around the first end has a string
     pub set_around : (end : ℕ) → EndsFirst (keyed l) (keys l.fold block) (Some stop) → HasNoNewline (drop start (take stop block)) → IsLineFrom block start end → Matches (any_literal l) (slice_range block start end) false
     set_around end ((i, o), first) none cut =
-        let low = begins_in_line i o in
-        let near = place_in_line block start stop end fits start_low none cut in
-        let size = length_range block start end (omega arith) in
-        let from : start + (i - start) ≡ i = omega arith in
+        let low = begins_in_line i o in let near = place_in_line block start stop end fits start_low none cut in
+        let size = length_range block start end (omega arith) in let from : start + (i - start) ≡ i = omega arith in
         let to : start + (stop - start) ≡ stop = omega (arith, start_low) in (
           i - start,
           stop - start,
           omega arith,
-          (any_shift block start end (i - start) (stop - start) (omega (arith, cut.1)) (omega (arith, low, o.1)) (omega (arith, near, start_low)) l).1 (rw (from, to) (stands_any l block i stop (omega (arith, o.1)) fits o.3)),
+          (any_shift block start end (i - start) (stop - start) (omega (arith, cut.1)) (omega (arith, o.1)) (omega (arith, start_low)) l).1 (rw (from, to) (stands_any l block i stop (omega (arith, o.1)) fits o.3)),
         )

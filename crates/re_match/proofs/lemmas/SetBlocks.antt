@@ -15,16 +15,15 @@ module _ (strings : List Text) (fold : Bool) where
 
   pub ends_before : (line after : Text) (k : ℕ) → StringEnds line k → StringEnds (line ++ after) k
   ends_before line after k (i, (low, some, within, is)) =
-      let joined : keys fold (line ++ after) ≡ keys fold line ++ keys fold after = map-append (key fold) line after in
-      let same : take k (keys fold (line ++ after)) ≡ take k (keys fold line) = ap (take k) joined ∙ take-append-le k (keys fold line) (keys fold after) within in
-      (i, (low, some, omega (arith, ap length joined, length-append (keys fold line) (keys fold after)), rw same is))
+      let same : take k (keys fold (line ++ after)) ≡ take k (keys fold line) = cc (map-append (key fold) line after, take-append-le k (keys fold line) (keys fold after) within) in
+      (i, (low, some, omega (arith, ap length (map-append (key fold) line after), length-append (keys fold line) (keys fold after)), rw same is))
 
   pub ends_after : (front line : Text) (k : ℕ) → StringEnds line k → StringEnds (front ++ line) (length front + k)
   ends_after front line k (i, (low, some, within, is)) =
       let joined = map-append (key fold) front line in
       let piece : drop (length front + i) (take (length front + k) (keys fold (front ++ line))) ≡ drop i (take k (keys fold line)) =
       rw (joined, ← size front) (cc (take-append-add (keys fold front) (keys fold line) k, drop-append-add (keys fold front) (take k (keys fold line)) i)) in
-      (length front + i, (omega arith, omega (arith, some), omega (arith, within, ap length joined, length-append (keys fold front) (keys fold line), size front), rw piece is))
+      (length front + i, (omega arith, omega arith, omega (arith, ap length joined, length-append (keys fold front) (keys fold line), size front), rw piece is))
 
 -- ---- lines that are passed
 
@@ -40,16 +39,14 @@ module _ (l : Literals) (none_empty : IsString (keyed l) [] → ⊥) where
   pub passes_set_block : (block : Text) → IsBlock block → EndsFirst strings (keys l.fold block) None → PassesUnmatched (any_literal l) false block (length block)
   passes_set_block block whole none =
       let (lines, rest, free, all, is, counted) =
-      passes_free_block (StringEnds strings l.fold) (ends_within strings l.fold) (ends_before strings l.fold) (ends_after strings l.fold) block whole
-      (λ k below (i, o). none i k o) in
+      passes_free_block (StringEnds strings l.fold) (ends_within strings l.fold) (ends_before strings l.fold) (ends_after strings l.fold) block whole (λ k below (i, o). none i k o) in
       (lines, rest, free, λ i d below. unmatched _ (all i d below), is, counted)
 
   -- where one is, the lines before the one in which the first ends are passed
   pub passes_set_front : (block : Text) (end count : ℕ) → end ≤ length block → EndsFirst strings (keys l.fold block) (Some end) → PassesAll (λ _. ⊤) (take end block) count → PassesUnmatched (any_literal l) false block count
   passes_set_front block end count inside (there, first) front =
       let (lines, rest, free, all, is, counted) =
-      passes_free_front (StringEnds strings l.fold) (ends_within strings l.fold) (ends_before strings l.fold) (ends_after strings l.fold) block end count inside
-      (λ k below (i, o). first i k below o) front in
+      passes_free_front (StringEnds strings l.fold) (ends_within strings l.fold) (ends_before strings l.fold) (ends_after strings l.fold) block end count inside (λ k below (i, o). first i k below o) front in
       (lines, rest, free, λ i d below. unmatched _ (all i d below), is, counted)
 
 -- lines without a matched part aren't matched as a whole

@@ -59,8 +59,7 @@ module _ (l : Literals) (line : Text) where
   pub occurs_decides : {r : Bool} → (IsString (keyed l) [] → ⊥) → IsTrue r ↔ ((i j : ℕ) × Occurs (keyed l) 0 (keys l.fold line) i j) → IsTrue r ↔ Matches (any_literal l) line false
   occurs_decides none reported = (
     λ h.
-        let (i, j, o) = reported.0 h in
-        let within : j ≤ length line = omega (arith, size) in
+        let (i, j, o) = reported.0 h in let within : j ≤ length line = omega (arith, size) in
         (i, j, within, stands_any i j (omega arith) within o.3),
     λ (i, j, within, h). reported.1 (elim (cases_lt i j) [
       | inl some ↦ (i, j, (omega arith, some, omega (arith, size), any_stands i j (omega arith) within h))

@@ -8,7 +8,7 @@ adds_on a b few fits = adds_within _ _ _ _ _ _ few fits (adds_both _ _ _ _ _ _ _
 
 -- a look, and then steps of one kind
 pub look_and_built : (cost looks most_steps most_bytes : ℕ) {new : Steps} (old mid : Steps) → looks ≤ most_steps → cost ≤ most_bytes → mid ≡ many_passed cost old → new ≡ many_built looks mid → AddsUpTo most_steps most_bytes old new
-look_and_built cost looks most_steps most_bytes old mid few fits is counted = adds_on (only_passed most_bytes cost old mid fits is) (subst (AddsUpTo looks 0 mid) (sym counted) (built_adds looks 0 mid)) (omega (arith, few)) (omega arith)
+look_and_built cost looks most_steps most_bytes old mid few fits is counted = adds_on (only_passed most_bytes cost old mid fits is) (subst (AddsUpTo looks 0 mid) (sym counted) (built_adds looks 0 mid)) (omega arith) (omega arith)
 
 -- steps of a pass back
 pub walked_adds : (n : ℕ) {old new : Steps} → (reused : ℕ) × (reused ≤ n) × (new ≡ many_built (n - reused) (many_reused reused old)) → AddsJust n 0 old new

@@ -27,8 +27,7 @@ module _ (block : Text) (run : List Bytes) (start at end : ℕ) (there : RunIsAt
 
   in_line : at + length run ≤ end
   in_line = by_contra _ _ (λ far.
-      let here : at ≤ end = omega arith in
-      let back : at + (end - at) ≡ end = omega arith in
+      let here : at ≤ end = omega arith in let back : at + (end - at) ≡ end = omega arith in
       free (end - at) 0 (omega (arith, length_range block at (at + length run) there.fits)) (cc (at_range block at (at + length run) (end - at) (omega arith), newline_at block start end cut)))
 
   is_in_line : RunIsAt line (at - start) run
@@ -43,8 +42,7 @@ module _ (block : Text) (run : List Bytes) (start at end : ℕ) (there : RunIsAt
 pub stops_matched : (e : Expression) (runs : Runs) (block : Text) (swept : Swept) (at last : ℕ) → IsJustRun runs e → IsNoWider 1 runs → swept.place ≡ Some at → IsLongestRun block runs at last → swept.start ≤ at
     → HasNoNewline (slice_range block at last) → StopsInLine block swept → StopsAt e false block (record { start = swept.start; first = swept.start; reached = look_cost block swept.place; stop = Decided true })
 stops_matched e runs block swept at last is wide place longest low free stops = stops_saying e _ _ _ _ _ (λ n. refl) (look_within block swept.place) (λ end cut.
-    let (n, run, lt, here, (there, same)) = longest.ends in
-    let some = rw here at (wide n run lt) in
+    let (n, run, lt, here, (there, same)) = longest.ends in let some = rw here at (wide n run lt) in
     let near = rw place at (stops end cut) in
     let in_line = is_in_line block run swept.start at end there some low near (rw same at free) cut in (
       stops end cut,
@@ -82,10 +80,8 @@ stops_at_head e runs block swept at free begins wide place found low stops =
       within = look_within block swept.place;
       low = low;
       line = λ end cut.
-          let (n, run, lt, here, there) = finds.1 in
-          let some = rw here at (wide n run lt) in
-          let near = rw place at (stops end cut) in
-          let high : at ≤ end = omega arith in
+          let (n, run, lt, here, there) = finds.1 in let some = rw here at (wide n run lt) in
+          let near = rw place at (stops end cut) in let high : at ≤ end = omega arith in
           record { high = high; near = omega (arith, stops end cut); same = from_head e runs block swept.start at end begins finds low cut free high; right = tt };
     }
 
@@ -118,8 +114,7 @@ module _ {e : Expression} {whole : Bool} (block : Text) (start : ℕ) {end : ℕ
   -- the work of a sweep, and of the search of that line
   pub turn_adds : {old begun swept new : Steps} → AddsAtMost start old begun → CountsSweep sweep begun swept → AddsUpTo (steps_left sweep.stop (length searched + 1)) (left_for sweep.stop (length searched + 1)) swept new → AddsAtMost (end + 1) old new
   turn_adds a b d =
-      let all = both sweep.stop stops_in.near in
-      adds_on (adds_both _ _ _ _ _ _ _ a b.few) d all.0 all.1
+      let all = both sweep.stop stops_in.near in adds_on (adds_both _ _ _ _ _ _ _ a b.few) d all.0 all.1
     where
       long : length searched ≡ end - (start + sweep.first)
       long = length_range block (start + sweep.first) end (omega arith)

@@ -47,6 +47,5 @@ module _ {asked : LineSearch} {t : StepTable} {lines : Lines} {end : ℕ} (goes 
 
     pub walk_adds : CountsSweep (record { start = lines.start; first = lines.start; reached = end + 1; stop = Decided answer }) old after
     walk_adds =
-        let passed = adds_walked lines.start old in
-        let more = searches_steps searched in
+        let passed = adds_walked lines.start old in let more = searches_steps searched in
         record { few = adds_on passed.few more (omega (arith, long, cut.0)) (omega arith); all = omega (arith, passed.all, more.built, more.reused) }

@@ -43,8 +43,7 @@ module _ (e : Expression) (line : Text) where
     pub needle_inside : near < length line
     needle_inside =
         let (n, run, lt, at, is) = run_whole (runs_of needle.finder) line from (near - from) within next.1 in
-        let some = subst (λ r. 1 ≤ length r) at (of.some n run lt) in
-        omega arith
+        let some = subst (λ r. 1 ≤ length r) at (of.some n run lt) in omega arith
 
     -- where each match begins with the needle, none begins before that
     pub later_by_needle : IsTrue needle.is_first → BeginsLater e line from near
@@ -111,8 +110,7 @@ module _ (e : Expression) (line : Text) (start end : ℕ) (low : start ≤ end) 
         )),
     (λ (j, past, f).
         let over = over_border e line 0 end (start + i) j border f (omega (arith, long)) in
-        let place : start + (j - start) ≡ j = omega arith in
-        let later : i < j - start = omega arith in
+        let place : start + (j - start) ≡ j = omega arith in let later : i < j - start = omega arith in
         let fits : start + (j - start) ≤ end = omega arith in (
           j - start,
           omega (arith, past),

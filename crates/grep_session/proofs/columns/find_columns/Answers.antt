@@ -1,4 +1,4 @@
-use Rattle.{grep_session.proofs.{Prelude.{◌≡◌, ◌<◌, ◌∙◌, length, map, take, get_or, take_all, refl, ap, arith, [], HasChanged, SearchesEach, IsFileKept, chunks_of, chunks_of_files, kept_file, matched_expression, All, sym, subst, AllZip, FitsColumn, IsColumn, lines_of_files, AddsColumns}, lemmas.{FoundLemmas.{adds_columns, adds_no_column, chunks_on, files_by_chunk, no_chunks, its_chunks, its_lines, was_kept}, ColumnLemmas.{files_next, files_with_parts, kept_at}, StepLemmas.{not_searched, each_both, each_front}}, columns.find_columns.Goals.{After-file-item, After-find_in_lines}}, re_search.proofs.lemmas.KeptMatchers.{none_asked, same_over, still_alike}, grep_core.proofs.lemmas.CostLaws.same_length}
+use Rattle.{grep_session.proofs.{Prelude.{◌≡◌, ◌<◌, ◌∙◌, length, map, take, get_or, take_all, refl, ap, arith, [], HasChanged, SearchesEach, IsFileKept, chunks_of, chunks_of_files, kept_file, matched_expression}, lemmas.{FoundLemmas.{adds_columns, adds_no_column, chunks_on, files_by_chunk, no_chunks, its_chunks, its_lines, was_kept}, ColumnLemmas.{files_next, files_with_parts, kept_at}, StepLemmas.{not_searched, each_both, each_front}}, columns.find_columns.Goals.{After-file-item, After-find_in_lines}}, re_search.proofs.lemmas.KeptMatchers.{none_asked, same_over, still_alike}, grep_core.proofs.lemmas.CostLaws.same_length}
 use Rattle.grep_session.proofs.columns.find_columns.Goals as goal
 
 -- the next file is one of them
@@ -36,12 +36,11 @@ returns-in_err-find_in_lines-clause-room c = c.find_in_lines.ensures.room ∙ c.
 
 pub returns-in_err-find_in_lines-clause-steps : goal.returns-in_err-find_in_lines-clause-steps
 returns-in_err-find_in_lines-clause-steps c = λ h k.
-    let files = c.args.files.now.items in
     let x = c.file-item.result in
     let i = c.loop-file.file-index in
     let at = there (goal.at.returns-in_err-find_in_lines-clause-steps c).After-file-item in
-    each_front _ _ _ _ _ _ _ _ _ _ (files_with_parts kept_file files i x at.0 at.1)
-    (each_both _ _ _ _ _ _ _ _ _ _ _ refl (c.loop-file.invariant.steps h k) (spent (goal.at.returns-in_err-find_in_lines-clause-steps c).After-find_in_lines h (kept_at (IsFileKept h.before h.was) files i x at.0 at.1 k)))
+    each_front _ _ _ _ _ _ _ _ _ _ (files_with_parts kept_file c.args.files.now.items i x at.0 at.1)
+    (each_both _ _ _ _ _ _ _ _ _ _ _ refl (c.loop-file.invariant.steps h k) (spent (goal.at.returns-in_err-find_in_lines-clause-steps c).After-find_in_lines h (kept_at (IsFileKept h.before h.was) c.args.files.now.items i x at.0 at.1 k)))
 
 pub loop-file-preserved : goal.loop-file-preserved
 loop-file-preserved c =
@@ -50,12 +49,11 @@ loop-file-preserved c =
     let files = c.args.files.now.items in
     let i = c.loop-file.file-index in
     let es = map matched_expression c.args.matchers.now.items in
-    let options = c.args.options.now in
     let at = there (goal.at.loop-file-preserved c).After-file-item in
-    let added = subst (λ fs. AddsColumns c.args.change fs options c.in-Some.lines c.loop-file.found.items c.find_in_lines.new.found.items) s.same_matchers.same_expressions c.in_ok-find_in_lines.ensures.ok in
-    let more = subst (λ cs. AddsColumns c.args.change es options cs c.loop-file.found.items c.find_in_lines.new.found.items) (sym (its_chunks x c.in-Some.lines c.in-Some.is)) added in
+    let added = rw s.same_matchers.same_expressions at c.in_ok-find_in_lines.ensures.ok in
+    let more = rw (← its_chunks x c.in-Some.lines c.in-Some.is) at added in
     record {
-      found = adds_columns c.args.change es options (chunks_of_files (take i files)) (chunks_of x) _ _ _ _ (chunks_on files i x at.0 at.1) s.found more;
+      found = adds_columns c.args.change es c.args.options.now (chunks_of_files (take i files)) (chunks_of x) _ _ _ _ (chunks_on files i x at.0 at.1) s.found more;
       same_matchers = same_over c.find_in_lines.ensures.same_matchers s.same_matchers;
       room = c.find_in_lines.ensures.room ∙ s.room;
       steps = λ h k. each_both _ _ _ _ _ _ _ _ _ _ _ (files_next kept_file files i x at.0 at.1) (s.steps h k) (spent (goal.at.loop-file-preserved c).After-find_in_lines h (kept_at (IsFileKept h.before h.was) files i x at.0 at.1 k));
@@ -68,12 +66,11 @@ loop-file-preserved-in_default c =
     let files = c.args.files.now.items in
     let i = c.loop-file.file-index in
     let es = map matched_expression c.args.matchers.now.items in
-    let options = c.args.options.now in
     let found = c.loop-file.found.items in
     let at = there (goal.at.loop-file-preserved-in_default c).After-file-item in
-    let none = subst (λ cs. AddsColumns c.args.change es options cs found found) (sym (no_chunks x c.in_default.is)) (adds_no_column c.args.change es options found) in
+    let none = rw (← no_chunks x c.in_default.is) at (adds_no_column c.args.change es c.args.options.now found) in
     record {
-      found = adds_columns c.args.change es options (chunks_of_files (take i files)) (chunks_of x) _ _ _ _ (chunks_on files i x at.0 at.1) s.found none;
+      found = adds_columns c.args.change es c.args.options.now (chunks_of_files (take i files)) (chunks_of x) _ _ _ _ (chunks_on files i x at.0 at.1) s.found none;
       same_matchers = s.same_matchers;
       room = s.room;
       steps = λ h k. each_both _ _ _ _ _ _ _ _ _ _ _ (files_next kept_file files i x at.0 at.1) (s.steps h k) (not_searched _ _ _ _ _ _ _);
@@ -81,24 +78,20 @@ loop-file-preserved-in_default c =
 
 pub put_columns-requires : goal.put_columns-requires
 put_columns-requires c =
-    let files = c.args.files.now.items in
-    let all : take c.loop-file.file-index files ≡ files = take_all _ _ (omega (arith, c.loop-file-test.false, ap length c.deref-file-items.ensures.value)) in
-    let a = subst (λ fs. AddsColumns c.args.change (map matched_expression c.args.matchers.now.items) c.args.options.now (chunks_of_files fs) [] c.loop-file.found.items) all c.loop-file.invariant.found in
-    subst (AllZip FitsColumn (chunks_of_files files)) (sym a.added) a.fit
+    let all : take c.loop-file.file-index c.args.files.now.items ≡ c.args.files.now.items = take_all _ _ (omega (arith, ap length c.deref-file-items.ensures.value)) in
+    let a = rw all at c.loop-file.invariant.found in
+    rw a.added a.fit
 
 pub returns-clause-ok : goal.returns-clause-ok
 returns-clause-ok c = λ h k.
     let s = c.loop-file.invariant in
     let es = map matched_expression c.args.matchers.now.items in
-    let options = c.args.options.now in
-    let files = c.args.files.now.items in
-    let all : take c.loop-file.file-index files ≡ files = take_all _ _ (omega (arith, c.loop-file-test.false, ap length c.deref-file-items.ensures.value)) in
-    let a = subst (λ fs. AddsColumns c.args.change es options (chunks_of_files fs) [] c.loop-file.found.items) all s.found in
-    let right = subst (AllZip (IsColumn es options) (chunks_of_files files)) (sym a.added) (a.are_right h (files_by_chunk h.before h.was files k)) in
-    subst (λ fs. All (IsFileKept fs options) c.put_columns.new.files.items) (sym s.same_matchers.same_expressions) (c.put_columns.ensures.right es options right)
+    let all : take c.loop-file.file-index c.args.files.now.items ≡ c.args.files.now.items = take_all _ _ (omega (arith, ap length c.deref-file-items.ensures.value)) in
+    let a = rw all at s.found in
+    let right = rw (← a.added) at (a.are_right h (files_by_chunk h.before h.was c.args.files.now.items k)) in
+    rw s.same_matchers.same_expressions (c.put_columns.ensures.right es c.args.options.now right)
 
 pub returns-clause-steps : goal.returns-clause-steps
 returns-clause-steps c = λ h k.
-    let files = c.args.files.now.items in
-    let all : take c.loop-file.file-index files ≡ files = take_all _ _ (omega (arith, c.loop-file-test.false, ap length c.deref-file-items.ensures.value)) in
-    subst (λ fs. SearchesEach c.args.change h.gone h.come (map matched_expression c.args.matchers.now.items) c.args.options.now (lines_of_files (map kept_file fs)) c.args.meter.now c.loop-file.meter) all (c.loop-file.invariant.steps h k)
+    let all : take c.loop-file.file-index c.args.files.now.items ≡ c.args.files.now.items = take_all _ _ (omega (arith, ap length c.deref-file-items.ensures.value)) in
+    rw all at (c.loop-file.invariant.steps h k)

@@ -1,4 +1,4 @@
-use Rattle.grep_session.proofs.{Prelude.{◌≡◌, All, HasChanged, SearchesEach, length, map, ap, length-map, AreBelow, FoundIn, line_text, IsKept, matched_expression, sym, subst}, lemmas.ColumnLaws.{column_right, column_same, chunk_steps, chunk_begun, matches_below}, columns.find_in_chunk.Goals.{After-find_parts, In_ok-new}}
+use Rattle.grep_session.proofs.{Prelude.{◌≡◌, All, HasChanged, SearchesEach, length, map, ap, length-map, AreBelow, FoundIn, line_text, IsKept, matched_expression}, lemmas.ColumnLaws.{column_right, column_same, chunk_steps, chunk_begun, matches_below}, columns.find_in_chunk.Goals.{After-find_parts, In_ok-new}}
 use Rattle.grep_session.proofs.columns.find_in_chunk.Goals as goal
 
 -- the steps up to the search for parts
@@ -27,7 +27,7 @@ pub find_parts-requires-clause-new : goal.find_parts-requires-clause-new
 find_parts-requires-clause-new c = below (goal.at.find_parts-requires-clause-new c).In_ok-new
 
 pub of-requires-clause-within : goal.of-requires-clause-within
-of-requires-clause-within c = subst (λ n. AreBelow n c.in_ok-new.new) (sym c.len.ensures) (below (goal.at.of-requires-clause-within c).In_ok-new)
+of-requires-clause-within c = rw c.len.ensures (below (goal.at.of-requires-clause-within c).In_ok-new)
 
 pub returns-in_err-parts-clause-steps : goal.returns-in_err-parts-clause-steps
 returns-in_err-parts-clause-steps c = spent (goal.at.returns-in_err-parts-clause-steps c).After-find_parts
@@ -40,7 +40,6 @@ returns-clause-steps c = spent (goal.at.returns-clause-steps c).After-find_parts
 
 pub returns-clause-ok : goal.returns-clause-ok
 returns-clause-ok c = λ h k.
-    let es = map matched_expression c.args.matchers.now in
     let parts = rw c.find_matches.ensures.same_matchers.same_expressions at c.in_ok-parts.ensures.ok in
     let right = column_right h c.args.chunk.now c.matches-old.result.now k c.matches-old.ensures.at c.in_ok-new.new c.in_ok-new.ensures.ok c.in_ok-parts.parts parts in
     let same : c.in_ok-found.found ≡ record { size = length c.args.chunk.now; pairs = c.in_ok-new.new; parts = c.in_ok-parts.parts } = cc (c.in_ok-found.ensures, c.len.ensures) in

@@ -1,4 +1,4 @@
-use Rattle.{grep_session.proofs.{Prelude.{◌≡◌, ◌+◌, ◌<◌, [], ◌∷◌, ◌++◌, All, length, map, take, get_or, arith, take_all, all_of, line_text, IsKept, SearchesEach, HasChanged, AreSame, drop, refl, matched_expression, sym, ap, subst, ◌∙◌, AddsColumns}, lemmas.{AddingLemmas.all_back, FoundLemmas.{adds_no_column, adds_columns, adds_column, all_by_chunk, chunks_next, texts_next, texts_rest}, StepLemmas.{not_searched, each_both, each_front}}, columns.find_in_lines.Goals.After-find_in_chunk}, grep_core.proofs.lemmas.CostLaws.same_length, re_search.proofs.lemmas.KeptMatchers.{none_asked, same_over, still_alike}}
+use Rattle.{grep_session.proofs.{Prelude.{◌≡◌, ◌+◌, ◌<◌, [], ◌∷◌, ◌++◌, All, length, map, take, get_or, arith, take_all, all_of, line_text, IsKept, SearchesEach, HasChanged, AreSame, drop, refl, matched_expression}, lemmas.{AddingLemmas.all_back, FoundLemmas.{adds_no_column, adds_columns, adds_column, all_by_chunk, chunks_next, texts_next, texts_rest}, StepLemmas.{not_searched, each_both, each_front}}, columns.find_in_lines.Goals.After-find_in_chunk}, grep_core.proofs.lemmas.CostLaws.same_length, re_search.proofs.lemmas.KeptMatchers.{none_asked, same_over, still_alike}}
 use Rattle.grep_session.proofs.columns.find_in_lines.Goals as goal
 
 pub loop-i-init : goal.loop-i-init
@@ -35,24 +35,22 @@ spent c = λ h k.
 
 pub returns-in_err-one-clause-steps : goal.returns-in_err-one-clause-steps
 returns-in_err-one-clause-steps c = λ h k.
-    each_front _ _ _ _ _ _ _ _ _ _ (texts_rest c.args.lines.now c.loop-i.i (omega (arith, c.loop-i-test.true, c.chunk_count-i-end.ensures))) (spent (goal.at.returns-in_err-one-clause-steps c).After-find_in_chunk h k)
+    each_front _ _ _ _ _ _ _ _ _ _ (texts_rest c.args.lines.now c.loop-i.i (omega arith)) (spent (goal.at.returns-in_err-one-clause-steps c).After-find_in_chunk h k)
 
 pub returns-in_err-push-clause-steps : goal.returns-in_err-push-clause-steps
 returns-in_err-push-clause-steps c = λ h k.
-    each_front _ _ _ _ _ _ _ _ _ _ (texts_rest c.args.lines.now c.loop-i.i (omega (arith, c.loop-i-test.true, c.chunk_count-i-end.ensures))) (spent (goal.at.returns-in_err-push-clause-steps c).After-find_in_chunk h k)
+    each_front _ _ _ _ _ _ _ _ _ _ (texts_rest c.args.lines.now c.loop-i.i (omega arith)) (spent (goal.at.returns-in_err-push-clause-steps c).After-find_in_chunk h k)
 
 pub loop-i-preserved : goal.loop-i-preserved
 loop-i-preserved c =
     let s = c.loop-i.invariant in
     let i = c.loop-i.i in
-    let chunks = c.args.lines.now in
     let es = map matched_expression c.args.matchers.now.items in
-    let options = c.args.search.now.options in
-    let inside : i < length chunks = omega (arith, c.loop-i-test.true, c.chunk_count-i-end.ensures) in
+    let inside : i < length c.args.lines.now = omega arith in
     let right = rw (c.deref_mut.ensures.value, s.same_matchers.same_expressions) at c.in_ok-one.ensures.ok in
-    let one = adds_column c.args.change es options c.chunk.result.now c.in_ok-one.one c.loop-i.found.items c.push.new.all.items c.in_ok-push.ensures.ok c.in_ok-one.ensures.fits right in
+    let one = adds_column c.args.change es c.args.search.now.options c.chunk.result.now c.in_ok-one.one c.loop-i.found.items c.push.new.all.items c.in_ok-push.ensures.ok c.in_ok-one.ensures.fits right in
     record {
-      found = adds_columns c.args.change es options (take i chunks) (c.chunk.result.now ∷ []) _ _ _ _ (chunks_next chunks i inside ∙ ap (λ ls. take i chunks ++ ls ∷ []) (sym c.chunk.ensures)) s.found one;
+      found = adds_columns c.args.change es c.args.search.now.options (take i c.args.lines.now) (c.chunk.result.now ∷ []) _ _ _ _ (cc (chunks_next c.args.lines.now i inside, c.chunk.ensures)) s.found one;
       same_matchers = same (goal.at.loop-i-preserved c).After-find_in_chunk;
       room = s.room;
       steps = spent (goal.at.loop-i-preserved c).After-find_in_chunk;
@@ -60,13 +58,13 @@ loop-i-preserved c =
 
 pub returns-clause-ok : goal.returns-clause-ok
 returns-clause-ok c =
-    let all : take c.loop-i.i c.args.lines.now ≡ c.args.lines.now = take_all _ _ (omega (arith, c.loop-i-test.false, c.chunk_count-i-end.ensures)) in
-    subst (λ cs. AddsColumns c.args.change (map matched_expression c.args.matchers.now.items) c.args.search.now.options cs c.args.found.now.items c.loop-i.found.items) all c.loop-i.invariant.found
+    let all : take c.loop-i.i c.args.lines.now ≡ c.args.lines.now = take_all _ _ (omega arith) in
+    rw all at c.loop-i.invariant.found
 
 pub returns-clause-steps : goal.returns-clause-steps
 returns-clause-steps c = λ h k.
-    let all : take c.loop-i.i c.args.lines.now ≡ c.args.lines.now = take_all _ _ (omega (arith, c.loop-i-test.false, c.chunk_count-i-end.ensures)) in
-    subst (λ cs. SearchesEach c.args.change h.gone h.come (map matched_expression c.args.matchers.now.items) c.args.search.now.options (map line_text (all_of cs)) c.args.meter.now c.loop-i.meter) all (c.loop-i.invariant.steps h k)
+    let all : take c.loop-i.i c.args.lines.now ≡ c.args.lines.now = take_all _ _ (omega arith) in
+    rw all at (c.loop-i.invariant.steps h k)
 
 pub returns-in_err-one-clause-same_matchers : goal.returns-in_err-one-clause-same_matchers
 returns-in_err-one-clause-same_matchers c = same (goal.at.returns-in_err-one-clause-same_matchers c).After-find_in_chunk

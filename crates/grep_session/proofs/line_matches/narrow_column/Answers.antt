@@ -33,7 +33,7 @@ loop-k-preserved-then-not-index c =
     let k = c.loop-k.k in
     let off = sym (mark (goal.at.loop-k-preserved-then-not-index c).After-index) ∙ c.if-not-index.true in
     record {
-      high = omega (arith, c.loop-k-test.true, c.len-k-end.ensures);
+      high = omega arith;
       column = column_pass _ _ _ _ _ k _ _ (λ h passed. passed off) s.column;
       same = s.same;
       steps = marked_front (had_gone c.args.change c.args.old.now) 1 (map line_text c.args.chunk.now) k (k + 1) _ _ (omega arith) s.steps;
@@ -55,7 +55,7 @@ loop-k-preserved-then-not-is_match c =
     let s = c.loop-k.invariant in
     let a = asked (goal.at.loop-k-preserved-then-not-is_match c).After-is_match (sym (mark (goal.at.loop-k-preserved-then-not-is_match c).After-index) ∙ c.if-not-index.false) in
     record {
-      high = omega (arith, c.loop-k-test.true, c.len-k-end.ensures);
+      high = omega arith;
       column = column_pass _ _ _ _ _ c.loop-k.k _ _ (λ h passed matched. false≢true (sym c.if-not-is_match.true ∙ a.0.1 matched)) s.column;
       same = same_twice c.is_match.ensures.same s.same;
       steps = a.1;
@@ -65,13 +65,12 @@ pub loop-k-preserved : goal.loop-k-preserved
 loop-k-preserved c =
     let s = c.loop-k.invariant in
     let k = c.loop-k.k in
-    let lines = c.args.chunk.now in
-    let texts = map line_text lines in
+    let texts = map line_text c.args.chunk.now in
     let a = asked (goal.at.loop-k-preserved c).After-is_match (sym (mark (goal.at.loop-k-preserved c).After-index) ∙ c.if-not-index.false) in
-    let one : k < length texts = omega (arith, c.loop-k-test.true, c.len-k-end.ensures, length-map lines line_text) in
-    let next : IsNextLine (matched_expression c.args.matcher.now) (wants_whole c.args.matcher.now) texts k (Some k) = (omega arith, one, a.0.0 c.if-not-is_match.false, λ j low high. absurd (let wrong : ⊥ = omega (arith, low, high) in wrong)) in
+    let one : k < length texts = omega (arith, length-map c.args.chunk.now line_text) in
+    let next : IsNextLine (matched_expression c.args.matcher.now) (wants_whole c.args.matcher.now) texts k (Some k) = (omega arith, one, a.0.0 c.if-not-is_match.false, λ j low high. absurd (omega arith)) in
     record {
-      high = omega (arith, c.loop-k-test.true, c.len-k-end.ensures);
+      high = omega arith;
       column = column_next _ _ _ _ _ k k _ _ _ next c.in_ok-note.ensures.ok s.column;
       same = same_twice c.is_match.ensures.same s.same;
       steps = a.1;
@@ -82,12 +81,11 @@ returns-in_err-note-clause-same c = same_twice c.is_match.ensures.same c.loop-k.
 
 pub returns-in_err-note-clause-steps : goal.returns-in_err-note-clause-steps
 returns-in_err-note-clause-steps c =
-    let lines = c.args.chunk.now in
-    marked_front _ 1 (map line_text lines) (c.loop-k.k + 1) (length lines) _ _ (omega (arith, c.loop-k-test.true, c.len-k-end.ensures)) (asked (goal.at.returns-in_err-note-clause-steps c).After-is_match (sym (mark (goal.at.returns-in_err-note-clause-steps c).After-index) ∙ c.if-not-index.false)).1
+    marked_front _ 1 (map line_text c.args.chunk.now) (c.loop-k.k + 1) (length c.args.chunk.now) _ _ (omega arith) (asked (goal.at.returns-in_err-note-clause-steps c).After-is_match (sym (mark (goal.at.returns-in_err-note-clause-steps c).After-index) ∙ c.if-not-index.false)).1
 
 pub returns-clause-ok : goal.returns-clause-ok
 returns-clause-ok c =
-    column_done _ _ _ _ _ _ _ _ (λ j low high passed. absurd (omega (arith, length-map c.args.chunk.now line_text, c.loop-k-test.false, c.len-k-end.ensures))) c.loop-k.invariant.column
+    column_done _ _ _ _ _ _ _ _ (λ j low high passed. absurd (omega (arith, length-map c.args.chunk.now line_text))) c.loop-k.invariant.column
 
 pub returns-clause-steps : goal.returns-clause-steps
 returns-clause-steps c = marked_front _ 1 _ _ _ _ _ c.loop-k.invariant.high c.loop-k.invariant.steps

@@ -1,4 +1,4 @@
-use Rattle.grep_session.proofs.{Prelude.{arith, take_all, All-map, HasNoNewline, All, ◌≡◌, take, subst}, lemmas.SessionLemmas.{fails_at, All-next}}
+use Rattle.grep_session.proofs.{Prelude.{arith, take_all, All-map, HasNoNewline, ◌≡◌, take}, lemmas.SessionLemmas.{fails_at, All-next}}
 use Rattle.grep_session.proofs.new_lines.any_newline.Goals as goal
 
 pub returns-then-has_newline : goal.returns-then-has_newline
@@ -8,7 +8,7 @@ returns-then-has_newline c =
 pub returns : goal.returns
 returns c =
     let all : take c.loop-line.line-index c.args.lines.now ≡ c.args.lines.now = take_all _ _ (omega arith) in
-    All-map HasNoNewline (λ line. line.items) c.args.lines.now (subst (All (λ line. HasNoNewline line.items)) all c.loop-line.invariant)
+    All-map HasNoNewline (λ line. line.items) c.args.lines.now (rw all at c.loop-line.invariant)
 
 pub loop-line-preserved : goal.loop-line-preserved
 loop-line-preserved c =

@@ -1,4 +1,4 @@
-use Rattle.{grep_session.proofs.{Prelude.{◌≡◌, length, refl, sym, ◌∙◌, take_all, arith, map, take, subst, AreMatchers}, lemmas.{ColumnLemmas.{map_next, map_with_parts}, ReadingLemmas.reported_refused, RoomLemmas.{keep_none, keep_one}}}, grep_core.proofs.lemmas.MatcherLemmas.{refused_or_memory, AreMatchers-push, AreMatchers-none}}
+use Rattle.{grep_session.proofs.{Prelude.{◌≡◌, length, refl, sym, ◌∙◌, take_all, arith, take}, lemmas.{ColumnLemmas.{map_next, map_with_parts}, ReadingLemmas.reported_refused, RoomLemmas.{keep_none, keep_one}}}, grep_core.proofs.lemmas.MatcherLemmas.{refused_or_memory, AreMatchers-push, AreMatchers-none}}
 use Rattle.grep_session.proofs.pattern_matchers.read_matchers.Goals as goal
 
 pub loop-text-init : goal.loop-text-init
@@ -27,4 +27,4 @@ returns-in-Err-clause-err c =
 pub returns-clause-ok : goal.returns-clause-ok
 returns-clause-ok c =
     let all : take c.loop-text.text-index c.args.texts.now ≡ c.args.texts.now = take_all _ _ (omega arith) in
-    subst (λ ts. AreMatchers c.args.syntax c.args.options.now (map (λ text. text.items) ts) c.loop-text.matchers.items) all c.loop-text.invariant.read
+    rw all at c.loop-text.invariant.read

@@ -3,11 +3,10 @@ use Rattle.grep_utility.proofs.command.run_grep.Goals as goal
 
 pub returns-in-Ok-prepare : goal.returns-in-Ok-prepare
 returns-in-Ok-prepare g c =
-    let request = asked c.in-Ok.request in
     let back = c.in-Ok-prepare.ensures.back in
     let join = gives_both g.F.Files.returned_readers c.args.files.now c.prepare.new.files c.search_request.new.files back.0 in
     let ends = rw c.in-Ok-prepare.ensures.none_failed at c.search_request.ensures in
-    ends_after _ (Returns g.F.Files.returned_readers c.args.files.now c.search_request.new.files) _ request c.in-Ok.ensures _ _ c.in-Ok-prepare.ensures.ok _ (λ left h. (back.0, back.1, join left back.2 h)) _ _ _ ends
+    ends_after _ (Returns g.F.Files.returned_readers c.args.files.now c.search_request.new.files) _ _ c.in-Ok.ensures _ _ c.in-Ok-prepare.ensures.ok _ (λ left h. (back.0, back.1, join left back.2 h)) _ _ _ ends
 
 pub write_command_fault-requires : goal.write_command_fault-requires
 write_command_fault-requires g c = is_numbered (asked c.in-Ok.request) _ _ _ c.in-Err-prepare.fault c.in-Err-prepare.ensures.err

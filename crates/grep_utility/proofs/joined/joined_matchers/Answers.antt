@@ -1,10 +1,9 @@
-use Rattle.{grep_utility.proofs.Prelude.{◌≡◌, ◌≤◌, rules, [], ◌∷◌, length, arith, sym, ap, ◌∙◌, subst, append-nil, append_assoc, map, map-append, All-nil, All-head, All-tail, meant_by, IsCounted, AreGrouped, most_kept}, std.{specs.Vec.Iter.into_iter_items, proofs.lemmas.List.nil_from_length}, re_syntax.specs.Working.Trees.expression_of}
+use Rattle.{grep_utility.proofs.Prelude.{◌≡◌, ◌≤◌, rules, [], ◌∷◌, length, arith, sym, ap, ◌∙◌, append-nil, append_assoc, map, map-append, All-nil, All-head, All-tail, meant_by, IsCounted, most_kept}, std.{specs.Vec.Iter.into_iter_items, proofs.lemmas.List.nil_from_length}}
 use Rattle.grep_utility.proofs.joined.joined_matchers.Goals as goal
 
 pub loop-pattern-init : goal.loop-pattern-init
 loop-pattern-init c =
-    let options = c.args.options.now in
-    (search rules, search rules, search rules, rw (c.new.ensures.items, c.new-2.ensures) (record { same = λ line i j. (λ a. a, λ a. a); fewer = omega arith; wholes = All-nil (λ w. w ≡ options.line_regexp); rooms = All-nil (λ n. n ≤ most_kept) }))
+    (search rules, search rules, search rules, rw (c.new.ensures.items, c.new-2.ensures) (record { same = λ line i j. (λ a. a, λ a. a); fewer = omega arith; wholes = All-nil (λ w. w ≡ c.args.options.now.line_regexp); rooms = All-nil (λ n. n ≤ most_kept) }))
 
 pub add-requires : goal.add-requires
 add-requires c = All-head (IsCounted c.args.options.now.ignore_case) c.in-Some.pattern (into_iter_items c.next.new.self) (rw c.in-Some.ensures.steps.0 at c.loop-pattern.invariant.2)
@@ -12,23 +11,20 @@ add-requires c = All-head (IsCounted c.args.options.now.ignore_case) c.in-Some.p
 pub loop-pattern-preserved : goal.loop-pattern-preserved
 loop-pattern-preserved c =
     let (left, long, counted, grouped) = c.loop-pattern.invariant in
-    let options = c.args.options.now in
-    let fold = options.ignore_case in
+    let fold = c.args.options.now.ignore_case in
     let done = c.loop-pattern.yielded in
     let p = c.in-Some.pattern in
     let (steps, gone) = c.in-Some.ensures.steps in
     let new = c.add.new.self in (
       append_assoc done (p ∷ []) _ ∙ rw (← steps) left,
-      omega (arith, long, gone, ap length steps),
+      omega (arith, ap length steps),
       All-tail (IsCounted fold) p (into_iter_items c.next.new.self) (rw steps at counted),
-      subst (λ es. AreGrouped options.line_regexp es new.matchers.items (map expression_of new.choice)) (sym (map-append (meant_by fold) done (p ∷ []))) (c.in_ok-add.ensures (map (meant_by fold) done) grouped),
+      rw (map-append (meant_by fold) done (p ∷ [])) (c.in_ok-add.ensures (map (meant_by fold) done) grouped),
     )
 
 pub returns : goal.returns
 returns c =
     let (left, long, counted, grouped) = c.loop-pattern.invariant in
-    let options = c.args.options.now in
-    let fold = options.ignore_case in
     let none = nil_from_length (into_iter_items c.loop-pattern.pattern-iterator) (sym long ∙ c.in-None.ensures.steps.0) in
     let all : c.loop-pattern.yielded ≡ c.args.patterns.items = sym (append-nil c.loop-pattern.yielded) ∙ rw none at left in
-    subst (λ ps. AreGrouped options.line_regexp (map (meant_by fold) ps) c.close.new.self.matchers.items []) all (c.in_ok-close.ensures.closed (map (meant_by fold) c.loop-pattern.yielded) grouped)
+    rw all at (c.in_ok-close.ensures.closed (map (meant_by c.args.options.now.ignore_case) c.loop-pattern.yielded) grouped)

@@ -13,6 +13,5 @@ loop-byte-preserved c =
 
 pub returns : goal.returns
 returns c =
-    let word = c.args.word.now in
-    let all : c.loop-byte.byte-index ≡ length word = omega arith in
-    sym (digits_some word c.loop-byte.value (search rules) (rw (take_all c.loop-byte.byte-index word (omega arith)) at c.loop-byte.invariant))
+    let all : c.loop-byte.byte-index ≡ length c.args.word.now = omega arith in
+    sym (digits_some c.args.word.now c.loop-byte.value (search rules) (rw (take_all c.loop-byte.byte-index c.args.word.now (omega arith)) at c.loop-byte.invariant))

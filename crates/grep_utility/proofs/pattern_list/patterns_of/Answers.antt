@@ -11,9 +11,7 @@ loop-text-preserved c =
 pub returns-in-Err-clause-err : goal.returns-in-Err-clause-err
 returns-in-Err-clause-err c =
     let s = c.loop-text.invariant in
-    let syntax = c.args.syntax in
-    let fold = c.args.fold in
     let left = ap (λ l. s.2 ++ l) (sym c.in-Some.ensures.steps) ∙ s.3 in
     let place : length c.loop-text.patterns.items ≡ c.len.result = search rules in
-    refused_or_memory syntax fold s.2 c.in-Some.text.now (patterns_meant syntax fold s.2 c.loop-text.patterns.items s.4).1 c.next.new.self (lines_of c.args.texts.now) left c.in-Err.fault c.in-Err.ensures.refused c.len.result
-    (sym (AllZip-long (IsPattern syntax fold) s.2 c.loop-text.patterns.items s.4) ∙ place)
+    refused_or_memory c.args.syntax c.args.fold s.2 c.in-Some.text.now (patterns_meant c.args.syntax c.args.fold s.2 c.loop-text.patterns.items s.4).1 c.next.new.self (lines_of c.args.texts.now) left c.in-Err.fault c.in-Err.ensures.refused c.len.result
+    (sym (AllZip-long (IsPattern c.args.syntax c.args.fold) s.2 c.loop-text.patterns.items s.4) ∙ place)

@@ -2,10 +2,10 @@ use Rattle.{grep_core.proofs.lemmas.OneLineLemmas.err_with, grep_utility.proofs.
 use Rattle.grep_utility.proofs.patterns.add_lines.Goals as goal
 
 pub loop-texts-init : goal.loop-texts-init
-loop-texts-init g c = so_far_none _ _ c.args.lines.now _ c.requires.none_ahead c.requires.still_open c.requires.none_handed
+loop-texts-init g c = so_far_none _ _ _ _ c.requires.none_ahead c.requires.still_open c.requires.none_handed
 
 pub loop-texts-preserved : goal.loop-texts-preserved
-loop-texts-preserved g c = so_far_line g.R.CountedRead.remaining g.R.CountedRead.failures c.args.lines.now.lines.reader c.loop-texts.lines c.next_numbered.new.self _ _ c.loop-texts.invariant _ c.line.result.now (rw c.in-Ok-true.field-0-test at c.in-Ok-true.ensures.next) c.line.ensures c.in_ok-add_text-in-Ok-true.ensures
+loop-texts-preserved g c = so_far_line g.R.CountedRead.remaining g.R.CountedRead.failures _ c.loop-texts.lines _ _ _ c.loop-texts.invariant _ _ (rw c.in-Ok-true.field-0-test at c.in-Ok-true.ensures.next) c.line.ensures c.in_ok-add_text-in-Ok-true.ensures
 
 pub returns-in-Ok-false-clause-ok : goal.returns-in-Ok-false-clause-ok
 returns-in-Ok-false-clause-ok g c = all_added g.R.CountedRead.remaining g.R.CountedRead.failures c.args.lines.now.lines.reader c.loop-texts.lines c.next_numbered.new.self _ _ c.loop-texts.invariant (rw c.in-Ok-false.field-0-test at c.in-Ok-false.ensures.next)

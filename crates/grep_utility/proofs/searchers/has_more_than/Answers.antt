@@ -4,7 +4,7 @@ use Rattle.grep_utility.proofs.searchers.has_more_than.Goals as goal
 -- something is at a place where the list reaches it, and only there
 reaches : {A B : Type 0} (v : A → B) (r : Option A) (xs : List B) (n : ℕ) → option_map v r ≡ slice_get xs n → is_some r ≡ nat_lt n (length xs)
 reaches v (Some x) xs n e = sym (lt-ltb n (length xs) (slice_get_within xs n (v x) (sym e)))
-reaches v None xs n e = elim (slice_get_cases xs n).1 [ inl h ↦ absurd (cc (e, h.2)) | inr h ↦ sym (le-ltb n (length xs) h.0) ]
+reaches v None xs n e = elim (slice_get_cases xs n).1 [ inl h ↦ absurd (cc h.2) | inr h ↦ sym (le-ltb n (length xs) h.0) ]
 
 pub returns : goal.returns
 returns c =

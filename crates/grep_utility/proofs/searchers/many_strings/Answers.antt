@@ -1,4 +1,4 @@
-use Rattle.{grep_utility.proofs.{Prelude.{◌≡◌, rules, [], ◌++◌, sym, ap, ◌∙◌, subst, append-nil, ArePatterns, AreReadAs}, lemmas.ServingLemmas.next_string}, re_syntax.{specs.Lines.lines_of, proofs.lemmas.LinesLaws.{all_none, lines_of-terminated}}}
+use Rattle.{grep_utility.proofs.{Prelude.{◌≡◌, rules, [], ap, ◌∙◌, append-nil}, lemmas.ServingLemmas.next_string}, re_syntax.{specs.Lines.lines_of, proofs.lemmas.LinesLaws.{all_none, lines_of-terminated}}}
 use Rattle.grep_utility.proofs.searchers.many_strings.Goals as goal
 
 pub loop-text-init : goal.loop-text-init
@@ -13,5 +13,5 @@ loop-text-preserved-in_ok-add_strings c = (tt, tt, next_string _ _ _ _ _ _ _ _ (
 pub returns-clause-read : goal.returns-clause-read
 returns-clause-read c =
     let (can, ends, (done, left, strings, is, lines, (patterns, are, read))) = c.loop-text.invariant in
-    let all : done ≡ lines_of c.args.texts.now = sym (append-nil done) ∙ ap (λ l. done ++ l) (sym c.in-None.ensures.steps.0) ∙ left in
-    (patterns, subst (λ ts. ArePatterns c.args.syntax c.args.fold ts patterns) all are, subst (AreReadAs c.args.fold patterns) (sym (ap lines_of is ∙ lines_of-terminated strings lines)) read)
+    let all : done ≡ lines_of c.args.texts.now = cc (append-nil done, c.in-None.ensures.steps.0) in
+    (patterns, rw all at are, rw (ap lines_of is ∙ lines_of-terminated strings lines) read)

@@ -6,21 +6,17 @@ returns-in-Some-clause-ok c =
     let options = c.args.options.now in
     let texts = lines_of c.args.texts.now in
     let (patterns, are, read) = c.in-Some.ensures.read in
-    groups_serve c.args.syntax options texts patterns c.in-Ok.matchers.items are
+    groups_serve _ options _ patterns _ are
     (joined_grouped options patterns (lines_of c.in-Some.strings.items) c.in-Ok.matchers.items read (omega (arith, c.in-Some.ensures.some, AllZip-long (IsPattern c.args.syntax options.ignore_case) texts patterns are)) (rw c.deref.ensures.value at c.in-Ok.ensures))
 
 pub returns-in-Some-strings_of-clause-ok : goal.returns-in-Some-strings_of-clause-ok
 returns-in-Some-strings_of-clause-ok c =
-    let options = c.args.options.now in
-    let patterns = c.in_ok-patterns.patterns.items in
-    let matchers = c.in-Ok-joined.matchers.items in
-    let same = c.deref-2.ensures.value in
-    groups_serve c.args.syntax options (lines_of c.args.texts.now) patterns matchers c.in_ok-patterns.ensures.ok
-    (joined_grouped options patterns (lines_of c.in-Some-strings_of.strings.items) matchers (rw same at (c.in-Some-strings_of.ensures.read options.ignore_case)) (rw same at c.in-Some-strings_of.ensures.some) (rw c.deref-in-Some-strings_of.ensures.value at c.in-Ok-joined.ensures))
+    groups_serve _ c.args.options.now _ c.in_ok-patterns.patterns.items _ c.in_ok-patterns.ensures.ok
+    (joined_grouped c.args.options.now c.in_ok-patterns.patterns.items (lines_of c.in-Some-strings_of.strings.items) _ (rw c.deref-2.ensures.value at (c.in-Some-strings_of.ensures.read c.args.options.now.ignore_case)) (rw c.deref-2.ensures.value at c.in-Some-strings_of.ensures.some) (rw c.deref-in-Some-strings_of.ensures.value at c.in-Ok-joined.ensures))
 
 pub joined_matchers-requires : goal.joined_matchers-requires
 joined_matchers-requires c = (patterns_meant c.args.syntax c.args.options.now.ignore_case (lines_of c.args.texts.now) c.in_ok-patterns.patterns.items c.in_ok-patterns.ensures.ok).2
 
 pub returns-clause-ok : goal.returns-clause-ok
 returns-clause-ok c =
-    groups_serve c.args.syntax c.args.options.now (lines_of c.args.texts.now) c.in_ok-patterns.patterns.items c.in-Ok-joined_matchers.matchers.items c.in_ok-patterns.ensures.ok c.in-Ok-joined_matchers.ensures
+    groups_serve _ _ _ c.in_ok-patterns.patterns.items _ c.in_ok-patterns.ensures.ok c.in-Ok-joined_matchers.ensures

@@ -9,10 +9,8 @@ returns-in_err-write_fault g c =
 
 pub returns-in-Memory : goal.returns-in-Memory
 returns-in-Memory g c =
-    let contents = g.M.CountedWrite.contents in
-    let failures = g.M.CountedWrite.failures in
     let mid = c.write_fault.new.messages in
-    rw c.in-Memory.is (goes_on contents failures c.args.messages.now mid mid (output_line [] (fault_text Memory)) [] (rw c.in-Memory.is at c.in_ok-write_fault.ensures) (goes_nowhere contents failures mid))
+    rw c.in-Memory.is (goes_on g.M.CountedWrite.contents g.M.CountedWrite.failures c.args.messages.now mid mid (output_line [] (fault_text Memory)) [] (rw c.in-Memory.is at c.in_ok-write_fault.ensures) (goes_nowhere g.M.CountedWrite.contents g.M.CountedWrite.failures mid))
 
 pub returns-in_default : goal.returns-in_default
 unfolding usage

@@ -15,5 +15,4 @@ pub returns : goal.returns
 returns c =
     let strings = c.branches.invariant.0 in
     let lines : lines_of c.branches.texts.items ≡ strings = cc (c.branches.invariant.1, lines_of-terminated strings c.branches.invariant.2) in
-    rw lines
-    (All-map (NeedsOneOf strings) expression_of c.args.branches.now (λ k d lt. c.branches.invariant.3 k d (omega arith)))
+    rw lines (All-map (NeedsOneOf strings) expression_of c.args.branches.now (λ k d lt. c.branches.invariant.3 k d (omega arith)))

@@ -12,20 +12,16 @@ pub returns-in_default : goal.returns-in_default
 returns-in_default c = λ e before of right looked over.
     rw c.rest_of.ensures (
       ((omega arith, λ i j f. f.begins), (omega arith, inl refl)),
-      record { few = adds_on looked c.in_default.ensures.none (omega arith) (omega (arith, c.requires.low, c.requires.within)); all = omega (arith, over, c.in_default.ensures.none.passed) },
+      record { few = adds_on looked c.in_default.ensures.none (omega arith) (omega (arith, c.requires.low, c.requires.within)); all = omega (arith, c.in_default.ensures.none.passed) },
     )
 
 pub returns : goal.returns
 returns c = λ e before of right looked over.
-    let line = c.args.line.now in
-    let from = c.args.from in
-    let near = c.args.near in
-    let start = c.in-Some.start in
     let high = c.end-end-2.ensures.low in
-    let small : (x : ℕ) → slice_index line x < 256 = search rules in (
-      (later_by_bytes e line from near c.args.needle.now of c.requires.low (omega (arith, c.requires.low, c.requires.within)) c.requires.next c.args.edges.now right small start c.in-Some.ensures.low c.in-Some.ensures.high c.in-Some.ensures.outside, (omega (arith, high, c.in-Some.ensures.high), c.end-end-2.ensures.border e right)),
+    let small : (x : ℕ) → slice_index c.args.line.now x < 256 = search rules in (
+      (later_by_bytes e c.args.line.now c.args.from c.args.near c.args.needle.now of c.requires.low (omega (arith, c.requires.low, c.requires.within)) c.requires.next c.args.edges.now right small c.in-Some.start c.in-Some.ensures.low c.in-Some.ensures.high c.in-Some.ensures.outside, (omega (arith, c.in-Some.ensures.high), c.end-end-2.ensures.border e right)),
       record {
-        few = adds_on {first = start - from} {first_bytes = near + 1 - from} (adds_on looked c.in-Some.ensures.steps (omega arith) (omega arith)) c.end-end-2.ensures.passed (omega arith) (omega arith);
-        all = omega (arith, over, c.in-Some.ensures.high, c.in-Some.ensures.steps.passed, c.end-end-2.ensures.passed.passed);
+        few = adds_on {first = c.in-Some.start - c.args.from} {first_bytes = c.args.near + 1 - c.args.from} (adds_on looked c.in-Some.ensures.steps (omega arith) (omega arith)) c.end-end-2.ensures.passed (omega arith) (omega arith);
+        all = omega (arith, c.in-Some.ensures.high, c.in-Some.ensures.steps.passed, c.end-end-2.ensures.passed.passed);
       },
     )

@@ -10,6 +10,5 @@ places-preserved c = λ i lt empty.
           let here : text_at (map (λ s. s.now) c.args.strings.now) c.places.place ≡ [] = rw same empty in
           let read =
           get_or-map (λ s. s.now) c.args.strings.now c.places.place (record { ref_ptr = (0, 0); now = [] }) [] c.places-test.true in
-          let none = ap length (sym read ∙ here) in
-          eqb-false _ _ (sym c.is_empty.ensures ∙ c.if-is_empty.false) none
+          let none = ap length (sym read ∙ here) in eqb-false _ _ (sym c.is_empty.ensures ∙ c.if-is_empty.false) none
     ]

@@ -33,9 +33,8 @@ returns-in_default-clause-steps g c =
 
 pub returns-then-search_after-clause-reported : goal.returns-then-search_after-clause-reported
 returns-then-search_after-clause-reported g c =
-    let i = c.lines.invariant in
     next_from (λ (line : Text). Matches (g.M.Sweeps.expression c.args.matcher.now) line (g.M.Sweeps.whole c.args.matcher.now)) c.args.block.now _ c.in-Some.end c.in-Some.ensures (passed g (goal.at.returns-then-search_after-clause-reported g c).After-sweep-sweep)
-    (rw (← i.same.same_expression, ← i.same.same_whole) ((same_line _ _ (rw take_rest at c.sweep-sweep.ensures.stops) c.in-Some.ensures).1.0 ((rw (c.sweep-sweep.ensures.same.same_expression, c.sweep-sweep.ensures.same.same_whole) at c.if-search_after.ensures.reported).0 refl)))
+    (rw (← c.lines.invariant.same.same_expression, ← c.lines.invariant.same.same_whole) ((same_line _ _ (rw take_rest at c.sweep-sweep.ensures.stops) c.in-Some.ensures).1.0 ((rw (c.sweep-sweep.ensures.same.same_expression, c.sweep-sweep.ensures.same.same_whole) at c.if-search_after.ensures.reported).0 refl)))
 
 pub returns-then-search_after-clause-steps : goal.returns-then-search_after-clause-steps
 returns-then-search_after-clause-steps g c =
@@ -44,8 +43,7 @@ returns-then-search_after-clause-steps g c =
 
 pub lines-preserved : goal.lines-preserved
 lines-preserved g c =
-    let i = c.lines.invariant in
-    let cut = c.in-Some.ensures in
+    let i = c.lines.invariant in let cut = c.in-Some.ensures in
     let stops = rw take_rest at c.sweep-sweep.ensures.stops in
     record {
       within = omega arith;

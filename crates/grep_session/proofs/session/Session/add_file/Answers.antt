@@ -1,4 +1,4 @@
-use Rattle.grep_session.proofs.{Prelude.{Ok, map, inl, refl, ap, ◌∙◌, ◌++◌, ◌∷◌, [], map-append, All-push, matched_expression, whole_file, with_files, IsFileKept, kept_file, inputs_of, AddFile, TakesSteps, All, sym, subst}, lemmas.{FitLemmas.fit_pushed, EditLemmas.{asked_session, left_session, file_steps}}, session.Session.add_file.Goals.After-search_new}
+use Rattle.grep_session.proofs.{Prelude.{Ok, map, inl, refl, ap, ◌∙◌, ◌++◌, ◌∷◌, [], map-append, All-push, matched_expression, whole_file, with_files, IsFileKept, kept_file, inputs_of, AddFile, TakesSteps}, lemmas.{FitLemmas.fit_pushed, EditLemmas.{asked_session, left_session, file_steps}}, session.Session.add_file.Goals.After-search_new}
 use Rattle.grep_session.proofs.session.Session.add_file.Goals as goal
 
 takes : (c : After-search_new) → TakesSteps (AddFile c.args.name.items c.args.lines) (inputs_of c.self.inside) c.args.meter.now c.search_new.new.meter
@@ -23,7 +23,7 @@ pub invariant_of-self-2 : goal.invariant_of-self-2
 invariant_of-self-2 c =
     let s = c.self.inside in
     let Kept = IsFileKept (map matched_expression s.matchers.items) s.options in
-    asked_session s _ refl refl c.self.invariant c.search_new.ensures.same_matchers (subst (All Kept) (sym c.in-Ok-push_file.ensures.ok.0) (All-push Kept s.files.items _ c.self.invariant.kept c.in-Ok.ensures.ok))
+    asked_session s _ refl refl c.self.invariant c.search_new.ensures.same_matchers (rw c.in-Ok-push_file.ensures.ok.0 (All-push Kept s.files.items _ c.self.invariant.kept c.in-Ok.ensures.ok))
     (fit_pushed s.files.items s.marks.items _ _ _ c.in-Ok-push_file.ensures.ok.0 c.in-Ok-push_file.ensures.ok.1 c.self.invariant.fit)
 
 pub returns-clause-gives : goal.returns-clause-gives

@@ -1,4 +1,4 @@
-use Rattle.{grep_session.proofs.{Prelude.{◌≡◌, ◌+◌, ◌<◌, ◌++◌, [], Ok, Bool, false, false≢true, length, map, inl, inr, refl, sym, ap, ◌∙◌, arith, All-append, length-append, length-map, map-append, list_of, matched_expression, wants_whole, AddPatterns, with_patterns, most_patterns, AreMatchers, HasChanged, exchanged, TakesSteps, all_lines, pairs_cost, inputs_of, ◌≤◌, Err, subst, EditGives, RefusesFirst}, lemmas.{EditLemmas.left_session, StepLemmas.{chosen_all, takes_touched}, SessionLemmas.inputs_are, SplicedLists.{IsSpliced, added, cut_off, list_changed, mapped}, SplicingLemmas.{are_matchers, refuses, restored, spliced_session}}, session.Session.add_patterns.Goals.{Else-too_many, After-find_columns, After-add_texts}}, std.specs.Bool.⊤, grep_core.proofs.lemmas.CostLaws.same_length, re_search.proofs.lemmas.KeptMatchers.none_asked}
+use Rattle.{grep_session.proofs.{Prelude.{◌≡◌, ◌+◌, ◌<◌, ◌++◌, [], Ok, Bool, false, false≢true, length, map, inl, inr, refl, sym, ap, ◌∙◌, arith, All-append, length-append, length-map, map-append, list_of, matched_expression, wants_whole, AddPatterns, with_patterns, most_patterns, AreMatchers, HasChanged, exchanged, TakesSteps, all_lines, pairs_cost, inputs_of, Err, subst, EditGives, RefusesFirst}, lemmas.{EditLemmas.left_session, StepLemmas.{chosen_all, takes_touched}, SessionLemmas.inputs_are, SplicedLists.{IsSpliced, added, cut_off, list_changed, mapped}, SplicingLemmas.{are_matchers, refuses, restored, spliced_session}}, session.Session.add_patterns.Goals.{Else-too_many, After-find_columns, After-add_texts}}, std.specs.Bool.⊤, grep_core.proofs.lemmas.CostLaws.same_length, re_search.proofs.lemmas.KeptMatchers.none_asked}
 use Rattle.grep_session.proofs.session.Session.add_patterns.Goals as goal
 
 -- the patterns are not too many
@@ -68,8 +68,7 @@ returns-clause-steps c = rw (← c.self.view_is) (taken (goal.at.returns-clause-
 pub invariant_of-self-2 : goal.invariant_of-self-2
 invariant_of-self-2 c =
     let at = (goal.at.invariant_of-self-2 c).After-find_columns in
-    let few : length c.append.new.self.items ≤ most_patterns = omega (arith, many at, first at, count at, c.self.invariant.matchers.counted, c.if-too_many.ensures, c.len.ensures, c.self.inside.matchers.ok.0) in
-    spliced_session c.self.invariant (matchers at) (patterns at) (new at) _ refl (all_texts (goal.at.invariant_of-self-2 c).After-add_texts) few c.in-Ok-read_matchers.ensures.rooms c.find_columns.ensures.same_matchers ((rw c.new-change.ensures at c.in-Ok-find_columns.ensures.ok) (changed at) c.self.invariant.kept) c.find_columns.ensures.same c.lose_all.ensures
+    spliced_session c.self.invariant (matchers at) (patterns at) (new at) _ refl (all_texts (goal.at.invariant_of-self-2 c).After-add_texts) (omega (arith, many at, first at, count at)) c.in-Ok-read_matchers.ensures.rooms c.find_columns.ensures.same_matchers ((rw c.new-change.ensures at c.in-Ok-find_columns.ensures.ok) (changed at) c.self.invariant.kept) c.find_columns.ensures.same c.lose_all.ensures
 
 pub returns-clause-gives : goal.returns-clause-gives
 returns-clause-gives c =

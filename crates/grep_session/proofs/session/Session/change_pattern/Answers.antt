@@ -41,7 +41,7 @@ module _ {s : Inside} {p : ℕ} {text : Text} {narrower : Bool} {matcher gone : 
   narrow : narrower ≡ true → (line : Text) → Matched (matched_expression matcher ∷ []) s.options line → Matched (matched_expression gone ∷ []) s.options line
   narrow on line some =
       let P : Expression → Type 0 = λ e. Matches e line s.options.line_regexp in
-      let narrows = subst (NarrowsIf s p text) on i.narrows in
+      let narrows = rw on at i.narrows in
       Any-first P (matched_expression gone) [] (narrower_string s.syntax s.options _ text _ _ narrows was_meant i.new.meant.0 line (Any-single P (matched_expression matcher) some))
 
   abbrev changed : HasChanged (exchanged p 1 1 narrower) (map matched_expression all) s.options
@@ -71,7 +71,6 @@ text_at items texts p here h is = cc (get_or-map items texts p here [] h)
 is_put : (c : After-exchange-gone) → IsPut c.self.inside c.args.p c.args.text.items c.narrows-narrower.result c.in-Ok.matcher c.exchange-gone.result c.exchange-gone.new.matchers.items
 is_put c =
     let texts = c.self.inside.texts.items in
-    let narrower = c.narrows-narrower.result in
     let here : c.args.p < length texts = omega arith in
     let old = c.deref.ensures.value ∙ text_at (λ text. text.items) texts c.args.p c.index.result.now here c.index.ensures in
     let old_again = c.deref-4.ensures.value ∙ text_at (λ text. text.items) texts c.args.p c.index-2.result.now here c.index-2.ensures in
@@ -137,12 +136,11 @@ exchange-requires c =
 
 pub invariant_of-self : goal.invariant_of-self
 invariant_of-self c =
-    let s = c.self.inside in
     let i = is_put (goal.at.invariant_of-self c).After-exchange-gone in
     let now = c.find_columns.new.matchers.items in
     let here : c.args.p < length now = omega (arith, same_length matched_expression _ _ c.find_columns.ensures.same_matchers.same_expressions, many i, has_matcher i) in
     let one = get_or now c.args.p c.exchange-gone.result in
-    left_session s _ refl refl c.self.invariant (restored (matchers i) (replaced c.args.p now one here (get_or_default now c.args.p _ one here) _ c.exchange-gone.result c.exchange.ensures.items) refl c.find_columns.ensures.same_matchers) c.in-Err-find_columns.ensures.err refl
+    left_session c.self.inside _ refl refl c.self.invariant (restored (matchers i) (replaced c.args.p now one here (get_or_default now c.args.p _ one here) _ c.exchange-gone.result c.exchange.ensures.items) refl c.find_columns.ensures.same_matchers) c.in-Err-find_columns.ensures.err refl
 
 pub returns-in-Err-find_columns-clause-steps : goal.returns-in-Err-find_columns-clause-steps
 returns-in-Err-find_columns-clause-steps c =

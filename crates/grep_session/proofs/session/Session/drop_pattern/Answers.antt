@@ -1,4 +1,4 @@
-use Rattle.{grep_session.proofs.{Prelude.{◌≡◌, ℕ, ◌≤◌, ◌<◌, List, [], ◌∷◌, Ok, length, map, remove, get_or, get_or_default, inl, refl, sym, arith, false, false≢true, All, All-nil, length-map, Matcher, matched_expression, Steps, AreMatchers, AreSame, HasChanged, exchanged, SearchesEach, IsFileKept, kept_file, lost, IsSession, Inside, inputs_of, with_patterns, DropPattern, TakesSteps, parts_alone, all_lines, subst}, lemmas.{EditLemmas.left_session, SessionLemmas.map-remove, SplicedLists.{IsSpliced, inserted, list_changed, mapped, removed}, SplicingLemmas.{are_matchers, gone_meant, no_matchers, no_more, restored, spliced_session}, StepLemmas.{chosen_one, pairs_cost-none, takes_none, takes_touched}}, session.Session.drop_pattern.Goals.Else-p-len}, re_search.proofs.lemmas.KeptMatchers.none_asked, grep_core.proofs.lemmas.CostLaws.same_length}
+use Rattle.{grep_session.proofs.{Prelude.{◌≡◌, ℕ, ◌≤◌, ◌<◌, List, [], ◌∷◌, Ok, length, map, remove, get_or, get_or_default, inl, refl, sym, arith, false, false≢true, All, All-nil, length-map, Matcher, matched_expression, Steps, AreMatchers, AreSame, HasChanged, exchanged, SearchesEach, IsFileKept, kept_file, lost, IsSession, Inside, inputs_of, with_patterns, DropPattern, TakesSteps, parts_alone, all_lines}, lemmas.{EditLemmas.left_session, SessionLemmas.map-remove, SplicedLists.{IsSpliced, inserted, list_changed, mapped, removed}, SplicingLemmas.{are_matchers, gone_meant, no_matchers, no_more, restored, spliced_session}, StepLemmas.{chosen_one, pairs_cost-none, takes_none, takes_touched}}, session.Session.drop_pattern.Goals.Else-p-len}, re_search.proofs.lemmas.KeptMatchers.none_asked, grep_core.proofs.lemmas.CostLaws.same_length}
 use Rattle.grep_session.proofs.session.Session.drop_pattern.Goals as goal
 
 -- there is such a pattern
@@ -48,13 +48,11 @@ remove-gone-requires c = let s = c.self.inside in omega (arith, length-map s.tex
 pub invariant_of-self : goal.invariant_of-self
 invariant_of-self c =
     let s = c.self.inside in
-    let p = c.args.p in
     let within = inside (goal.at.invariant_of-self c).Else-p-len in
     let es = map matched_expression s.matchers.items in
-    let among : p < length es = omega (arith, has_matcher s p c.self.invariant within, length-map s.matchers.items matched_expression) in
-    let kept = c.drop_column.ensures.kept es s.options among c.if-not-self.true c.self.invariant.kept in
-    dropped s p c.self.invariant within _ c.remove.new.self.items c.remove.ensures.value c.remove.ensures.items _ refl c.remove-then-not-self-3.ensures.items none_asked
-    (subst (λ fs. All (IsFileKept fs s.options) c.drop_column.new.files.items) (sym (map-remove matched_expression s.matchers.items c.remove.new.self.items p c.remove.ensures.items)) kept) c.drop_column.ensures.same c.lose_all.ensures
+    let kept = c.drop_column.ensures.kept es s.options (omega (arith, has_matcher s c.args.p c.self.invariant within, length-map s.matchers.items matched_expression)) c.if-not-self.true c.self.invariant.kept in
+    dropped s c.args.p c.self.invariant within _ c.remove.new.self.items c.remove.ensures.value c.remove.ensures.items _ refl c.remove-then-not-self-3.ensures.items none_asked
+    (rw (map-remove matched_expression s.matchers.items c.remove.new.self.items c.args.p c.remove.ensures.items) kept) c.drop_column.ensures.same c.lose_all.ensures
 
 pub returns-then-not-self-clause-gives : goal.returns-then-not-self-clause-gives
 returns-then-not-self-clause-gives c =
@@ -83,12 +81,9 @@ put_back-requires c =
 pub invariant_of-self-in-Err : goal.invariant_of-self-in-Err
 invariant_of-self-in-Err c =
     let s = c.self.inside in
-    let p = c.args.p in
     let within = inside (goal.at.invariant_of-self-in-Err c).Else-p-len in
-    let left = c.remove-gone.new.self in
-    let as_many : length c.find_columns.new.matchers.items ≡ length left.items = same_length matched_expression _ _ c.find_columns.ensures.same_matchers.same_expressions in
-    let inside : p ≤ length c.find_columns.new.matchers.items = omega (arith, has_matcher s p c.self.invariant within, as_many, c.remove-gone.ensures.len, left.ok.0, s.matchers.ok.0) in
-    left_session s _ refl refl c.self.invariant (restored (matchers s p c.self.invariant within _ _ c.remove-gone.ensures.value c.remove-gone.ensures.items) (inserted p c.find_columns.new.matchers.items _ c.remove-gone.result inside c.put_back.ensures) refl c.find_columns.ensures.same_matchers) c.in-Err.ensures.err refl
+    let as_many = same_length matched_expression _ _ c.find_columns.ensures.same_matchers.same_expressions in
+    left_session s _ refl refl c.self.invariant (restored (matchers s c.args.p c.self.invariant within _ _ c.remove-gone.ensures.value c.remove-gone.ensures.items) (inserted c.args.p c.find_columns.new.matchers.items _ c.remove-gone.result (omega (arith, has_matcher s c.args.p c.self.invariant within)) c.put_back.ensures) refl c.find_columns.ensures.same_matchers) c.in-Err.ensures.err refl
 
 pub returns-in-Err-clause-steps : goal.returns-in-Err-clause-steps
 returns-in-Err-clause-steps c =
@@ -104,11 +99,9 @@ returns-clause-steps c =
 
 pub invariant_of-self-2 : goal.invariant_of-self-2
 invariant_of-self-2 c =
-    let s = c.self.inside in
-    let p = c.args.p in
     let within = inside (goal.at.invariant_of-self-2 c).Else-p-len in
     let kept = rw c.new-change.ensures at c.in-Ok.ensures.ok in
-    dropped s p c.self.invariant within _ _ c.remove-gone.ensures.value c.remove-gone.ensures.items _ refl c.remove-2.ensures.items c.find_columns.ensures.same_matchers (kept (changed s p c.self.invariant within _ _ c.remove-gone.ensures.value c.remove-gone.ensures.items) c.self.invariant.kept) c.find_columns.ensures.same c.lose_all-2.ensures
+    dropped c.self.inside c.args.p c.self.invariant within _ _ c.remove-gone.ensures.value c.remove-gone.ensures.items _ refl c.remove-2.ensures.items c.find_columns.ensures.same_matchers (kept (changed c.self.inside c.args.p c.self.invariant within _ _ c.remove-gone.ensures.value c.remove-gone.ensures.items) c.self.invariant.kept) c.find_columns.ensures.same c.lose_all-2.ensures
 
 pub returns-clause-gives : goal.returns-clause-gives
 returns-clause-gives c =

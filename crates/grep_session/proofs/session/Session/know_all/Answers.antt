@@ -1,4 +1,4 @@
-use Rattle.{grep_session.proofs.{Prelude.{◌∙◌, refl, map, kept_file, sym, subst, AreFit}, lemmas.{EditLemmas.asked_session, FitLemmas.{known_fit, known_marks_are}}}, re_search.proofs.lemmas.KeptMatchers.none_asked}
+use Rattle.{grep_session.proofs.{Prelude.{◌∙◌, refl, map, kept_file}, lemmas.{EditLemmas.asked_session, FitLemmas.{known_fit, known_marks_are}}}, re_search.proofs.lemmas.KeptMatchers.none_asked}
 use Rattle.grep_session.proofs.session.Session.know_all.Goals as goal
 
 pub invariant_of-self : goal.invariant_of-self
@@ -6,7 +6,7 @@ invariant_of-self c =
     let s = c.self.inside in
     let files = map kept_file s.files.items in
     let known = c.know_all.ensures ∙ known_marks_are files s.marks.items c.self.invariant.fit in
-    asked_session s _ refl refl c.self.invariant none_asked c.self.invariant.kept (subst (AreFit files) (sym known) (known_fit files))
+    asked_session s _ refl refl c.self.invariant none_asked c.self.invariant.kept (rw known (known_fit files))
 
 pub returns : goal.returns
 returns c =

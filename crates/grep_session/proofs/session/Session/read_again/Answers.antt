@@ -1,4 +1,4 @@
-use Rattle.{grep_session.proofs.{Prelude.{◌≡◌, Ok, refl, length, length-map, map, matched_expression, anew, arith, inl, sym, ap, ◌∙◌, Edit, Applies, Touches, TakesSteps, AreReadable, searched_by, read_as, inputs_of, all_lines, ◌≤◌, Err, subst, ReadsAgain, most_patterns}, lemmas.{EditLemmas.{left_session, searched_session}, AllPatternsRead.refuses_again, ChangeLemmas.all_anew, StepLemmas.{takes_lines, takes_none}, SessionLemmas.inputs_are}, session.Session.read_again.Goals.After-find_columns}, re_search.proofs.lemmas.KeptMatchers.none_asked}
+use Rattle.{grep_session.proofs.{Prelude.{◌≡◌, Ok, refl, length, length-map, map, matched_expression, anew, arith, inl, sym, ap, ◌∙◌, Edit, Applies, Touches, TakesSteps, AreReadable, searched_by, read_as, inputs_of, all_lines, Err, subst, ReadsAgain}, lemmas.{EditLemmas.{left_session, searched_session}, AllPatternsRead.refuses_again, ChangeLemmas.all_anew, StepLemmas.{takes_lines, takes_none}, SessionLemmas.inputs_are}, session.Session.read_again.Goals.After-find_columns}, re_search.proofs.lemmas.KeptMatchers.none_asked}
 use Rattle.grep_session.proofs.session.Session.read_again.Goals as goal
 
 -- all patterns went, and others came
@@ -31,7 +31,7 @@ pub invariant_of-self-2 : goal.invariant_of-self-2
 invariant_of-self-2 c =
     let s = c.self.inside in
     let made = rw c.deref.ensures.value at c.in-Ok.ensures.ok in
-    searched_session s _ c.args.syntax c.args.options _ c.in-Ok.matchers.items refl refl c.self.invariant made (subst (λ n. n ≤ most_patterns) (c.self.invariant.matchers.counted ∙ sym made.counted) c.self.invariant.few) c.in-Ok.ensures.rooms c.find_columns.ensures.same_matchers ((rw (again (goal.at.invariant_of-self-2 c).After-find_columns) at c.in-Ok-find_columns.ensures.ok) (all_anew (map matched_expression s.matchers.items) _ s.options c.args.options) c.self.invariant.kept) c.find_columns.ensures.same c.lose_all.ensures
+    searched_session s _ c.args.syntax c.args.options _ c.in-Ok.matchers.items refl refl c.self.invariant made (rw (c.self.invariant.matchers.counted ∙ sym made.counted) at c.self.invariant.few) c.in-Ok.ensures.rooms c.find_columns.ensures.same_matchers ((rw (again (goal.at.invariant_of-self-2 c).After-find_columns) at c.in-Ok-find_columns.ensures.ok) (all_anew (map matched_expression s.matchers.items) _ s.options c.args.options) c.self.invariant.kept) c.find_columns.ensures.same c.lose_all.ensures
 
 pub returns-clause-gives : goal.returns-clause-gives
 returns-clause-gives c =

@@ -1,4 +1,4 @@
-use Rattle.{grep_session.proofs.{Prelude.{◌≡◌, map, inl, inr, refl, sym, ap, subst, ◌∙◌, false≢true, Watched, true, if◌then◌else◌, Bool, Flag, Options, lost, kept_file, booleans_Decides, Inputs, read_as, SetFlag, option_of, with_option, inputs_of, parts_alone, all_lines, touched_by_flag, Ok, All, length, changes_hits, IsReadable, ReadsAgain, AreReadable, Edit, Applies, TakesSteps, Touches, searched_by}, lemmas.{AllPatternsRead.{sets_flag, applies_same, applies_flag}, StepLemmas.takes_none, SessionLemmas.inputs_are, FitLemmas.{fit_lose, given_flag}, EditLemmas.asked_session}, session.Session.set_flag.Goals.Else-get-on}, re_search.proofs.lemmas.KeptMatchers.none_asked}
+use Rattle.{grep_session.proofs.{Prelude.{◌≡◌, map, inl, inr, refl, sym, ap, subst, ◌∙◌, false≢true, Watched, if◌then◌else◌, Bool, Flag, Options, lost, kept_file, booleans_Decides, Inputs, read_as, SetFlag, option_of, with_option, inputs_of, parts_alone, all_lines, touched_by_flag, Ok, All, IsReadable, Applies}, lemmas.{AllPatternsRead.{sets_flag, applies_same, applies_flag}, StepLemmas.takes_none, SessionLemmas.inputs_are, FitLemmas.{fit_lose, given_flag}, EditLemmas.asked_session}, session.Session.set_flag.Goals.Else-get-on}, re_search.proofs.lemmas.KeptMatchers.none_asked}
 use Rattle.grep_session.proofs.session.Session.set_flag.Goals as goal
 
 -- the value is another
@@ -6,7 +6,7 @@ other : (c : Else-get-on) → option_of c.args.flag c.args.self.now.inputs.optio
 other c = λ e. false≢true (sym c.if-get-on.false ∙ (booleans_Decides c.get.result c.args.on).1 (c.get.ensures ∙ ap (λ (w : Watched). option_of c.args.flag w.inputs.options) c.self.view_is ∙ e))
 
 as_set : {o : Options} {old new : Inputs} (flag : Flag) (on : Bool) → old ≡ new → o ≡ with_option flag on old.options → o ≡ with_option flag on new.options
-as_set flag on same is = is ∙ ap (λ (i : Inputs). with_option flag on i.options) same
+as_set flag on same is = cc
 
 pub returns-then-get-on-clause-gives : goal.returns-then-get-on-clause-gives
 returns-then-get-on-clause-gives c =
@@ -14,25 +14,20 @@ returns-then-get-on-clause-gives c =
 
 pub returns-in-Verdicts-clause-gives : goal.returns-in-Verdicts-clause-gives
 returns-in-Verdicts-clause-gives c =
-    let old = c.args.self.now.inputs in
-    let new = c.read_again.new.self.inputs in
-    let gives = subst (λ o. ReadsAgain c.self.inside.syntax o old new c.read_again.result) (as_set c.args.flag c.args.on (inputs_are c.self.view_is) c.set.ensures) c.read_again.ensures.gives in
-    sets_flag c.args.flag c.args.on old new c.read_again.result (subst (λ s. ReadsAgain s (with_option c.args.flag c.args.on old.options) old new c.read_again.result) (ap (λ (i : Inputs). i.syntax) (inputs_are c.self.view_is)) gives)
+    let gives = rw (as_set c.args.flag c.args.on (inputs_are c.self.view_is) c.set.ensures) at c.read_again.ensures.gives in
+    sets_flag c.args.flag c.args.on c.args.self.now.inputs c.read_again.new.self.inputs c.read_again.result (rw (ap (λ (i : Inputs). i.syntax) (inputs_are c.self.view_is)) at gives)
 
 pub returns-in-Verdicts-clause-steps : goal.returns-in-Verdicts-clause-steps
 returns-in-Verdicts-clause-steps c =
-    let old = c.args.self.now.inputs in
-    let steps = subst (λ o. (edit : Edit) → (AreReadable c.self.inside.syntax o old → Applies edit old (Ok (read_as c.self.inside.syntax o old))) → Touches edit old (searched_by (length old.patterns) (all_lines old)) → TakesSteps edit old c.args.meter.now c.read_again.new.meter)
-    (as_set c.args.flag c.args.on (inputs_are c.self.view_is) c.set.ensures) c.read_again.ensures.steps in
-    let all = subst (λ s. (edit : Edit) → (AreReadable s (with_option c.args.flag c.args.on old.options) old → Applies edit old (Ok (read_as s (with_option c.args.flag c.args.on old.options) old))) → Touches edit old (searched_by (length old.patterns) (all_lines old)) → TakesSteps edit old c.args.meter.now c.read_again.new.meter)
-    (ap (λ (i : Inputs). i.syntax) (inputs_are c.self.view_is)) steps in
-    all (SetFlag c.args.flag c.args.on) (λ readable. inl (readable, refl)) (inr ((other (goal.at.returns-in-Verdicts-clause-steps c).Else-get-on), sym (c.in-Verdicts.ensures.touches old)))
+    let steps = rw
+    (as_set c.args.flag c.args.on (inputs_are c.self.view_is) c.set.ensures) at c.read_again.ensures.steps in
+    let all = rw
+    (ap (λ (i : Inputs). i.syntax) (inputs_are c.self.view_is)) at steps in
+    all (SetFlag c.args.flag c.args.on) (λ readable. inl (readable, refl)) (inr ((other (goal.at.returns-in-Verdicts-clause-steps c).Else-get-on), sym (c.in-Verdicts.ensures.touches c.args.self.now.inputs)))
 
 pub returns-in-Parts-clause-gives : goal.returns-in-Parts-clause-gives
 returns-in-Parts-clause-gives c =
-    let old = c.args.self.now.inputs in
-    let new = c.part_again.new.self.inputs in
-    sets_flag c.args.flag c.args.on old new c.part_again.result (subst (λ o. ReadsAgain old.syntax o old new c.part_again.result) (as_set c.args.flag c.args.on (inputs_are c.self.view_is) c.set.ensures) c.part_again.ensures.gives)
+    sets_flag c.args.flag c.args.on c.args.self.now.inputs c.part_again.new.self.inputs c.part_again.result (rw (as_set c.args.flag c.args.on (inputs_are c.self.view_is) c.set.ensures) at c.part_again.ensures.gives)
 
 pub returns-in-Parts-clause-steps : goal.returns-in-Parts-clause-steps
 returns-in-Parts-clause-steps c =
@@ -77,7 +72,7 @@ returns-in-Verdicts-clause-marks c =
 
 pub returns-in-Parts-clause-marks : goal.returns-in-Parts-clause-marks
 returns-in-Parts-clause-marks c =
-    given_flag c.args.flag c.args.on c.args.self.now c.part_again.new.self.marks c.part_again.result (other (goal.at.returns-in-Parts-clause-marks c).Else-get-on) (subst (λ f. changes_hits f ≡ true) (sym c.in-Parts.ensures.0) refl) c.part_again.ensures.marks
+    given_flag c.args.flag c.args.on c.args.self.now c.part_again.new.self.marks c.part_again.result (other (goal.at.returns-in-Parts-clause-marks c).Else-get-on) (rw c.in-Parts.ensures.0 refl) c.part_again.ensures.marks
 
 pub returns-in-Hits-clause-marks : goal.returns-in-Hits-clause-marks
 returns-in-Hits-clause-marks c =

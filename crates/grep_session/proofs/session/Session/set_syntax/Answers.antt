@@ -1,4 +1,4 @@
-use Rattle.grep_session.proofs.{Prelude.{◌≡◌, Ok, inl, inr, refl, sym, ap, ◌∙◌, SetSyntax, inputs_of, length, subst, Inputs, ReadsAgain, AreReadable, read_as, Edit, Applies, TakesSteps, Touches, searched_by, all_lines}, lemmas.{AllPatternsRead.sets_syntax, StepLemmas.takes_none, SessionLemmas.inputs_are, FitLemmas.given_syntax}}
+use Rattle.grep_session.proofs.{Prelude.{◌≡◌, Ok, inl, inr, refl, sym, ap, ◌∙◌, SetSyntax, inputs_of}, lemmas.{AllPatternsRead.sets_syntax, StepLemmas.takes_none, SessionLemmas.inputs_are, FitLemmas.given_syntax}}
 use Rattle.grep_session.proofs.session.Session.set_syntax.Goals as goal
 
 pub returns-then-is_same-clause-gives : goal.returns-then-is_same-clause-gives
@@ -9,16 +9,14 @@ returns-then-is_same-clause-gives c =
 
 pub returns-clause-gives : goal.returns-clause-gives
 returns-clause-gives c =
-    let old = c.args.self.now.inputs in
-    let same : c.read_again.inside.options ≡ old.options = ap (λ (i : Inputs). i.options) (inputs_are c.read_again.view_is) in
-    sets_syntax c.args.syntax old c.read_again-2.new.self.inputs c.read_again-2.result (subst (λ o. ReadsAgain c.args.syntax o old c.read_again-2.new.self.inputs c.read_again-2.result) same c.read_again-2.ensures.gives)
+    let same : c.read_again.inside.options ≡ c.args.self.now.inputs.options = rw (← inputs_are c.read_again.view_is) in
+    sets_syntax c.args.syntax c.args.self.now.inputs c.read_again-2.new.self.inputs c.read_again-2.result (rw same at c.read_again-2.ensures.gives)
 
 pub returns-clause-steps : goal.returns-clause-steps
 returns-clause-steps c =
-    let old = c.args.self.now.inputs in
-    let same : c.read_again.inside.options ≡ old.options = ap (λ (i : Inputs). i.options) (inputs_are c.read_again.view_is) in
-    let steps = subst (λ o. (edit : Edit) → (AreReadable c.args.syntax o old → Applies edit old (Ok (read_as c.args.syntax o old))) → Touches edit old (searched_by (length old.patterns) (all_lines old)) → TakesSteps edit old c.args.meter.now c.read_again-2.new.meter) same c.read_again-2.ensures.steps in
-    let other : c.args.syntax ≡ old.syntax → ⊥ = λ e. c.if-is_same.ensures (e ∙ sym (ap (λ (i : Inputs). i.syntax) (inputs_are c.self.view_is))) in
+    let same : c.read_again.inside.options ≡ c.args.self.now.inputs.options = rw (← inputs_are c.read_again.view_is) in
+    let steps = rw same at c.read_again-2.ensures.steps in
+    let other : c.args.syntax ≡ c.args.self.now.inputs.syntax → ⊥ = λ e. c.if-is_same.ensures (e ∙ rw (← inputs_are c.self.view_is)) in
     steps (SetSyntax c.args.syntax) (λ readable. inl (readable, refl)) (inr (other, refl))
 
 pub returns-then-is_same-clause-steps : goal.returns-then-is_same-clause-steps

@@ -1,4 +1,4 @@
-use Rattle.grep_session.proofs.{Prelude.{◌≡◌, ◌+◌, length, length-map, nil_from_length, map, refl, sym, ◌∙◌, ap, get_or, set, arith, matched_expression, KeptFile, Splice, HasPlace, TakesSteps, splice, spliced, file_at, with_files, kept_file, kept_lines, all_of, line_text, inputs_of, watched_of, IfSome, subst, All, IsKept, IsFileKept}, lemmas.{StepLemmas.takes_none, SessionLemmas.inputs_are, EditLemmas.{asked_session, left_session, splice_steps, applies_splice, in_kept, kept_put, files_same, files_spliced, files_kept, needs_for_lines}, FitLemmas.{as_many, fit_as, fit_spliced, given_splice, lines_spliced, mark_within, mark_rest, mark_spliced}}, session.Session.splice.Goals.{After-search_new, After-line_count-many}}
+use Rattle.grep_session.proofs.{Prelude.{◌≡◌, ◌+◌, length, length-map, nil_from_length, map, refl, sym, ◌∙◌, ap, get_or, set, arith, matched_expression, KeptFile, Splice, HasPlace, TakesSteps, splice, spliced, file_at, with_files, kept_file, kept_lines, all_of, line_text, inputs_of, watched_of}, lemmas.{StepLemmas.takes_none, SessionLemmas.inputs_are, EditLemmas.{asked_session, left_session, splice_steps, applies_splice, in_kept, kept_put, files_same, files_spliced, files_kept, needs_for_lines}, FitLemmas.{as_many, fit_as, fit_spliced, given_splice, lines_spliced, mark_within, mark_rest, mark_spliced}}, session.Session.splice.Goals.{After-search_new, After-line_count-many}}
 use Rattle.grep_session.proofs.session.Session.splice.Goals as goal
 
 there : (c : After-search_new) → HasPlace (inputs_of c.self.inside).files c.args.k c.args.start c.args.count
@@ -47,7 +47,7 @@ invariant_of-self-2 c =
     let come = map line_text (all_of c.in-Ok-search_new.kept) in
     let now = made (goal.at.invariant_of-self-2 c).After-line_count-many in
     let es = map matched_expression s.matchers.items in
-    let before : IfSome (kept_lines d) (All (IsKept es s.options)) = subst (λ (f : KeptFile). IsFileKept es s.options f) (sym at) (c.self.invariant.kept c.args.k d (in_kept s.files.items c.args.k place.in_files)) in
+    let before = rw (sym at) at (c.self.invariant.kept c.args.k d (in_kept s.files.items c.args.k place.in_files)) in
     let kept = files_kept es s.options s.files.items c.args.k c.put_in.new.file _ c.self.invariant.kept c.in-Ok-put_in.ensures.ok (kept_put c.args.start c.args.count (all_of c.in-Ok-search_new.kept) es s.options (kept_lines d) before c.in-Ok-search_new.ensures.ok) in
     let marks = mark_spliced old.files s.marks.items c.self.invariant.fit c.args.k c.args.start c.args.count come place.in_files place.in_file c.line_count-many.result now.1 c.touch.new.marks.items c.touch.ensures in
     asked_session s _ refl refl c.self.invariant c.search_new.ensures.same_matchers kept
@@ -105,7 +105,7 @@ invariant_of-self-in-Err-put_in c =
     let d = c.index_mut.result.now in
     let at : d ≡ get_or s.files.items c.args.k d = c.index_mut.ensures.value in
     let within = in_kept s.files.items c.args.k (there (goal.at.invariant_of-self-in-Err-put_in c).After-search_new).in_files in
-    let before : IfSome (kept_lines d) (All (IsKept es s.options)) = subst (λ (f : KeptFile). IsFileKept es s.options f) (sym at) (c.self.invariant.kept c.args.k d within) in
+    let before = rw (sym at) at (c.self.invariant.kept c.args.k d within) in
     let kept = files_kept es s.options s.files.items c.args.k c.put_in.new.file _ c.self.invariant.kept c.in-Err-put_in.ensures.err before in
     let same = files_same s.files.items c.args.k d c.put_in.new.file (ap (λ n. n.items) c.put_in.ensures.name ∙ ap (λ (f : KeptFile). f.name.items) at) (c.in-Err-put_in.ensures.err ∙ ap kept_lines at) in
     asked_session s _ refl refl c.self.invariant c.search_new.ensures.same_matchers kept (fit_as (inputs_of s).files _ s.marks.items _ same refl c.self.invariant.fit)

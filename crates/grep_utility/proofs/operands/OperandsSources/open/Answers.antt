@@ -1,15 +1,15 @@
-use Rattle.grep_utility.proofs.{Prelude.{◌+◌, ◌<◌, sym, ap, ◌∙◌, subst, searched, after_use, StandsAt, texts_of}, lemmas.OperandLemmas.{length-sources_named, StandsAt-next}}
+use Rattle.grep_utility.proofs.{Prelude.{ap, ◌∙◌, searched, after_use, texts_of}, lemmas.OperandLemmas.{length-sources_named, StandsAt-next}}
 use Rattle.grep_utility.proofs.operands.OperandsSources.open.Goals as goal
 
 pub word_at-requires : goal.word_at-requires
 word_at-requires g c =
-    subst (λ n. c.args.k < n) (length-sources_named (g.F.Files.folder c.args.self.now.start.value) (searched (texts_of c.args.self.now.words.now))) c.requires.place
+    rw (length-sources_named (g.F.Files.folder c.args.self.now.start.value) (searched (texts_of c.args.self.now.words.now))) at c.requires.place
 
 pub returns-clause-next : goal.returns-clause-next
 returns-clause-next g c =
     let start = g.F.Files.folder c.args.self.now.start.value in
     let now = g.F.Files.folder c.args.self.now.files.now in
     let words = searched (texts_of c.args.self.now.words.now) in
-    let inside = subst (λ n. c.args.k < n) (length-sources_named start words) c.requires.place in
+    let inside = rw (length-sources_named start words) at c.requires.place in
     let next = StandsAt-next start now words c.args.k inside c.requires.in_order in
-    subst (λ folder. StandsAt start folder words (c.args.k + 1)) (sym (c.open_named.ensures.used ∙ ap (after_use now) c.word_at.ensures)) next.1
+    rw (c.open_named.ensures.used ∙ ap (after_use now) c.word_at.ensures) next.1

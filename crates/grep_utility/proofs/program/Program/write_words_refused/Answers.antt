@@ -1,4 +1,4 @@
-use Rattle.{grep_utility.proofs.Prelude.{[], ◌∷◌, sym, subst, append-nil, err_from_is_err_and, written, output_line, Writes}, grep_core.proofs.lemmas.RowLemmas.{stops_early, writes_last}}
+use Rattle.{grep_utility.proofs.Prelude.{[], ◌∷◌, append-nil, err_from_is_err_and, written, output_line}, grep_core.proofs.lemmas.RowLemmas.{stops_early, writes_last}}
 use Rattle.grep_utility.proofs.program.Program.write_words_refused.Goals as goal
 
 pub returns-in_err-write_line : goal.returns-in_err-write_line
@@ -11,4 +11,4 @@ pub returns : goal.returns
 returns g c =
     writes_last g.M.CountedWrite.contents g.M.CountedWrite.failures c.args.messages.now c.write_line.new.out c.write_line-2.new.out
     (output_line [] c.args.self.now.words_refused.now) (written [] (c.args.self.now.usage.now ∷ [])) c.write_line-2.result c.in_ok-write_line.ensures
-    (subst (λ t. Writes g.M.CountedWrite.contents g.M.CountedWrite.failures c.write_line.new.out c.write_line-2.new.out t c.write_line-2.result) (sym (append-nil (output_line [] c.args.self.now.usage.now))) c.write_line-2.ensures)
+    (rw (append-nil (output_line [] c.args.self.now.usage.now)) c.write_line-2.ensures)

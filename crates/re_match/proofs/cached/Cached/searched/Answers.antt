@@ -25,11 +25,9 @@ search_on-requires-clause-row c =
 
 pub returns-then-is_matched_at_once-clause-searches : goal.returns-then-is_matched_at_once-clause-searches
 returns-then-is_matched_at_once-clause-searches c =
-    let right = c.if-not-is_ready.ensures.right refl in
-    let now = cache_of c.is_ready.new.self in
+    let right = c.if-not-is_ready.ensures.right refl in let now = cache_of c.is_ready.new.self in
     let first : Stage = record { set = right.first.start; cache = now; steps = c.args.meter.now } in
-    readied_for {middle = now} c.ready_table.ensures.same c.ready_table.ensures.readied c.mode-mode.ensures
-    (rw (← c.self.view_is, c.in-Some.is) c.is_ready.ensures.readied)
+    readied_for {middle = now} c.ready_table.ensures.same c.ready_table.ensures.readied c.mode-mode.ensures (rw (← c.self.view_is, c.in-Some.is) c.is_ready.ensures.readied)
     (rw (← c.self.view_is) (record {
       first = first;
       stands = right.first.stands c.args.line.now;
@@ -46,12 +44,10 @@ returns-then-is_matched_at_once-clause-searches c =
 
 pub returns-clause-searches : goal.returns-clause-searches
 returns-clause-searches c =
-    let right = c.if-not-is_ready.ensures.right refl in
-    let e = expression_of c.self.inside.automaton in
+    let right = c.if-not-is_ready.ensures.right refl in let e = expression_of c.self.inside.automaton in
     let now = cache_of c.is_ready.new.self in
     let first : Stage = record { set = right.first.start; cache = now; steps = c.args.meter.now } in
     let came : ComesTo e c.mode-mode.result c.args.line.now first now c.args.meter.now 0 (1 * c.is_ready.new.self.stride) =
     record { set = right.first.start; row = record { number = 1; row = refl; is = right.first.is_start }; plain = c.if-is_matched_at_once.ensures.no right.first.start right.first.is_start refl; goes = goes_nowhere e c.mode-mode.result c.args.line.now first } in
-    readied_for {middle = now} c.ready_table.ensures.same c.ready_table.ensures.readied c.mode-mode.ensures
-    (rw (← c.self.view_is, c.in-Some.is) c.is_ready.ensures.readied)
+    readied_for {middle = now} c.ready_table.ensures.same c.ready_table.ensures.readied c.mode-mode.ensures (rw (← c.self.view_is, c.in-Some.is) c.is_ready.ensures.readied)
     (rw (← c.self.view_is) (record { first = first; stands = right.first.stands c.args.line.now; cache = inl refl; steps = refl; finishes = c.search_on.ensures.finishes first (rw c.first_spot-from.ensures came) }))

@@ -9,14 +9,10 @@ returns-in_default-clause-reported g c =
 
 pub lines-preserved : goal.lines-preserved
 lines-preserved g c =
-    let i = c.lines.invariant in
-    let block = c.args.block.now in
-    let rest = c.lines.rest.now in
-    let at = c.in-Some.at in
-    let within = c.in-Some.ensures.within in
+    let i = c.lines.invariant in let rest = c.lines.rest.now in let at = c.in-Some.at in
     let next =
-    counts_next (λ (line : Text). Matches (g.Self.LineMatch.expression c.args.self.now) line (g.Self.LineMatch.whole c.args.self.now)) block rest c.lines.count at within.1 i.counts
+    counts_next (λ (line : Text). Matches (g.Self.LineMatch.expression c.args.self.now) line (g.Self.LineMatch.whole c.args.self.now)) c.args.block.now rest c.lines.count at c.in-Some.ensures.within.1 i.counts
     (rw (← i.same.same_expression, ← i.same.same_whole) c.in-Some.ensures.reported) in
-    let few : length block - length rest + (at.end + 1) ≤ length block - length (drop (at.end + 1) rest) = omega (arith, length-drop (at.end + 1) rest, i.counts.few, within.1) in
+    let few : length c.args.block.now - length rest + (at.end + 1) ≤ length c.args.block.now - length (drop (at.end + 1) rest) = omega (arith, length-drop (at.end + 1) rest, i.counts.few, c.in-Some.ensures.within.1) in
     rw take_rest
     record { counts = next; same = same_twice c.next_matched.ensures.same i.same; steps = adds_on i.steps c.in-Some.ensures.steps few few }

@@ -14,8 +14,7 @@ returns-then-is_inside-clause-passes c = λ e is. rw c.to-then-is_inside.ensures
 
 pub returns-then-is_inside-clause-stops : goal.returns-then-is_inside-clause-stops
 returns-then-is_inside-clause-stops c = λ e is.
-    let needle = rw c.in-Some-needle.is at is.needle in
-    let of = c.first_line_with_run-swept.ensures in
+    let needle = rw c.in-Some-needle.is at is.needle in let of = c.first_line_with_run-swept.ensures in
     let (at, place, before) = c.is_inside.ensures c.if-is_inside.true in
     rw (c.to-then-is_inside.ensures, c.bytes_over-reached.ensures, c.if-whole.true)
     (stops_inside e (runs_of c.in-Some-needle.needle.finder) c.args.block.now c.first_line_with_run-swept.result at (needle.first c.if-needle.true) place of.found before of.stops)
@@ -35,8 +34,7 @@ returns-clause-passes c = λ e is. rw c.to-2.ensures (passes_unmatched_run e _ c
 
 pub returns-clause-stops : goal.returns-clause-stops
 returns-clause-stops c = λ e is.
-    let needle = rw c.in-Some-needle.is at is.needle in
-    let of = c.first_line_with_run-swept.ensures in
+    let needle = rw c.in-Some-needle.is at is.needle in let of = c.first_line_with_run-swept.ensures in
     rw (c.to-2.ensures, c.bytes_over-reached.ensures) (elim c.first_place-first.ensures [
       | inl same ↦ rw same (stops_seen e _ _ _ _ (look_within _ _) of.stops)
       | inr (first, any, free, place) ↦

@@ -28,11 +28,9 @@ returns-in_default-longest_end c = λ e right edges.
 
 pub returns : goal.returns
 returns c = λ e right edges.
-    let line = c.args.line.now in
-    let from = c.args.from in
-    let part = all_is_part e c.in-Some.needle (rw c.in-Some.is at right.needle) line c.if-not-needle.false from c.in-Some-find.place c.in-Some-longest_end.end (omega (arith, c.requires)) (rw take_rest at c.in-Some-find.ensures.found) c.in-Some-longest_end.ensures in
+    let part = all_is_part e c.in-Some.needle (rw c.in-Some.is at right.needle) c.args.line.now c.if-not-needle.false c.args.from c.in-Some-find.place c.in-Some-longest_end.end (omega (arith, c.requires)) (rw take_rest at c.in-Some-find.ensures.found) c.in-Some-longest_end.ensures in
     let counted = rw take_rest at c.in-Some-find.ensures.counted in
     let high = (rw take_rest at c.in-Some-find.ensures.found).0.high in (
       part,
-      record { few = passes (c.in-Some-longest_end.end - from) (look_cost (drop from line) (Some c.in-Some-find.place)) _ (omega (arith, part.found.not_empty)) counted; all = passes_all _ _ _ (omega arith) counted },
+      record { few = passes (c.in-Some-longest_end.end - c.args.from) (look_cost (drop c.args.from c.args.line.now) (Some c.in-Some-find.place)) _ (omega (arith, part.found.not_empty)) counted; all = passes_all _ _ _ (omega arith) counted },
     )

@@ -14,8 +14,7 @@ returns-in_err-end-clause-looked c = rw c.in-Many.is (rw c.deref.ensures at c.fi
 
 pub returns-clause-reported : goal.returns-clause-reported
 returns-clause-reported c =
-    let matched = λ (line : Text). Matches (any_literal c.in-Many.set.value) line false in
-    let end = c.in_ok-end.end in
+    let matched = λ (line : Text). Matches (any_literal c.in-Many.set.value) line false in let end = c.in_ok-end.end in
     let cut : IsLineFrom c.args.block.now c.first_line-start.result.start end = c.in_ok-end.ensures in
     rw c.in-Many.is (next_from matched c.args.block.now c.first_line-start.result.start end cut (rw c.deref.ensures at c.first_line-start.ensures.passes) (rw c.deref.ensures at (c.first_line-start.ensures.found end cut)))
 

@@ -4,14 +4,12 @@ use Rattle.re_match.proofs.strings.Look.next_part.Goals as goal
 pub returns-then-beyond-bytes-clause-reported : goal.returns-then-beyond-bytes-clause-reported
 returns-then-beyond-bytes-clause-reported c =
     let found = c.in-Some.ensures.reported.found in
-    let within : c.in-Some.part.start ≤ length c.args.line.now = omega (arith, found.not_empty, found.on_line) in
-    rw c.rest_of.ensures ((found.begins, c.in-Some.ensures.reported.earliest), (within, inl refl))
+    rw c.rest_of.ensures ((found.begins, c.in-Some.ensures.reported.earliest), (omega (arith, found.not_empty, found.on_line), inl refl))
 
 pub returns-then-beyond-bytes-clause-steps : goal.returns-then-beyond-bytes-clause-steps
 returns-then-beyond-bytes-clause-steps c =
     let found = c.in-Some.ensures.reported.found in
-    let line = c.args.line.now in
-    let most = past line (length line) - c.args.from in
+    let most = past c.args.line.now (length c.args.line.now) - c.args.from in
     rw c.rest_of.ensures (record {
       few = adds_within 0 (c.in-Some.part.start - c.args.from) most most _ _ (omega arith) (omega arith)
           (adds_passed 0 (c.in-Some.part.end - c.args.from) most c.min.result _ _ _ (omega (arith, c.min.ensures, found.begins, found.not_empty, found.on_line)) (only_passed (c.in-Some.part.end - c.args.from) (c.in-Some.part.end - c.args.from) _ _ (omega arith) c.add_passed-2.ensures) c.add_passed-then-beyond-bytes.ensures);
@@ -20,8 +18,7 @@ returns-then-beyond-bytes-clause-steps c =
 
 pub returns-clause-steps : goal.returns-clause-steps
 returns-clause-steps c =
-    let bytes = c.in-Some.part.end - c.args.from in
     record {
       few = look_and_built _ _ _ _ _ _ (omega arith) (omega arith) c.add_passed-2.ensures c.add_built.ensures;
-      all = subst (PassesAtLeast (c.in-Some.part.start - c.args.from) c.args.meter.now) (sym c.add_built.ensures) (passes_all (c.in-Some.part.start - c.args.from) bytes _ (omega (arith, c.in-Some.ensures.reported.found.not_empty)) c.add_passed-2.ensures);
+      all = rw c.add_built.ensures (passes_all (c.in-Some.part.start - c.args.from) (c.in-Some.part.end - c.args.from) _ (omega (arith, c.in-Some.ensures.reported.found.not_empty)) c.add_passed-2.ensures);
     }

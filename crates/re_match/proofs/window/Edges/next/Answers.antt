@@ -11,13 +11,10 @@ returns-then-start-line c = λ e right.
 
 pub returns : goal.returns
 returns c = λ e right.
-    let line = c.args.line.now in
-    let from = c.args.from in
-    let small : (x : ℕ) → slice_index line x < 256 = search rules in
-    let start = c.next_in-start.result in
-    let at = c.next_in-start.ensures in
+    let from = c.args.from in let small : (x : ℕ) → slice_index c.args.line.now x < 256 = search rules in
+    let start = c.next_in-start.result in let at = c.next_in-start.ensures in
     let high = c.end-end.ensures.low in (
-      (later_by_run e line c.args.self.now right small from start at.on.0 at.passed, (high, c.end-end.ensures.border e right)),
+      (later_by_run e c.args.line.now c.args.self.now right small from start at.on.0 at.passed, (high, c.end-end.ensures.border e right)),
       record {
         few = adds_on {first_bytes = start + 1 - from} (only_passed _ (start + 1 - from) _ _ (omega arith) c.add_passed-2.ensures) c.end-end.ensures.passed (omega arith) (omega arith);
         all = omega (arith, passes_all (start - from) (start + 1 - from) _ (omega arith) c.add_passed-2.ensures, c.end-end.ensures.passed.passed);
