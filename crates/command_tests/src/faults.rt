@@ -1,6 +1,5 @@
 //! Reads, writes and messages that fail, at each byte.
 use crate::harness::{Limits, UNLIMITED, assert_command, assert_written, commanded, file, folder};
-use grep_cmd::USAGE;
 use memory_files::{Content, MemoryFile};
 use std::alloc::Global;
 use std::process::Abort;
@@ -210,26 +209,25 @@ fn failed_messages_end_the_run(rt: HostRuntime) -> Result<(), Fail> {
     Ok(())
 }
 
-/// A command that writes nothing to standard output, what it reports, and whether how the command is
-/// used follows.
-type GivenUpRow = (&'static str, &'static [u8], bool);
-
-/// The last writes nothing because each write fails.
-static GIVEN_UP: [GivenUpRow; 6] = [
+/// Commands that write nothing to standard output, the last because each write fails, and what they
+/// report.
+static GIVEN_UP: [(&str, &[u8]); 6] = [
+    ("-e a -e [ f", b"grep: pattern 2: UnclosedBracket at 0\n"),
+    ("-f nofile f", b"grep: nofile: cannot open\n"),
+    ("-f g f", b"grep: g: read error\n"),
     (
-        "-e a -e [ f",
-        b"grep: pattern 2: UnclosedBracket at 0\n",
-        false,
+        "-E -F a",
+        b"grep: -E and -F together\nusage: grep [-E|-F] [-cilnoqsvx] [-A NUM] [-B NUM] [-C NUM] [-e LIST]... [-f FILE]... [LIST] [FILE...]\n",
     ),
-    ("-f nofile f", b"grep: nofile: cannot open\n", false),
-    ("-f g f", b"grep: g: read error\n", false),
-    ("-E -F a", b"grep: -E and -F together\n", true),
-    ("-ne", b"grep: option -e needs an argument\n", true),
-    ("a f", b"grep: write error\n", false),
+    (
+        "-ne",
+        b"grep: option -e needs an argument\nusage: grep [-E|-F] [-cilnoqsvx] [-A NUM] [-B NUM] [-C NUM] [-e LIST]... [-f FILE]... [LIST] [FILE...]\n",
+    ),
+    ("a f", b"grep: write error\n"),
 ];
 
-/// Commands that write nothing to standard output.
-fn given_up() -> &'static [GivenUpRow] {
+/// Commands that write nothing to standard output, and what they report.
+fn given_up() -> &'static [(&'static str, &'static [u8])] {
     &GIVEN_UP
 }
 
@@ -237,12 +235,7 @@ fn given_up() -> &'static [GivenUpRow] {
 fn failed_messages_are_not_written_again(rt: HostRuntime) -> Result<(), Fail> {
     let folder = folder();
     let files = folder.as_slice();
-    for (line, message, has_usage) in given_up() {
-        let mut text = message.to_vec(rt.alloc())?;
-        if *has_usage {
-            text.extend_from_slice(USAGE)?;
-            text.push(b'\n')?;
-        }
+    for (line, text) in given_up() {
         for room in 0..=text.len() {
             let limits = Limits {
                 step: 7,
