@@ -3,17 +3,11 @@ pub use Rattle.{
   re_auto.specs.Laws.{PositionsDecide},
   re_auto.specs.Working.Beginnings.{IsMarked},
   re_auto.specs.Working.Bits.{Are, InWord, row_of},
-}
-unfoldable pub use Rattle.re_auto.specs.Working.Bits.{Has}
-pub use Rattle.{
   re_auto.specs.Working.ByteClasses.{AreClasses, IsClassed},
   re_auto.specs.Working.PartTables.{Adds, AreBlankRows, AreTurns, AreUpTo, HasRoom, HasRows, HasWidth, IsAdded, IsAddedOf, IsBlank, IsTail, Shows, empty_at, shown},
   re_auto.specs.Working.Positions.{ByteAt, Part, PartHolds, Reaches, again, copies_before, either, in_turn, is_begin, is_end, joined, one_position, only_if, optional, part_of, repeated, up_to, without_positions},
   re_auto.specs.Working.Ranges.{CoverRows, Covers},
   re_auto.specs.Working.StateSets.{IsNowhere},
-}
-unfoldable pub use Rattle.re_auto.specs.Working.StateSets.{IsAccepting, IsNextSet, StandsAt}
-pub use Rattle.{
   re_auto.specs.Working.SteppedSets.{Accepts, IsAfter, IsNext, MayBegin},
   re_auto.specs.Working.Tables.{AreTablesOf, CanBegin, Marks, SaysEmpty, words_for},
   re_auto.specs.declared.build.classes.Classes.{Classes},
@@ -31,9 +25,9 @@ pub use Rattle.{
   re_trees.specs.Working.Trees.{expression_of, members, without},
   re_trees.specs.declared.tree.Tree.{Tree, the_lemmas},
   re_trees.specs.declared.tree.Tree.TheVariants.{Alt, Repeat},
-  std.proofs.Common.{Bool, Box, Global, HoldsAt, IfSome, IsTrue, List, MatchBool, None, Option, Some, Vec, [], add-mul, ap, arith, bit_and, bit_or, drop, drop-cons, eq-eqb, eqb-true, false, get_or, get_or-drop, get_or-set_other, get_or-set_same, get_or-take, inl, inr, le-leb, leb-true, length, length-append, length-drop, length-set, length-take, map, max, min, mul-le-mul_right, nat_eq, nat_le, ne_eqb, not, refl, replicate, rules, set, slice_get, slice_index, subst, suc, sym, take, tests, true, true≢false, w64, zero, ℕ, ◌%◌, ◌&&◌, ◌*◌, ◌++◌, ◌+◌, ◌-◌, ◌/◌, ◌<◌, ◌^◌, ◌||◌, ◌↔◌, ◌∙◌, ◌∷◌, ◌≡◌, ◌≢◌, ◌≤◌, ◌⊎◌},
+  std.proofs.Common.{Bool, Box, Global, HoldsAt, IfSome, IsTrue, List, MatchBool, None, Option, Some, Vec, [], add-mul, ap, arith, bit_and, bit_or, drop, drop-cons, eq-eqb, eqb-true, false, get_or, get_or-drop, get_or-set_other, get_or-set_same, get_or-take, inl, inr, le-leb, leb-true, length, length-append, length-drop, length-set, length-take, map, max, min, mul-le-mul_right, nat_eq, nat_le, ne_eqb, refl, replicate, rules, set, slice_get, slice_index, subst, suc, sym, take, tests, true, true≢false, w64, zero, ℕ, ◌%◌, ◌&&◌, ◌*◌, ◌++◌, ◌+◌, ◌-◌, ◌/◌, ◌<◌, ◌^◌, ◌||◌, ◌↔◌, ◌∙◌, ◌∷◌, ◌≡◌, ◌≢◌, ◌≤◌, ◌⊎◌},
   std.proofs.Math.Seq.{drop-append_seam, drop-length, take-length},
-  std.proofs.lemmas.Bool.{cases_eq, cases_lt, lt-leb, not-true},
+  std.proofs.lemmas.Bool.{cases_eq, cases_lt, lt-leb},
   std.proofs.lemmas.Iterator.{YieldsList-from_slice, cases_from_all},
   std.proofs.lemmas.List.{drop-take, get_or-append_right, get_or-replicate, get_or_append_left, get_or_past, get_or_read, length-replicate, map-append, take-append-le, take_more, with_items_is},
   std.proofs.lemmas.Nat.{and_le_l},
@@ -46,5 +40,8 @@ pub use Rattle.{
   std.specs.Prelude.{⊤},
   std.specs.Vec.{with_items},
 }
+unfoldable pub use Rattle.{
+  re_auto.specs.Working.Bits.{Has},
+  re_auto.specs.Working.StateSets.{IsAccepting, IsNextSet, StandsAt},
+}
 pub use mathlib.Core.Logic.Iff.{and, rfl, symm, trans}
-pub use mathlib.Core.Logic.{⊎_map}

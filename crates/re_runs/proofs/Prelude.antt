@@ -10,9 +10,6 @@ pub use Rattle.{
   re_runs.specs.declared.probes.Probes.{Probes},
   re_trees.specs.Bytes.{Bytes, Text, nothing, only},
   re_trees.specs.Lines.{HasNoNewline, newline, terminated},
-}
-unfoldable pub use Rattle.re_trees.specs.Lines.{ended_lines_of, lines_of}
-pub use Rattle.{
   re_trees.specs.Working.Trees.{members},
   re_trees.specs.declared.bytes.ByteSet.{ByteSet},
   re_trees.specs.declared.span.Span.{Span},
@@ -31,9 +28,10 @@ pub use Rattle.{
   std.proofs.lemmas.Result.{IfOk-weaker},
   std.proofs.lemmas.Simd.{Each1-from_get_or, Each1-get_or, SwzOk, SwzOk-from_below, bit_mask_l, bitmask_splat, get_or-chunk, get_or-replicate, get_or-sel_l, get_or-swz_l_below, get_or-zip2, leading_from_mask_l, length-chunk, length-sel_l, length-swz_l, length-zip2, swz_l, tops_compared, trailing_mask_l},
   std.proofs.lemmas.Slice.Eq.{starts_is},
+  std.specs.Global.{Vec},
   std.specs.Int.{bit_at, bit_not},
   std.specs.List.{prefix_len, starts_with},
   std.specs.Prelude.{⊤},
   std.specs.Simd.Lanes.{Each1, mask_l, sel_l, top, zip2},
-  std.specs.Global.{Vec},
 }
+unfoldable pub use Rattle.re_trees.specs.Lines.{ended_lines_of, lines_of}

@@ -41,7 +41,7 @@ impl RunFinder {
 
     /// Whether the line begins with a run. As many bytes are passed as the longest has, or all bytes of
     /// the line if these are fewer.
-    #[inline]
+    #[inline(always)]
     pub fn begins(&self, line: &[u8], meter: &mut Meter) -> bool
         ensures reported { IsTrue result ↔ RunStandsAt line.now (runs_of self.now) 0 }
         ensures counted { meter.new ≡
@@ -49,7 +49,7 @@ impl RunFinder {
     {
         meter.add_passed(self.longest().min(line.len()));
         match self {
-            RunFinder::Text(finder) => line.starts_with(finder.needle()),
+            RunFinder::Text(finder) => begins_with(line, finder.needle()),
             RunFinder::Sets(finder) => finder.begins(line),
         }
     }
@@ -97,6 +97,17 @@ impl RunFinder {
             RunFinder::Sets(_) => None,
         }
     }
+}
+
+// Whether the line begins with the text. Most lines are refused by their first byte.
+#[inline(always)]
+fn begins_with(line: &[u8], text: &[u8]) -> bool
+    ensures { IsTrue result ↔ RunStandsAt line.now (one_run (map only text.now)) 0 }
+{
+    if !line.is_empty() && !text.is_empty() && line[0] != text[0] {
+        return false;
+    }
+    line.starts_with(text)
 }
 
 // Where the text ends, if it is in the line at the place.

@@ -64,13 +64,13 @@ module _ {A : Type 0} (d : A) where
 -- ---- goals of functions
 
 -- the number of marks is that of the paired lines
-pub counted : (pairs : List (ℕ × ℕ)) (there marks : List Bool) (count n : ℕ) → there ≡ marks → count ≡ set_before (length there) there → length marks ≡ n → ((k : ℕ) → k < n → get_or marks k false ≡ is_paired k pairs) → count ≡ paired_before (length marks) pairs
-counted pairs there marks count n same is many are = cc (set_paired pairs marks (λ k low. are k (omega arith)) (length marks) (omega arith))
+pub counted : (pairs : List (ℕ × ℕ)) {there marks : List Bool} {count n : ℕ} → there ≡ marks → count ≡ set_before (length there) there → length marks ≡ n → ((k : ℕ) → k < n → get_or marks k false ≡ is_paired k pairs) → count ≡ paired_before (length marks) pairs
+counted pairs {there} {marks} same is many are = cc (set_paired pairs marks (λ k low. are k (omega arith)) (length marks) (omega arith))
 
 -- marks that were added are cut off
-pub cut_off : (old more all new : List Bool) (n : ℕ) → all ≡ old ++ more → n ≡ length old → new ≡ take n all → new ≡ old
-cut_off old more all new n is many cut = cc (take-append_seam old more)
+pub cut_off : {all new : List Bool} (old more : List Bool) (n : ℕ) → all ≡ old ++ more → n ≡ length old → new ≡ take n all → new ≡ old
+cut_off old more n is many cut = cc (take-append_seam old more)
 
 -- marks are added until there are `size`
-pub grown : (old new : List Bool) (size : ℕ) → new ≡ old ++ replicate (size - length old) false → length old ≤ size → length new ≡ size
-grown old new size is few = omega (arith, ap length is, length-append old (replicate (size - length old) false), length-replicate (size - length old) false)
+pub grown : {new : List Bool} (old : List Bool) (size : ℕ) → new ≡ old ++ replicate (size - length old) false → length old ≤ size → length new ≡ size
+grown old size is few = omega (arith, ap length is, length-append old (replicate (size - length old) false), length-replicate (size - length old) false)

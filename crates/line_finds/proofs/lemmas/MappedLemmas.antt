@@ -17,8 +17,8 @@ module _ {A : Type 0} (f : A → A) (xs : List A) where
       let more : map f (take (i + 1) xs) ≡ front ++ f next ∷ [] = cc (take_more xs i d h, map-append f (take i xs) (next ∷ [])) in
       cc (set_at front next rest (f next) i long, append_assoc front (f next ∷ []) rest)
 
-  pub mapped_next : (ys : List A) (i : ℕ) (y d : A) → i < length xs → ys ≡ mapped_to i → y ≡ f (get_or ys i d) → set ys i y ≡ mapped_to (i + 1)
-  mapped_next ys i y d h is made = cc (mapped_more i d h)
+  pub mapped_next : {ys : List A} (i : ℕ) {y : A} (d : A) → i < length xs → ys ≡ mapped_to i → y ≡ f (get_or ys i d) → set ys i y ≡ mapped_to (i + 1)
+  mapped_next i d h is made = cc (mapped_more i d h)
 
   pub mapped_all : (i : ℕ) → length xs ≤ i → mapped_to i ≡ map f xs
   mapped_all i h = cc (take_all i xs h, drop_all i xs h, append-nil (map f xs))

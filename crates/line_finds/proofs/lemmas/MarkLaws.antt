@@ -45,18 +45,18 @@ line_below old marks pairs i same low h =
 
 -- ---- goals of functions
 
-pub all_below : (there : List Match) (all : List (ℕ × ℕ)) (size : ℕ) (none : List Bool) → pairs_of there ≡ all → length none ≡ size → AreBelow size all → AreBelow (length none) (pairs_of there)
-all_below there all size none is many h = rw many (rw is h)
+pub all_below : (there : List Match) (all : List (ℕ × ℕ)) {size : ℕ} (none : List Bool) → pairs_of there ≡ all → length none ≡ size → AreBelow size all → AreBelow (length none) (pairs_of there)
+all_below there all none is many h = rw many (rw is h)
 
 -- marks of no line, and then of those that are paired
-pub marks_are : (pairs : List Match) (all : List (ℕ × ℕ)) (size : ℕ) (none marks : List Bool) → pairs_of pairs ≡ all → none ≡ replicate size false → marks ≡ marked pairs none → AreBelow size all → (k : ℕ) → k < size → get_or marks k false ≡ is_paired k all
-marks_are pairs all size none marks is clear set h k low =
+pub marks_are : (pairs : List Match) (all : List (ℕ × ℕ)) (size : ℕ) {marks : List Bool} (none : List Bool) → pairs_of pairs ≡ all → none ≡ replicate size false → marks ≡ marked pairs none → AreBelow size all → (k : ℕ) → k < size → get_or marks k false ≡ is_paired k all
+marks_are pairs all size none is clear set h k low =
     let many : length none ≡ size = cc (length-replicate size false) in
     let below : AreBelow (length none) (pairs_of pairs) = rw many (rw is h) in
     cc (marked_is pairs none below k, get_or-replicate size k false false low)
 
-pub marks_of_are : (first count : ℕ) (pairs : List Match) (all : List (ℕ × ℕ)) (size : ℕ) (none marks : List Bool) → pairs_of pairs ≡ all → none ≡ replicate size false → marks ≡ marked_of first count pairs none → AreBelow size all → (k : ℕ) → k < size → get_or marks k false ≡ has_own first count (numbers_at k all)
-marks_of_are first count pairs all size none marks is clear set h k low =
+pub marks_of_are : (first count : ℕ) (pairs : List Match) (all : List (ℕ × ℕ)) (size : ℕ) {marks : List Bool} (none : List Bool) → pairs_of pairs ≡ all → none ≡ replicate size false → marks ≡ marked_of first count pairs none → AreBelow size all → (k : ℕ) → k < size → get_or marks k false ≡ has_own first count (numbers_at k all)
+marks_of_are first count pairs all size none is clear set h k low =
     let many : length none ≡ size = cc (length-replicate size false) in
     let below : AreBelow (length none) (pairs_of pairs) = rw many (rw is h) in
     cc (marked_of_is first count pairs none below k, get_or-replicate size k false false low)

@@ -129,5 +129,5 @@ added_one at from to old new next items i low so_far step =
     cc (take_more items i none low, map-append pair_of (take i items) (get_or items i none ∷ []), append_assoc old (moved_to at from to (pairs_of (take i items))) (moved_to at from to one), moved_to-append at from to (pairs_of (take i items)) one)
 
 -- the pairs are what they were where those that were added are cut off
-pub cut_back : (pairs : List Match) (new : List Match) (old view : List (ℕ × ℕ)) (n : ℕ) → pairs ≡ take n new → pairs_of new ≡ view → n ≡ length old → take (length old) view ≡ old → pairs_of pairs ≡ old
-cut_back pairs new old view n cut is many same = cc (take-map pair_of n new)
+pub cut_back : {pairs : List Match} (new : List Match) {old view : List (ℕ × ℕ)} (n : ℕ) → pairs ≡ take n new → pairs_of new ≡ view → n ≡ length old → take (length old) view ≡ old → pairs_of pairs ≡ old
+cut_back new n cut is many same = cc (take-map pair_of n new)

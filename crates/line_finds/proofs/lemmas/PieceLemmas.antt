@@ -24,8 +24,8 @@ begins_in_order lists from to h = omega (arith, ap (λ some. length (all_items s
 pub one_longer : {X : Type 0} (lists : List (List X)) (k : ℕ) → k < length lists → length (all_items (take (k + 1) lists)) ≡ length (all_items (take k lists)) + length (get_or lists k [])
 one_longer lists k h = cc (take_more lists k [] h, items-append (take k lists) (get_or lists k [] ∷ []), length-append (all_items (take k lists)) (get_or lists k [] ++ []), append-nil (get_or lists k []))
 
-pub list_between : {X : Type 0} (lists : List (List X)) (k start end : ℕ) (items : List X) → k < length lists → items ≡ all_items lists → start ≡ length (all_items (take k lists)) → end ≡ length (all_items (take (k + 1) lists)) → take (end - start) (drop start items) ≡ get_or lists k []
-list_between lists k start end items h are s e =
+pub list_between : {X : Type 0} (lists : List (List X)) {start end : ℕ} (k : ℕ) {items : List X} → k < length lists → items ≡ all_items lists → start ≡ length (all_items (take k lists)) → end ≡ length (all_items (take (k + 1) lists)) → take (end - start) (drop start items) ≡ get_or lists k []
+list_between lists {start} {end} k h are s e =
     let size : length (get_or lists k []) ≡ end - start = omega (arith, one_longer lists k h) in
     cc (drop-items lists k, drop_more lists k [] h, take_at (get_or lists k []) (all_items (drop (k + 1) lists)) (end - start) size)
 
@@ -182,8 +182,8 @@ module _ {X : Type 0} {lists : List (List X)} {items : List X} {starts : List �
 
   -- ---- lists removed
 
-  pub are_without : {new_items : List X} {new_starts : List ℕ} → AreLists lists items starts → (from to start end : ℕ) → from ≤ to → start ≡ length (all_items (take from lists)) → end ≡ length (all_items (take to lists)) → new_items ≡ take start items ++ drop end items → new_starts ≡ take from starts ++ map (λ s. s - (end - start)) (drop to starts) → AreLists (take from lists ++ drop to lists) new_items new_starts
-  are_without are from to start end h s e i n =
+  pub are_without : {new_items : List X} {new_starts : List ℕ} → AreLists lists items starts → {start end : ℕ} (from to : ℕ) → from ≤ to → start ≡ length (all_items (take from lists)) → end ≡ length (all_items (take to lists)) → new_items ≡ take start items ++ drop end items → new_starts ≡ take from starts ++ map (λ s. s - (end - start)) (drop to starts) → AreLists (take from lists ++ drop to lists) new_items new_starts
+  are_without are {start} {end} from to h s e i n =
       let gap : 0 + length (all_items (take to lists)) ≡ 0 + length (all_items (take from lists)) + (end - start) = omega (arith, begins_in_order lists from to h) in
       record {
         items_are = cc (are.items_are, take-items lists from, drop-items lists to, items-append (take from lists) (drop to lists));

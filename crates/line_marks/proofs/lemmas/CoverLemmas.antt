@@ -7,7 +7,7 @@ at kept removed added = record { kept = kept; removed = removed; added = added }
 -- ---- nothing changes
 
 pub loses_none : (stretches : List Stretch) → Loses stretches stretches
-loses_none stretches = record {
+loses_none _ = record {
   fits = λ known lines fit. fit;
   only = λ line now keeps. keeps;
   before = λ place before. before;
@@ -15,7 +15,7 @@ loses_none stretches = record {
 }
 
 pub covers_more : (start end : ℕ) (old mid new : List Stretch) → Covers start end old mid → Covers start end mid new → Covers start end old new
-covers_more start end old mid new first then = record {
+covers_more _ _ _ _ _ first then = record {
   fits = λ known lines within fit. then.fits known lines within (first.fits known lines within fit);
   only = λ line now keeps. first.only line now (then.only line now keeps);
   all = λ line now out keeps. then.all line now out (first.all line now out keeps);
@@ -31,12 +31,12 @@ led_none (stretch ∷ more) =
     ap (λ kept. at kept stretch.removed stretch.added ∷ more) (omega arith)
 
 pub led_more : (lead more : ℕ) (stretches : List Stretch) → led (lead + more) stretches ≡ led more (led lead stretches)
-led_more lead more [] = refl
+led_more _ _ [] = refl
 led_more lead more (stretch ∷ rest) =
     ap (λ kept. at kept stretch.removed stretch.added ∷ rest) (omega arith)
 
 pub lead_more : (lead more : ℕ) (stretches : List Stretch) → HasLead lead stretches → HasLead more (led lead stretches) → HasLead (lead + more) stretches
-lead_more lead more [] first then = tt
+lead_more _ _ [] _ _ = tt
 lead_more lead more (stretch ∷ rest) first then = omega arith
 
 pub lead_none : (stretches : List Stretch) → HasLead 0 stretches

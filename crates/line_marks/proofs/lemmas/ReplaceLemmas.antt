@@ -31,8 +31,8 @@ one_replaced start count added {one = one} covers begins reaches = record {
 
 -- ---- after other stretches
 
-past_one : (s : Stretch) (start later count added : ℕ) (old new : List Stretch) → start ≡ s.kept + s.added + later → Replaces later count added old new → Replaces start count added (s ∷ old) (s ∷ new)
-past_one s start later count added old new is r = record {
+past_one : (s : Stretch) {start : ℕ} (later count added : ℕ) {old new : List Stretch} → start ≡ s.kept + s.added + later → Replaces later count added old new → Replaces start count added (s ∷ old) (s ∷ new)
+past_one s later count added is r = record {
   fits = λ known lines within fit. (fit.0, fit.1 - count + added, fit.2, omega arith, r.fits fit.0 fit.1 (omega arith) fit.4);
   only = λ line now keeps. elim keeps [
     | inl h ↦ (now, inl h, inl (omega arith, refl))
@@ -62,10 +62,10 @@ past_one s start later count added old new is r = record {
       (later + added + past, omega arith, r.after past (rw same at after.2)));
 }
 
-pub past_all : (front old new : List Stretch) (start rest count added : ℕ) → Passes front start rest → Replaces rest count added old new → Replaces start count added (front ++ old) (front ++ new)
-past_all [] old new start rest count added passes r = rw passes r
-past_all (s ∷ front) old new start rest count added passes r =
-    past_one s _ _ _ _ _ _ passes.1 (past_all front old new passes.0 rest count added passes.3 r)
+pub past_all : {old new : List Stretch} (front : List Stretch) {rest count added : ℕ} (start : ℕ) → Passes front start rest → Replaces rest count added old new → Replaces start count added (front ++ old) (front ++ new)
+past_all [] start passes r = rw passes r
+past_all (s ∷ front) _ passes r =
+    past_one s _ _ _ passes.1 (past_all front passes.0 passes.3 r)
 
 -- the stretches after others are of a file of fewer lines
 pub counted_past : (front tail : List Stretch) (start rest count known lines : ℕ) → Passes front start rest → start + count ≤ lines → known < 2 ^ 64 → lines < 2 ^ 64 → Fits known lines (front ++ tail) → AreCounted (rest + count) tail
@@ -82,8 +82,8 @@ counted_past (s ∷ front) tail start rest count known lines passes within few_k
 
 -- ---- a mark
 
-pub replaced_mark : (start count added : ℕ) (old new : Marked) → 1 ≤ count + added → SplicesList start count added old.stretches new.stretches → new.known ≡ old.known → new.lines ≡ old.lines - count + added → start + count ≤ old.lines → Fits new.known new.lines new.stretches → Splices start count added old new
-replaced_mark start count added old new some s known lines within fits = record {
+pub replaced_mark : {added : ℕ} (start count : ℕ) (old new : Marked) → 1 ≤ count + added → SplicesList start count added old.stretches new.stretches → new.known ≡ old.known → new.lines ≡ old.lines - count + added → start + count ≤ old.lines → Fits new.known new.lines new.stretches → Splices start count added old new
+replaced_mark start count old new some s known lines within fits = record {
   fits = fits;
   known = known;
   lines = omega arith;
@@ -135,13 +135,13 @@ module _ (old mid : List Stretch) (start count added many rest lines : ℕ) (wit
     tail = led all.lead (drop all.many (drop many mid))
 
     replaces : Replaces start count added mid (take many mid ++ one ∷ tail)
-    replaces = rw (take-append-drop many mid) at (past_all (take many mid) (drop many mid) (one ∷ tail) start rest count added passes (one_replaced rest count added takes.covers takes.begins takes.reaches))
+    replaces = rw (take-append-drop many mid) at (past_all (take many mid) start passes (one_replaced rest count added takes.covers takes.begins takes.reaches))
 
     pub few_added : (known : ℕ) → Fits known lines old → all.one.added - count + added ≤ lines - count + added
     few_added known fit = (fits_within (take many mid) one tail known (lines - count + added) (replaces.fits known lines within (loses.fits known lines fit))).1
 
-    pub spliced_list : (new : List Stretch) → length mid ≤ length old → (length old < most_stretches → mid ≡ old) → new ≡ take many mid ++ one ∷ led all.lead (drop (many + all.many) mid) → SplicesList start count added old new
-    spliced_list new few same is = record {
+    pub spliced_list : {new : List Stretch} → length mid ≤ length old → (length old < most_stretches → mid ≡ old) → new ≡ take many mid ++ one ∷ led all.lead (drop (many + all.many) mid) → SplicesList start count added old new
+    spliced_list few same is = record {
       mid = mid;
       same = same;
       loses = loses;

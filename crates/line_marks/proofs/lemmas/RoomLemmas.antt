@@ -22,7 +22,7 @@ lose_at : (k : ℕ) (old : List Stretch) (d e : Stretch) → suc k < length old 
     Loses old (take k (cut k (suc k) (cut (suc k) (suc (suc k)) old)) ++ both (get_or (cut (suc k) (suc (suc k)) old) k d) (get_or old (suc k) e) ∷ drop k (cut k (suc k) (cut (suc k) (suc (suc k)) old)))
 lose_at k [] d e less = absurd (omega arith)
 lose_at k (a ∷ []) d e less = absurd (omega arith)
-lose_at zero (a ∷ b ∷ more) d e less = both_lose a b more
+lose_at zero (a ∷ b ∷ more) d e _ = both_lose a b more
 lose_at (suc k) (a ∷ b ∷ more) d e less = loses_past a (lose_at k (b ∷ more) d e (omega arith))
 
 pub joined_lose : (k : ℕ) {old gone : List Stretch} {one next : Stretch} → 1 ≤ k → k < length old → gone ≡ cut k (suc k) old → next ≡ get_or old k next → one ≡ get_or gone (k - 1) one →
@@ -48,7 +48,7 @@ few_joined k {gone = gone} {one = one} {next = next} some less gone_is at_next a
 
 pub lowered_at : (k : ℕ) (old : List Stretch) (lead : ℕ) (d : Stretch) → k < length old → take k (cut k (suc k) old) ++ led lead (get_or old k d ∷ drop k (cut k (suc k) old)) ≡ take k old ++ led lead (drop k old)
 lowered_at k [] lead d less = absurd (omega arith)
-lowered_at zero (a ∷ old) lead d less = refl
+lowered_at zero (a ∷ old) _ d _ = refl
 lowered_at (suc k) (a ∷ old) lead d less = rw (lowered_at k old lead d (omega arith))
 
 pub put_at : (first past : ℕ) (old rest : List Stretch) (one : Stretch) → first ≤ past → past ≤ length old → take first (cut first past (take past old ++ rest)) ++ one ∷ drop first (cut first past (take past old ++ rest)) ≡ take first old ++ one ∷ rest
@@ -58,5 +58,5 @@ put_at (suc first) (suc past) [] rest one le within = absurd (omega arith)
 put_at (suc first) (suc past) (a ∷ old) rest one le within = rw (put_at first past old rest one (omega arith) (omega arith))
 
 pub led_length : (lead : ℕ) (stretches : List Stretch) → length (led lead stretches) ≡ length stretches
-led_length lead [] = refl
-led_length lead (s ∷ more) = refl
+led_length _ [] = refl
+led_length _ (s ∷ more) = refl

@@ -4,15 +4,15 @@ use Rattle.line_marks.proofs.{Prelude.{◌≡◌, ℕ, ◌+◌, ◌-◌, ◌^◌
 -- ---- the first
 
 pub no_first : (lead : ℕ) (stretches : List Stretch) → ◌≡◌ {A = Option Stretch} None (slice_get stretches 0) → HasLead lead stretches
-no_first lead [] is = tt
+no_first _ [] _ = tt
 no_first lead (s ∷ more) is = absurd (cc)
 
 pub far_first : (lead : ℕ) (stretches : List Stretch) (first : Stretch) → Some first ≡ slice_get stretches 0 → lead ≤ first.kept → HasLead lead stretches
-far_first lead [] first is far = tt
+far_first _ [] _ _ _ = tt
 far_first lead (s ∷ more) first is far = let same : first ≡ s = cc in rw same at far
 
-pub takes_idle : (start : ℕ) (old : List Stretch) (all : Touched) → HasLead start old → all.one ≡ at start 0 0 → all.many ≡ 0 → all.lead ≡ start → Takes start start start old all
-takes_idle start old all lead one many led_is = record {
+pub takes_idle : {start : ℕ} (old : List Stretch) (all : Touched) → HasLead start old → all.one ≡ at start 0 0 → all.many ≡ 0 → all.lead ≡ start → Takes start start start old all
+takes_idle {start} old all lead one many led_is = record {
   within = omega arith;
   lead = rw (many, led_is) lead;
   few_lead = rw one (omega arith);
@@ -66,8 +66,8 @@ module _ (start end : ℕ) (old : List Stretch) (all : Touched) (t : Takes start
       pub few_both : AreCounted end old → (all.one.removed + (next.kept + next.removed) < 2 ^ 64) × (all.one.added + (next.kept + next.added) < 2 ^ 64)
       few_both counted = omega (arith, next_covers.fits counted.known counted.lines counted.within counted.fit)
 
-      pub takes_next : (one : Stretch) → next.kept ≤ end - (all.one.kept + all.one.added) → one ≡ both all.one next → Takes start end start old (record { one = one; many = k + 1; lead = 0 })
-      takes_next one near made = record {
+      pub takes_next : {one : Stretch} → next.kept ≤ end - (all.one.kept + all.one.added) → one ≡ both all.one next → Takes start end start old (record { one = one; many = k + 1; lead = 0 })
+      takes_next near made = record {
         within = omega arith;
         lead = lead_none (drop (k + 1) old);
         few_lead = omega arith;
@@ -88,8 +88,8 @@ module _ (start end : ℕ) (old : List Stretch) (all : Touched) (t : Takes start
   abbrev rest : List Stretch
   rest = led all.lead (drop all.many old)
 
-  pub near_none : (k : ℕ) → all.many ≡ k → length old ≤ k → HasLead more rest
-  near_none k many past = rw (drop_all all.many old (omega arith)) tt
+  pub near_none : {k : ℕ} → all.many ≡ k → length old ≤ k → HasLead more rest
+  near_none many past = rw (drop_all all.many old (omega arith)) tt
 
   wide_cover : HasLead more rest → Covers start end old (wide all.one more ∷ led more rest)
   wide_cover near = covers_more _ _ _ _ _ t.covers (wide_covers _ _ _ _ _ t.reaches refl near)

@@ -1,54 +1,37 @@
 -- Words of bits as sets.
-use Rattle.re_auto.proofs.Prelude.{Bool, true, false, true≢false, IsTrue, MatchBool, ◌≡◌, ℕ, ◌+◌, ◌-◌, ◌*◌, ◌/◌, ◌%◌, ◌^◌, suc, ◌<◌, ◌≤◌, max, nat_eq, eqb-true, eq-eqb, List, length, take, drop, mul-le-mul_right, get_or, set, ◌⊎◌, inl, inr, refl, sym, ap, ◌∙◌, arith, w64, cases_eq, cases_lt, drop-take, get_or_past, length-replicate, get_or-replicate, get_or-set_same, get_or-set_other, replicate, and_le_l, shr_and_one, bit_at_or, bit_at_and, bit_at-lt, bit_at-zero, bit_at_set_same, bit_at_set_other, bit_at-trailing_zeros, bit_at_clear_same, bit_at_clear_other, bit_and, bit_or, ⊎_map, rfl, trans, InWord, length-take, length-drop, ◌↔◌, ◌≢◌, HoldsAt, AllWithin, bit_at, trailing_zeros, bit_not, Has, Are, row_of, between-put_mid, take-put_mid_below, drop-put_mid}
+use Rattle.re_auto.proofs.Prelude.{Bool, true, false, true≢false, IsTrue, MatchBool, ◌≡◌, ℕ, ◌+◌, ◌-◌, ◌*◌, ◌/◌, ◌%◌, ◌^◌, suc, ◌<◌, ◌≤◌, max, nat_eq, eqb-true, eq-eqb, List, length, take, drop, mul-le-mul_right, get_or, set, ◌⊎◌, inl, inr, refl, sym, ap, ◌∙◌, arith, w64, cases_eq, cases_lt, drop-take, get_or_past, length-replicate, get_or-replicate, get_or-set_same, get_or-set_other, replicate, and_le_l, shr_and_one, bit_at_or, bit_at_and, bit_at-lt, bit_at-zero, bit_at_set_same, bit_at_set_other, bit_at-trailing_zeros, bit_at_clear_same, bit_at_clear_other, bit_and, bit_or, rfl, trans, InWord, length-take, length-drop, ◌↔◌, ◌≢◌, HoldsAt, AllWithin, bit_at, trailing_zeros, bit_not, Has, Are, row_of, between-put_mid, take-put_mid_below, drop-put_mid}
 use borrow.Rule.Slice.PartMut.{put_mid}
 
 pub one_of_max : (x y : ℕ) → x < 2 → y < 2 → max x y ≡ 1 → (x ≡ 1) ⊎ (y ≡ 1)
-one_of_max x y a b h = elim (cases_eq x 1) [ inl e ↦ inl e | inr n ↦ inr (omega arith) ]
+one_of_max x y a b h = grind arith
 
 -- the set has no number after its last word
 pub within : (xs : List ℕ) (e : ℕ) → Has xs e → e / 64 < length xs
 unfolding Has
-within xs e h =
-    elim (cases_lt (e / 64) (length xs)) [
-      | inl lt ↦ lt
-      | inr le ↦ absurd (let none = get_or_past xs (e / 64) 0 le in
-          let bit : bit_at (get_or xs (e / 64) 0) (e % 64) ≡ bit_at 0 (e % 64) = rw none in
-          omega (arith, bit_at-zero (e % 64)))
-    ]
+within xs e h = grind (arith, get_or_past, bit_at-zero)
 
 -- a second choice that never holds says nothing
 pub or_never : {A B : Type 0} → ¬ B → A ↔ (A ⊎ B)
-or_never none = (inl, elim [ inl a ↦ a | inr b ↦ absurd (none b) ])
+or_never none = grind arith
 
 -- equivalent facts in choices
 pub one_of : {A B C D : Type 0} → A ↔ B → C ↔ D → (A ⊎ C) ↔ (B ⊎ D)
-one_of f g = (⊎_map f.0 g.0, ⊎_map f.1 g.1)
+one_of f g = grind arith
 
 pub in_either : (a b q : ℕ) → InWord (bit_or a b) q ↔ (InWord a q ⊎ InWord b q)
-in_either a b q = (
-  λ h. one_of_max _ _ (bit_at-lt a q) (bit_at-lt b q) (sym (bit_at_or a b q) ∙ h),
-  elim [ inl x ↦ omega (arith, bit_at_or a b q, bit_at-lt b q) | inr y ↦ omega (arith, bit_at_or a b q, bit_at-lt a q) ],
-)
+in_either a b q = grind (arith, bit_at_or, bit_at-lt)
 
 pub in_both : (a b q : ℕ) → InWord (bit_and a b) q ↔ (InWord a q × InWord b q)
-in_both a b q = (λ h. (omega (arith, bit_at_and a b q, bit_at-lt a q, bit_at-lt b q), omega (arith, bit_at_and a b q, bit_at-lt a q, bit_at-lt b q)), λ (x, y). omega (arith, bit_at_and a b q))
+in_both a b q = grind (arith, bit_at_and, bit_at-lt)
 
 module _ (old row new : List ℕ) (same : length old ≡ length row) (len : length new ≡ length old) where
   pub or_has : ((j : ℕ) → j < length old → get_or new j 0 ≡ bit_or (get_or old j 0) (get_or row j 0)) → (e : ℕ) → Has new e ↔ (Has old e ⊎ Has row e)
   unfolding Has
-  or_has each e =
-      elim (cases_lt (e / 64) (length old)) [
-        | inl lt ↦ rw (each (e / 64) lt) (in_either _ _ (e % 64))
-        | inr ge ↦ (λ h. absurd (omega (arith, within new e h)), λ h. absurd (elim h [ inl h ↦ omega (arith, within old e h) | inr h ↦ omega (arith, within row e h) ]))
-      ]
+  or_has each e = grind (arith, each (e / 64), in_either, within old e, within row e, within new e)
 
   pub and_has : ((j : ℕ) → j < length old → get_or new j 0 ≡ bit_and (get_or old j 0) (get_or row j 0)) → (e : ℕ) → Has new e ↔ (Has old e × Has row e)
   unfolding Has
-  and_has each e =
-      elim (cases_lt (e / 64) (length old)) [
-        | inl lt ↦ rw (each (e / 64) lt) (in_both _ _ (e % 64))
-        | inr ge ↦ (λ h. absurd (omega (arith, within new e h)), λ h. absurd (omega (arith, within old e h.0)))
-      ]
+  and_has each e = grind (arith, each (e / 64), in_both, within old e, within new e)
 
 pub insert_has : (xs : List ℕ) (e : ℕ) → e < length xs * 64 → (q : ℕ)
     → Has (set xs (e / 64) (bit_or (get_or xs (e / 64) 0) (1 * 2 ^ (e % 64) % 2 ^ 64))) q ↔ (Has xs q ⊎ (q ≡ e))
@@ -98,12 +81,9 @@ lowest word some fits =
     record {
       small = found.0;
       set = found.1;
-      less = elim (cases_eq left word) [
-        | inl same ↦ absurd (let both : bit_at left k ≡ bit_at word k = rw same in omega (arith, gone))
-        | inr other ↦ omega (arith, and_le_l word (bit_not w64 (1 * 2 ^ k % 2 ^ 64)))
-      ];
+      less = grind (arith, gone, and_le_l word (bit_not w64 (1 * 2 ^ k % 2 ^ 64)));
       gone = λ h. omega (arith, gone);
-      rest = λ b lt. elim (cases_eq b k) [ inl same ↦ (λ h. inr same, λ h. rw same found.1) | inr other ↦ rw (bit_at_clear_other w64 word k found.0 b lt other) (or_never other) ];
+      rest = λ b lt. grind (arith, bit_at_clear_other w64 word k found.0 b lt, found.1, gone);
     }
 
 -- the numbers of the one word are all in the other
@@ -119,14 +99,11 @@ AddsUp now old R left word = (now ⊎ ((b : ℕ) × (b < 64) × (bit_at left b �
 pub one_added : (A B : Type 0) (R : ℕ → Type 0) (old new k : ℕ) → k < 64 → (B ↔ (A ⊎ R k)) →
     ((b : ℕ) → b < 64 → (bit_at old b ≡ 1) ↔ ((bit_at new b ≡ 1) ⊎ (b ≡ k))) →
     AddsUp B A R new old
-one_added A B R old new k small add rest = (
-  elim [ inl b ↦ elim (add.0 b) [ inl a ↦ inl a | inr r ↦ inr (k, small, (rest k small).1 (inr refl), r) ] | inr (b, lt, h, r) ↦ inr (b, lt, (rest b lt).1 (inl h), r) ],
-  elim [ inl a ↦ inl (add.1 (inl a)) | inr (b, lt, h, r) ↦ elim ((rest b lt).0 h) [ inl h ↦ inr (b, lt, h, r) | inr same ↦ inl (add.1 (inr (rw same at r))) ] ],
-)
+one_added A B R old new k small add rest = grind arith
 
 -- nothing is left of a word without bits
 pub none_left : (B C : Type 0) (R : ℕ → Type 0) (left : ℕ) → left ≡ 0 → ((B ⊎ ((b : ℕ) × (b < 64) × (bit_at left b ≡ 1) × R b)) ↔ C) → B ↔ C
-none_left B C R left zero all = (λ b. all.0 (inl b), λ c. elim (all.1 c) [ inl b ↦ b | inr (b, lt, h, r) ↦ absurd (omega (arith, rw zero at h, bit_at-zero b)) ])
+none_left B C R left zero all = grind (arith, bit_at-zero)
 
 -- the members of one word are added, and the next word is the first one left
 pub word_added : {A B : Type 0} {R : ℕ → Type 0} (from : List ℕ) (k : ℕ) →
@@ -149,10 +126,10 @@ word_added from k add = (
 -- nothing is left after the last word
 pub all_added : {A B : Type 0} {R : ℕ → Type 0} (from : List ℕ) (k : ℕ) → length from ≤ k →
     ((B ⊎ ((p : ℕ) × (k * 64 ≤ p) × Has from p × R p)) ↔ (A ⊎ ((p : ℕ) × Has from p × R p))) → B ↔ (A ⊎ ((p : ℕ) × Has from p × R p))
-all_added from k le add = (λ b. add.0 (inl b), λ a. elim (add.1 a) [ inl b ↦ b | inr (p, low, h, r) ↦ absurd (omega (arith, within from p h)) ])
+all_added from k le add = grind (arith, within)
 
 pub chained : {A B C : Type 0} → A ↔ B → B ↔ C → A ↔ C
-chained f g = (λ a. g.0 (f.0 a), λ c. f.1 (g.1 c))
+chained f g = grind arith
 
 pub all_zero : (xs : List ℕ) → ((k : ℕ) → k < length xs → get_or xs k 0 ≡ 0) → (e : ℕ) → Has xs e → ⊥
 unfolding Has

@@ -28,7 +28,7 @@ new_class count width row old new class table same is appended first =
 -- one more byte is marked
 pub one_marked : (marks : List Bool) (c : ℕ) (mark : Bool) (S : ℕ → Type 0) → c < length marks → ((k : ℕ) → k < c → IsTrue (get_or marks k false) ↔ S k) → (IsTrue mark ↔ S c) →
     (k : ℕ) → k < c + 1 → IsTrue (get_or (set marks c mark) k false) ↔ S k
-one_marked marks c mark S within before here k lt = elim (cases_eq k c) [ inl same ↦ rw same (rw (get_or-set_same marks c mark false within) here) | inr other ↦ rw (get_or-set_other marks c k mark false other) (before k (omega arith)) ]
+one_marked marks c mark S within before here k lt = grind (arith, get_or-set_same, get_or-set_other)
 
 -- one more entry of a list, of which something holds as of those before
 pub pushed : (P : ℕ → ℕ → Type 0) (xs : List ℕ) (x n : ℕ) → length xs ≡ n → ((b : ℕ) → b < n → P b (get_or xs b 0)) → P n x → (b : ℕ) → b < n + 1 → P b (get_or (xs ++ (x ∷ [])) b 0)

@@ -1,5 +1,5 @@
 -- The tables of an expression, from blank rows to what they say.
-use Rattle.re_auto.proofs.{Prelude.{◌≡◌, ℕ, ◌+◌, ◌-◌, ◌*◌, ◌/◌, ◌%◌, ◌<◌, ◌≤◌, Bool, List, length-take, drop, inl, inr, ◌↔◌, sym, ap, ◌∙◌, trans, arith, get_or-take, get_or-drop, Global, Vec, Expression, positions, most_positions, Classes, Ends, Rows, WordRange, Has, row_of, part_of, CoverRows, Marks, AreTablesOf, IsAddedOf, AreBlankRows, AreClasses}, lemmas.{BitLemmas.within, RowLemmas.row_within}}
+use Rattle.re_auto.proofs.{Prelude.{◌≡◌, ℕ, ◌+◌, ◌-◌, ◌*◌, ◌/◌, ◌%◌, ◌<◌, ◌≤◌, Bool, List, length-take, drop, ◌↔◌, sym, ap, ◌∙◌, trans, arith, get_or-take, get_or-drop, Global, Vec, Expression, positions, most_positions, Classes, Ends, Rows, WordRange, Has, row_of, part_of, CoverRows, Marks, AreTablesOf, IsAddedOf, AreBlankRows, AreClasses}, lemmas.{BitLemmas.within, RowLemmas.row_within}}
 
 -- a row of a table without members has none
 pub none_in_row : (table : List ℕ) (width p q : ℕ) → ((e : ℕ) → ¬ Has table e) → ¬ Has (row_of table width p) q
@@ -36,7 +36,7 @@ reported_too e count r0 r1 a classes marks ranges is few blank added classed mee
     let part = part_of e 0 in
     let adds = rw begins at added.adds in
     let shows = rw (← adds.width) at (rw begins at added.shows) in
-    let takes : (c q : ℕ) → c < 256 → Has (row_of r1.takes.items r1.width c) q ↔ part.takes q c = λ c q lt. rw adds.width (trans (adds.takes c q lt) (elim [ inl was ↦ absurd (none_in_row r0.takes.items r0.width c q blank.takes was) | inr more ↦ more ], inr)) in
+    let takes : (c q : ℕ) → c < 256 → Has (row_of r1.takes.items r1.width c) q ↔ part.takes q c = λ c q lt. rw adds.width (trans (adds.takes c q lt) (grind (arith, none_in_row r0.takes.items r0.width c q blank.takes))) in
     record {
       size = is;
       width = cc (adds.width, blank.width);
@@ -44,8 +44,7 @@ reported_too e count r0 r1 a classes marks ranges is few blank added classed mee
       taken = record { classes = classed.bytes; within = classed.within; takes = λ c q lt. rw (classed.same c lt) (takes c q lt) };
       follow = (
         adds.follow_length ∙ blank.follow_length ∙ ap (λ n. n * r0.width) is ∙ ap (λ w. positions e * w) (sym adds.width),
-        λ p q lt. rw adds.width (trans (adds.follow p q (rw blank.follow_length (row_within p count r0.width (omega arith))))
-            (elim [ inl was ↦ absurd (none_in_row r0.follow.items r0.width p q blank.follow was) | inr more ↦ more ], inr)),
+        λ p q lt. rw adds.width (trans (adds.follow p q (rw blank.follow_length (row_within p count r0.width (omega arith)))) (grind (arith, none_in_row r0.follow.items r0.width p q blank.follow))),
       );
       ranges = rw is at covered;
       first_at_begin = shows.first_at_begin;

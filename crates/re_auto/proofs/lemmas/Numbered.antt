@@ -1,6 +1,6 @@
 -- The numbers of a part's positions: they fill a range whose length is the expression's number of
 -- positions.
-use Rattle.re_auto.proofs.Prelude.{◌≡◌, ℕ, zero, suc, ◌+◌, ◌-◌, ◌*◌, ◌<◌, ◌≤◌, Bool, true, false, nat_le, inl, inr, Option, Some, None, max, refl, arith, leb-true, add-mul, Expression, one_of, none_of, cat_more, alt_more, repeat, positions, copies, Part, without_positions, one_position, joined, in_turn, either, again, optional, copies_before, up_to, only_if, repeated, part_of}
+use Rattle.re_auto.proofs.Prelude.{◌≡◌, ℕ, zero, suc, ◌+◌, ◌-◌, ◌*◌, ◌<◌, ◌≤◌, Bool, true, false, nat_le, Option, Some, None, max, refl, arith, leb-true, add-mul, Expression, one_of, none_of, cat_more, alt_more, repeat, positions, copies, Part, without_positions, one_position, joined, in_turn, either, again, optional, copies_before, up_to, only_if, repeated, part_of}
 
 -- each position of the part has a number from `from` to before `to`
 pub record IsNumbered (part : Part) (from to : ℕ) : Type 0 where
@@ -19,7 +19,7 @@ one_numbered = record { first = λ b q w. omega arith; last = λ z q w. omega ar
 
 -- a part again and again keeps its range
 pub again_numbered : {f : Part} {from to : ℕ} → IsNumbered f from to → IsNumbered (again f) from to
-again_numbered nf = record { first = nf.first; last = nf.last; follow = λ p q. elim [ inl a ↦ nf.follow p q a | inr a ↦ omega (arith, nf.last false p a.0, nf.first false q a.1) ]; takes = nf.takes }
+again_numbered nf = record { first = nf.first; last = nf.last; follow = λ p q. grind (arith, nf.follow p q, nf.last false p, nf.first false q); takes = nf.takes }
 
 -- a part that may be left out keeps its range
 pub optional_numbered : {f : Part} {from to : ℕ} → IsNumbered f from to → IsNumbered (optional f) from to
@@ -30,19 +30,19 @@ module _ {f g : Part} {n : ℕ} (size more : ℕ) (nf : IsNumbered f n (n + size
   joined_numbered : {Skip : Bool → Type 0} {Cross : Type 0} {E : Bool → Bool → Type 0} {L : Bool → ℕ → Type 0} →
       ((z : Bool) (q : ℕ) → L z q → (n ≤ q) × (q < n + (size + more))) → IsNumbered (joined f g Skip Cross E L) n (n + (size + more))
   joined_numbered last = record {
-    first = λ b q. elim [ inl a ↦ omega (arith, nf.first b q a) | inr a ↦ omega (arith, ng.first b q a.1) ];
+    first = λ b q. grind (arith, nf.first b q, ng.first b q);
     last = last;
-    follow = λ p q. elim [ inl a ↦ omega (arith, nf.follow p q a) | inr (inl a) ↦ omega (arith, ng.follow p q a) | inr (inr a) ↦ omega (arith, nf.last false p a.1, ng.first false q a.2) ];
-    takes = λ q c. elim [ inl a ↦ omega (arith, nf.takes q c a) | inr a ↦ omega (arith, ng.takes q c a) ];
+    follow = λ p q. grind (arith, nf.follow p q, ng.follow p q, nf.last false p, ng.first false q);
+    takes = λ q c. grind (arith, nf.takes q c, ng.takes q c);
   }
 
   -- two parts in turn have both ranges
   pub in_turn_numbered : IsNumbered (in_turn f g) n (n + (size + more))
-  in_turn_numbered = joined_numbered (λ z q. elim [ inl a ↦ omega (arith, ng.last z q a) | inr a ↦ omega (arith, nf.last z q a.1) ])
+  in_turn_numbered = joined_numbered (λ z q. grind (arith, ng.last z q, nf.last z q))
 
   -- a choice of two parts has both ranges
   pub either_numbered : IsNumbered (either f g) n (n + (size + more))
-  either_numbered = joined_numbered (λ z q. elim [ inl a ↦ omega (arith, nf.last z q a) | inr a ↦ omega (arith, ng.last z q a) ])
+  either_numbered = joined_numbered (λ z q. grind (arith, nf.last z q, ng.last z q))
 
 module _ (part : ℕ → Part) (size : ℕ) (numbered : (n : ℕ) → IsNumbered (part n) n (n + size)) where
   -- `turns` copies and a rest have the range of all of them

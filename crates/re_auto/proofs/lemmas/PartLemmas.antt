@@ -14,7 +14,7 @@ never_holds n = (n, absurd)
 
 -- facts that never hold are equivalent
 pub neither : {A B : Type 0} → ¬ A → ¬ B → A ↔ B
-neither a b = (λ h. absurd (a h), λ h. absurd (b h))
+neither a b = grind arith
 
 -- where a part is empty, by the kinds of places
 pub says_empty : {part : Part} {empty : Empty} → ((b z : Bool) → IsTrue (empty_at empty b z) ↔ part.empty b z) → SaysEmpty part empty

@@ -10,10 +10,10 @@ none_in_zero xs q blank h =
 
 -- where the words before k are 0, no member is in them; the same for those from k on
 pub not_before : (xs : List ℕ) (k : ℕ) → ((j : ℕ) → j < k → get_or xs j 0 ≡ 0) → (q : ℕ) → Has xs q → k ≤ q / 64
-not_before xs k zeros q h = elim (cases_lt (q / 64) k) [ inl lt ↦ absurd (none_in_zero xs q (zeros (q / 64) lt) h) | inr ge ↦ ge ]
+not_before xs k zeros q h = grind (arith, none_in_zero xs q)
 
 pub not_from : (xs : List ℕ) (k : ℕ) → ((j : ℕ) → k ≤ j → get_or xs j 0 ≡ 0) → (q : ℕ) → Has xs q → q / 64 < k
-not_from xs k zeros q h = elim (cases_lt (q / 64) k) [ inl lt ↦ lt | inr ge ↦ absurd (none_in_zero xs q (zeros (q / 64) ge) h) ]
+not_from xs k zeros q h = grind (arith, none_in_zero xs q)
 
 -- what is added in the words of the range is all of the row
 pub added_within : (old row new : List ℕ) (range : WordRange) → Covers range row →

@@ -1,5 +1,5 @@
 -- Repeated parts that are added: their copies, tails, and those without positions.
-use Rattle.re_auto.proofs.{Prelude.{◌≡◌, ℕ, zero, suc, ◌+◌, ◌-◌, ◌*◌, ◌<◌, ◌≤◌, min, max, Bool, IsTrue, le-leb, length, inl, inr, ◌↔◌, Option, Some, None, IfSome, sym, ap, ◌∙◌, subst, rfl, symm, trans, arith, mul-le-mul_right, lt-leb, Expression, repeat, most_positions, positions, Ends, Rows, Empty, Part, in_turn, again, optional, copies_before, up_to, only_if, part_of, Shows, Adds, IsAdded, IsAddedOf, IsBlank, AreTurns, AreUpTo, IsTail, empty_at, shown}, lemmas.{BitLemmas.one_of, AddedLemmas.{turn_added, optional_added, again_added}, WithoutPositions.{HasNoPositions, bare, turns_empty, no_positions, repeat_empty, repeat_no_positions}, PartLemmas.{always, never_holds, neither, shows_as, blank_as}}}
+use Rattle.re_auto.proofs.{Prelude.{◌≡◌, ℕ, zero, suc, ◌+◌, ◌-◌, ◌*◌, ◌<◌, ◌≤◌, min, max, Bool, IsTrue, le-leb, length, ◌↔◌, Option, Some, None, IfSome, sym, subst, rfl, symm, trans, arith, lt-leb, Expression, repeat, most_positions, positions, Ends, Rows, Empty, Part, in_turn, again, optional, copies_before, up_to, only_if, part_of, Shows, Adds, IsAdded, IsAddedOf, IsBlank, AreTurns, AreUpTo, IsTail, empty_at, shown}, lemmas.{BitLemmas.one_of, AddedLemmas.{turn_added, optional_added, again_added}, WithoutPositions.{HasNoPositions, bare, turns_empty, no_positions, repeat_empty, repeat_no_positions}, PartLemmas.{always, never_holds, neither, shows_as, blank_as}}}
 
 -- an equal number of positions
 pub resized : {f : ℕ → Part} {size other beyond : ℕ} {r0 r1 : Rows} {a : Ends} → IsAdded f size beyond r0 r1 a → size ≡ other → IsAdded f other beyond r0 r1 a
@@ -7,7 +7,7 @@ resized added same = rw same at added
 
 -- one more copy has room
 pub turn_fits : (turns all size more beyond begins : ℕ) → turns < all → all * size + more ≤ beyond → begins + (turns * size + more) ≡ beyond → size ≤ begins
-turn_fits turns all size more beyond begins lt fits meet = omega (arith, mul-le-mul_right size (let h : suc turns ≤ all = omega arith in h))
+turn_fits turns all size more beyond begins lt fits meet = grind arith
 
 module _ (e : Expression) (turns : ℕ) {beyond : ℕ} {r0 r1 r2 r3 : Rows} {a b r : Ends} (copy : IsAddedOf e b.begins r1 r2 a) (begins : r.begins ≡ a.begins)
     (shows : Shows (in_turn (shown a) (shown b)) r2.width r) (adds : Adds (in_turn (shown a) (shown b)) r2 r3) where
@@ -40,7 +40,7 @@ pub bounded_added : (e : Expression) (least most : ℕ) {beyond : ℕ} {r0 r1 : 
 bounded_added e least most {beyond} {r0} {r1} {a} le added =
     let size = positions e in
     let copies = copies_before (part_of e) size least (up_to (part_of e) size (most - least)) in
-    let all : least * size + (most - least) * size ≡ most * size = sym (ap (λ n. n * size) (let h : most ≡ least + (most - least) = omega arith in h) ∙ omega arith) in
+    let all : least * size + (most - least) * size ≡ most * size = grind arith in
     subst (λ c. IsAdded (λ n. only_if c (copies n)) (most * size) beyond r0 r1 a) (sym (le-leb least most le)) (resized {f = copies} added all)
 
 -- `least` copies or more
@@ -60,8 +60,7 @@ any_added e added begins shows =
 
 -- a count up to its limit is the count itself where that number of copies fits
 pub counted_whole : (n most size beyond : ℕ) → size ≡ min n (most_positions + 1) → most * n ≤ beyond → beyond ≤ most_positions → most * size ≡ most * n
-counted_whole n zero size beyond is fits few = omega arith
-counted_whole n (suc most) size beyond is fits few = ap (λ k. suc most * k) (let h : size ≡ n = omega arith in h)
+counted_whole n most size beyond is fits few = grind arith
 
 -- a part that never holds keeps the numbers of its copies
 pub never_added : (e : Expression) (least most : ℕ) {size beyond : ℕ} {empty : Empty} {rows : Rows} {a : Ends} → most < least → size ≡ min (positions e) (most_positions + 1) → most * positions e ≤ beyond → beyond ≤ most_positions →
@@ -94,7 +93,7 @@ module _ (e : Expression) (least : ℕ) (most : Option ℕ) (within : IfSome mos
   pub once_added : {beyond : ℕ} {r0 r1 : Rows} {a : Ends} → 0 < least → IsAddedOf e beyond r0 r1 a → IsAddedOf (repeat e least most) beyond r0 r1 a
   once_added {a = a} some added =
       once (no_positions e a.begins none)
-      (λ b z. (λ h. (within, inr h), λ h. elim h.1 [ inl nought ↦ absurd (omega arith) | inr turn ↦ turn ])) (omega arith) added.shows added.adds
+      (λ b z. grind arith) (omega arith) added.shows added.adds
 
   -- where it may be left out, the repeated part is empty anywhere
   pub maybe_added : {beyond : ℕ} {r0 r1 : Rows} {a r : Ends} → least ≡ 0 → IsAddedOf e beyond r0 r1 a → r.begins ≡ a.begins → Shows (optional (shown a)) (length a.first_inside.items) r → IsAddedOf (repeat e least most) beyond r0 r1 r
@@ -102,4 +101,4 @@ module _ (e : Expression) (least : ℕ) (most : Option ℕ) (within : IfSome mos
       let left_out = optional_added added begins shows in
       let has_none = no_positions e r.begins none in
       once (record { first = has_none.first; last = has_none.last; follow = has_none.follow; takes = has_none.takes })
-      (λ b z. (λ h. (within, inl nought), λ h. tt)) (omega arith) left_out.shows left_out.adds
+      (λ b z. grind arith) (omega arith) left_out.shows left_out.adds

@@ -1,5 +1,5 @@
 -- What sets of positions mean, by what their words are.
-use Rattle.re_auto.proofs.{Prelude.{trans, ◌≡◌, ℕ, suc, ◌<◌, Bool, true, false, IsTrue, List, ◌||◌, ◌&&◌, inl, inr, refl, sym, ◌∙◌, arith, true≢false, Some, slice_get, ◌↔◌, Text, Expression, Holds, positions, Mode, Search, StateSet, Has, Part, part_of, is_begin, is_end, MayBegin, IsNext, Accepts, IsNowhere, StandsAt, IsNextSet, IsAccepting, CanBegin, slice_get_within, get_or_from_slice_get}, lemmas.{Chains.not_at_begin, Numbered.part_numbered, SetsByChains.{none_is_right, step_is_right, accept_is_right}}}
+use Rattle.re_auto.proofs.{Prelude.{trans, ◌≡◌, ℕ, suc, ◌<◌, Bool, true, IsTrue, List, ◌||◌, ◌&&◌, inl, inr, sym, ◌∙◌, arith, Some, slice_get, ◌↔◌, Text, Expression, Holds, positions, Mode, Search, StateSet, Has, Part, part_of, is_begin, is_end, MayBegin, IsNext, Accepts, IsNowhere, StandsAt, IsNextSet, IsAccepting, CanBegin, slice_get_within, get_or_from_slice_get}, lemmas.{Chains.not_at_begin, Numbered.part_numbered, SetsByChains.{none_is_right, step_is_right, accept_is_right}}}
 
 -- a set without positions is right at a line's first place
 pub starts_at : (e : Expression) (mode : Mode) (line : Text) (set : StateSet) → set.at_begin ≡ true → ((q : ℕ) → Has set.words.items q → ⊥) → StandsAt e mode line 0 set
@@ -25,10 +25,7 @@ next_small e mode begin from into byte next q h = omega (arith, (part_numbered e
 pub accepted : (part : Part) (mode : Mode) (begin end longer may empty : Bool) (words : List ℕ) →
     (IsTrue longer ↔ ((q : ℕ) × Has words q × part.last end q)) → (IsTrue may ↔ MayBegin mode begin) → (IsTrue empty ↔ part.empty begin end) →
     IsTrue (longer || (may && empty)) ↔ Accepts part mode begin end (Has words)
-accepted part mode begin end true may empty words l m e = (λ h. inr (l.0 refl), λ h. refl)
-accepted part mode begin end false true true words l m e = (λ h. inl (m.0 refl, e.0 refl), λ h. refl)
-accepted part mode begin end false true false words l m e = (λ h. absurd (true≢false (sym h)), elim [ inl a ↦ e.1 a.1 | inr b ↦ l.1 b ])
-accepted part mode begin end false false empty words l m e = (λ h. absurd (true≢false (sym h)), elim [ inl a ↦ m.1 a.0 | inr b ↦ l.1 b ])
+accepted part mode begin end longer may empty words l m e = grind arith
 
 -- what a right set accepts is matched
 pub matched_by : (e : Expression) (mode : Mode) (result at_end : Bool) (set : StateSet) → (IsTrue result ↔ IsAccepting e mode set at_end) →
@@ -43,8 +40,5 @@ unfolding IsNextSet
 nowhere_stays e byte never set line j nowhere is stands =
     stands_next e Search set set byte (
       nowhere.0,
-      λ q. (
-        λ h. absurd (nowhere.1 q h),
-        λ w. absurd (elim w.1 [ inl first ↦ never (q, rw nowhere.0 at first.1, w.0) | inr after ↦ nowhere.1 after.0 after.1 ]),
-      ),
+      λ q. (λ h. absurd (nowhere.1 q h), λ w. absurd (elim w.1 [ inl first ↦ never (q, rw nowhere.0 at first.1, w.0) | inr after ↦ nowhere.1 after.0 after.1 ])),
     ) line j is stands

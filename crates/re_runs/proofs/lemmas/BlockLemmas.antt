@@ -6,8 +6,7 @@ use Rattle.{re_runs.proofs.{Prelude.{◌≡◌, ℕ, ◌+◌, ◌<◌, ◌≤◌
 -- a text and a newline after it are whole lines
 pub ended_text : (t : Text) → IsBlock (t ++ newline ∷ [])
 ended_text t =
-    let ended = AreEndedLines-ended_lines_of t in
-    let lines = ended_lines_of t in
+    let ended = AreEndedLines-ended_lines_of t in let lines = ended_lines_of t in
     let rest : Text = ended.1.0 in (
       lines ++ rest ∷ [],
       All-push HasNoNewline lines rest ended.0 ended.1.1,
@@ -18,8 +17,7 @@ ended_text t =
 
 -- something that may begin at places of a text
 module _ (Begins : Text → ℕ → Type 0) (within : (line : Text) (k : ℕ) → Begins line k → k ≤ length line)
-    (before : (line after : Text) (k : ℕ) → Begins line k → Begins (line ++ after) k)
-    (beyond : (front line : Text) (k : ℕ) → Begins line k → Begins (front ++ line) (length front + k)) where
+    (before : (line after : Text) (k : ℕ) → Begins line k → Begins (line ++ after) k) (beyond : (front line : Text) (k : ℕ) → Begins line k → Begins (front ++ line) (length front + k)) where
   -- it begins nowhere in the line
   abbrev pub Free : Text → Type 0
   Free line = (k : ℕ) → ¬ Begins line k
@@ -35,8 +33,7 @@ module _ (Begins : Text → ℕ → Type 0) (within : (line : Text) (k : ℕ) �
       first : Free t
       first k o =
           let inside = within t k o in
-          none k (omega (arith, long))
-          (rw (append_assoc t (newline ∷ terminated ts) rest) (before t (newline ∷ terminated ts ++ rest) k o))
+          none k (omega (arith, long)) (rw (append_assoc t (newline ∷ terminated ts) rest) (before t (newline ∷ terminated ts ++ rest) k o))
 
       cut : (t ++ newline ∷ []) ++ (terminated ts ++ rest) ≡ terminated (t ∷ ts) ++ rest
       cut = append_assoc t (newline ∷ []) (terminated ts ++ rest) ∙ sym (append_assoc t (newline ∷ terminated ts) rest)

@@ -19,7 +19,5 @@ module _ (bytes : Text) (n place : ℕ) (within : n ≤ length bytes) (is : plac
   is_there lt =
       let stops = prefix_len_stops (λ b. not (b == newline)) (take n bytes) 0 (omega (arith, is, long, lt)) in
       let at : get_or (take n bytes) place 0 ≡ newline = eqb-true _ _ (not-false _ (subst (λ p. not (get_or (take n bytes) p 0 == newline) ≡ false) (sym is) stops)) in
-      let byte = sym (get_or-take n bytes place 0 lt) ∙ at in
-      let next : suc place ≡ place + 1 = omega arith in
-      sym (take-append-drop place bytes)
-      ∙ ap (λ l. take place bytes ++ l) (drop-cons bytes place 0 (omega (arith, lt, within)) ∙ ap (λ b. b ∷ drop (suc place) bytes) byte ∙ ap (λ k. newline ∷ drop k bytes) next)
+      let byte = sym (get_or-take n bytes place 0 lt) ∙ at in let next : suc place ≡ place + 1 = omega arith in
+      sym (take-append-drop place bytes) ∙ ap (λ l. take place bytes ++ l) (drop-cons bytes place 0 (omega (arith, lt, within)) ∙ ap (λ b. b ∷ drop (suc place) bytes) byte ∙ ap (λ k. newline ∷ drop k bytes) next)

@@ -4,13 +4,13 @@ use Rattle.{re_runs.proofs.{Prelude.{◌≡◌, List, [], ◌∷◌, ◌++◌, A
 -- the lines of a text that begins with some, each ended by a newline, begin with these
 pub lines_of-beyond : (ts : List Text) (rest : Text) → All HasNoNewline ts → lines_of (terminated ts ++ rest) ≡ ts ++ lines_of rest
 lines_of-beyond [] rest h = refl
-lines_of-beyond (t ∷ ts) rest h = ap lines_of (append_assoc t (newline ∷ terminated ts) rest) ∙ lines_of-line t (terminated ts ++ rest) (all_head t ts h) ∙ ap (λ us. t ∷ us) (lines_of-beyond ts rest (all_tail t ts h))
+lines_of-beyond (t ∷ ts) rest h = cc (append_assoc t (newline ∷ terminated ts) rest, lines_of-line t (terminated ts ++ rest) (all_head t ts h), lines_of-beyond ts rest (all_tail t ts h))
 
 -- ---- lines at the front of a text
 
 -- what is left after them
 pub left_after : (block rest : Text) (start : ℕ) (lines : List Text) → block ≡ terminated lines ++ rest → start ≡ length (terminated lines) → drop start block ≡ rest
-left_after block rest start lines is counted = ap (λ n. drop n block) counted ∙ ap (drop (length (terminated lines))) is ∙ drop-append_seam (terminated lines) rest
+left_after block rest start lines is counted = cc (drop-append_seam (terminated lines) rest)
 
 -- it is a block if the whole is one
 left_block : {block : Text} (rest : Text) (lines : List Text) → All HasNoNewline lines → IsBlock block → block ≡ terminated lines ++ rest → IsBlock rest
@@ -139,16 +139,14 @@ module _ (P : Text → Type 0) where
         counts = λ m h.
             let one : HoldsOfMany P (n.line ∷ n.after) (m + 1) = (m, rw are at h, inl (n.holds, refl)) in
             let all : HoldsOfMany P (lines_of rest) (m + 1) = rw n.divided (none_holds _ _ _ n.passed one) in
-            let grouped : count + (m + 1) ≡ count + 1 + m = omega arith in
-            rw grouped at (c.counts (m + 1) all);
+            let grouped : count + (m + 1) ≡ count + 1 + m = omega arith in rw grouped at (c.counts (m + 1) all);
       }
 
   -- none more
   pub counts_all : (block rest : Text) (count : ℕ) → CountsTo block rest count → FindsNext P (lines_of rest) None → HoldsOfMany P (lines_of block) count
   counts_all block rest count c none =
       let no_more = rw (append-nil (lines_of rest)) at (none_holds _ [] 0 none refl) in
-      let same : count + 0 ≡ count = omega arith in
-      rw same at (c.counts 0 no_more)
+      let same : count + 0 ≡ count = omega arith in rw same at (c.counts 0 no_more)
 
 -- ---- the same lines by another property
 

@@ -45,8 +45,7 @@ lesser_lanes a b p q =
     rw (tops_compared w8 ltb a b) (record {
       long = length-sel_l _ a b (long ∙ sym p) (long ∙ sym q) ∙ long;
       each = λ k l.
-          get_or-sel_l _ a b k 0 (omega arith) (omega arith) (omega arith)
-          ∙ ap (λ t. cond t (get_or a k 0) (get_or b k 0)) (get_or-zip2 ltb a b k 0 0 false (omega arith) (omega arith))
+          get_or-sel_l _ a b k 0 (omega arith) (omega arith) (omega arith) ∙ ap (λ t. cond t (get_or a k 0) (get_or b k 0)) (get_or-zip2 ltb a b k 0 0 false (omega arith) (omega arith))
           ∙ the_lesser (get_or a k 0) (get_or b k 0) _ refl;
     })
 
@@ -61,10 +60,8 @@ reported x false is = (λ h. eqb-false x 0 is, λ h. refl)
 pub nonzero_bits : (v : List ℕ) (k : ℕ) → length v ≡ 32
     → (bit_at (mask_l (map (top 7) (zip2 (λ x y. cond (differs x y) 255 0) v (replicate 32 0))) % 2 ^ 64) k ≡ 1) ↔ (get_or v k 0 ≢ 0)
 nonzero_bits v k long =
-    let e = ap (λ m. bit_at m k) (bitmask_splat w8 differs v 32 0 long (omega arith)) ∙ bit_mask_l (map (λ x. differs x 0) v) k
-    ∙ ap (λ b. cond {A = ℕ} b 1 0) (get_or-map (λ x. differs x 0) v k 0) in
-    let t = reported (get_or v k 0) _ refl in
-    (λ h. t.0 (sym e ∙ h), λ h. e ∙ t.1 h)
+    let e = ap (λ m. bit_at m k) (bitmask_splat w8 differs v 32 0 long (omega arith)) ∙ bit_mask_l (map (λ x. differs x 0) v) k ∙ ap (λ b. cond {A = ℕ} b 1 0) (get_or-map (λ x. differs x 0) v k 0) in
+    let t = reported (get_or v k 0) _ refl in (λ h. t.0 (sym e ∙ h), λ h. e ∙ t.1 h)
 
 -- the comparison of chosen bits with a splat
 pub equal_lanes : (v : List ℕ) (asked bits : ℕ) (chosen : List ℕ) → length v ≡ 32
@@ -72,8 +69,7 @@ pub equal_lanes : (v : List ℕ) (asked bits : ℕ) (chosen : List ℕ) → leng
     → HasLanes (sel_l (map (top 7) (zip2 (λ x y. cond (eqb x y) 255 0) chosen (replicate 32 bits))) (replicate 32 255) (replicate 32 0)) (λ k. cond (eqb (bit_and (get_or v k 0) asked) bits) 255 0)
 equal_lanes v asked bits chosen long h =
     let reported = HasLanes-select eqb chosen bits 255 0 h.long in
-    rw (tops_compared w8 eqb chosen (replicate 32 bits))
-    (record { long = reported.long; each = λ k l. cc (reported.each k l, h.each k l ∙ ap (bit_and (get_or v k 0)) (get_or-replicate 32 k asked 0 l)) })
+    rw (tops_compared w8 eqb chosen (replicate 32 bits)) (record { long = reported.long; each = λ k l. cc (reported.each k l, h.each k l ∙ ap (bit_and (get_or v k 0)) (get_or-replicate 32 k asked 0 l)) })
 
 its_mark : (alike : Alike) (x : ℕ) → HasBits alike x → mark_of alike x ≡ 255
 its_mark alike x has = rw (eq-eqb (bit_and x alike.asked) alike.bits has)
@@ -95,8 +91,7 @@ module _ (each : Bool) (probes : Probes) (line : Text) (place k : ℕ) (all : Al
   both_marked v a b both first second zero =
       let left = first.each k below ∙ its_mark probes.first.alike _ all.first.1 in
       let right = second.each k below ∙ its_mark probes.second.alike _ all.second.1 in
-      let one : get_or v k 0 ≡ 255 = cc (both.each k below) in
-      absurd (omega arith)
+      let one : get_or v k 0 ≡ 255 = cc (both.each k below) in absurd (omega arith)
 
   -- neither of two look-ups is 0
   pub two_met : (v a b : List ℕ) → HasLanes v (λ i. min (get_or a i 0) (get_or b i 0)) → AreBits probes.first a → AreBits probes.second b → get_or v k 0 ≢ 0

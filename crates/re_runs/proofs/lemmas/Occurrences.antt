@@ -5,7 +5,7 @@ use Rattle.re_runs.proofs.Prelude.{◌≡◌, ℕ, suc, ◌+◌, ◌<◌, ◌≤
 begins : (line text : Text) → length text ≤ length line → ((j : ℕ) → j < length text → get_or line j 0 ≡ get_or text j 0) → line ≡ text ++ drop (length text) line
 begins line [] fits reads = refl
 begins [] (b ∷ text) fits reads = absurd (omega arith)
-begins (c ∷ line) (b ∷ text) fits reads = ap (λ x. x ∷ line) (reads 0 (omega arith)) ∙ ap (λ xs. b ∷ xs) (begins line text (omega arith) (λ j h. reads (suc j) (omega arith)))
+begins (c ∷ line) (b ∷ text) fits reads = cc (reads 0 (omega arith), begins line text (omega arith) (λ j h. reads (suc j) (omega arith)))
 
 -- the line from a place where a text occurs begins with the text
 pub occurs-stands : (line text : Text) (k : ℕ) → OccursAt line text k → drop k line ≡ text ++ drop (length text) (drop k line)

@@ -11,8 +11,7 @@ length_range buffer start end within = omega (arith, length-take (end - start) (
 -- what follows the first bytes of a range is a range
 pub drop_range : (buffer : Text) (start end k : ℕ) → start + k ≤ end → drop k (slice_range buffer start end) ≡ slice_range buffer (start + k) end
 drop_range buffer start end k h =
-    ap (λ n. drop k (take n (drop start buffer))) (omega arith) ∙ drop-take k (end - (start + k)) (drop start buffer)
-    ∙ ap (take (end - (start + k))) (drop-drop k start buffer ∙ ap (λ n. drop n buffer) (omega arith))
+    ap (λ n. drop k (take n (drop start buffer))) (omega arith) ∙ drop-take k (end - (start + k)) (drop start buffer) ∙ ap (take (end - (start + k))) (drop-drop k start buffer ∙ ap (λ n. drop n buffer) (omega arith))
 
 -- two ranges that meet are one
 pub joined_range : (buffer : Text) (start mid end : ℕ) → start ≤ mid → mid ≤ end → slice_range buffer start mid ++ slice_range buffer mid end ≡ slice_range buffer start end
@@ -66,5 +65,4 @@ range_after block s a end = ap (take (end - s - a)) (drop-drop a s block) ∙ ap
 pub line_after : (block : Text) (s a end : ℕ) → IsLineFrom block (s + a) end → IsLineFrom (drop s block) a (end - s)
 line_after block s a end cut =
     let there : s + (end - s) ≡ end = omega arith in
-    line_here (drop s block) a (end - s) (omega arith) (omega (arith, length-drop s block)) (rw (range_after block s a end) cut.2)
-    (cc (get_or-drop s block (end - s) 0, newline_at block (s + a) end cut))
+    line_here (drop s block) a (end - s) (omega arith) (omega (arith, length-drop s block)) (rw (range_after block s a end) cut.2) (cc (get_or-drop s block (end - s) 0, newline_at block (s + a) end cut))

@@ -67,8 +67,7 @@ run_text line text k o =
     let fits : k + length (map only text) ≤ length line = is.fits in record {
       fits = omega (arith, length-map text only);
       reads = λ j inside.
-          let below : j < length (map only text) = omega (arith, length-map text only) in
-          eqb-true (slice_index line (k + j)) (slice_index text j) (subst (λ s. IsTrue (s (slice_index line (k + j)))) (get_or-map only text j 0 nothing inside) (is.takes j below));
+          eqb-true (slice_index line (k + j)) (slice_index text j) (rw (get_or-map only text j 0 nothing inside) at (is.takes j (omega (arith, length-map text only))));
     }
 
 pub finds_text : (line text : Text) (r : Option ℕ) → FindsNeedle line text 0 r → FindsRun line (one_run (map only text)) r
@@ -109,8 +108,7 @@ pub none_more : (P : List Bytes → Type 0) (runs : List (List Bytes)) (number :
 none_more P runs number before here n d lt o = elim (cases_lt n number) [
   | inl early ↦ before n d early o
   | inr late ↦
-      let same : n ≡ number = omega arith in
-      here d (rw same at o)
+      let same : n ≡ number = omega arith in here d (rw same at o)
 ]
 
 -- how long the longest of one run more is
@@ -156,9 +154,7 @@ module _ (line : Text) (place : ℕ) (runs : Runs) where
       longest known beyond before n d below there = elim (cases_lt n number) [
         | inl early ↦ earlier known beyond before early
         | inr late ↦
-            let same : number ≡ n = omega arith in
-            let own = rw same at (at d) in
-            omega (arith, ap length own)
+            let same : number ≡ n = omega arith in let own = rw same at (at d) in omega (arith, ap length own)
       ]
         where
           earlier : (known : Option ℕ) → IfSome known (λ p. p ≤ end) → IsLongestOf number known → n < number → place + length (get_or runs n d) ≤ end
@@ -227,8 +223,7 @@ others_passed runs width each (Some probes) is wide are several line small k o =
 -- a run is nowhere where it has no room
 pub no_room : (runs : Runs) (width : ℕ) → IsNoWider width runs → (line : Text) (k : ℕ) → length line + 1 ≤ k + width → ¬ RunStandsAt line runs k
 no_room runs width wide line k short (n, run, lt, at, is) =
-    let long = subst (λ r. width ≤ length r) at (wide n run lt) in
-    absurd (omega arith)
+    let long = subst (λ r. width ≤ length r) at (wide n run lt) in absurd (omega arith)
 
 -- marks of the 32 places that the probes pass, and of those the others pass, mark those where the run is
 pub marks_stand : (runs : Runs) (line : Text) (each : Bool) (probes : Probes) (others : Option Probes) (place m narrowed : ℕ) → ((k : ℕ) → RunStandsAt line runs k → AllPass each probes line k)
@@ -270,7 +265,6 @@ pub nowhere_marked : (P : ℕ → Type 0) (from at marks : ℕ) → Nowhere P fr
 nowhere_marked P from at marks before each none k low lt o = elim (cases_lt k at) [
   | inl e ↦ before k low e o
   | inr l ↦
-      let place : k ≡ at + (k - at) = omega arith in
-      let set = each (k - at) (omega arith) (rw place at o) in
+      let place : k ≡ at + (k - at) = omega arith in let set = each (k - at) (omega arith) (rw place at o) in
       absurd (omega (arith, ap (λ m. bit_at m (k - at)) none ∙ bit_at-zero (k - at)))
 ]

@@ -25,5 +25,5 @@ pub returns : goal.returns
 returns c =
     let passes = rw c.deref.ensures.0 at c.place_of-place.ensures.passes in
     let takes = rw c.deref-2.ensures.0 at c.touched_at-all.ensures in
-    let s = spliced_list _ _ c.args.start c.args.count c.args.added c.place_of-place.result.many c.place_of-place.result.rest _ c.requires.within c.make_room.ensures.loses passes _ takes _ c.make_room.ensures.few c.make_room.ensures.same c.put.ensures in
+    let s = spliced_list _ _ c.args.start c.args.count c.args.added c.place_of-place.result.many c.place_of-place.result.rest _ c.requires.within c.make_room.ensures.loses passes _ takes c.make_room.ensures.few c.make_room.ensures.same c.put.ensures in
     record { splices = s; fits = λ known fit. s.replaces.fits known c.args.lines c.requires.within (s.loses.fits known c.args.lines fit) }

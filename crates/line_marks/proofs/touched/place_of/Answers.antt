@@ -7,7 +7,7 @@ loop-many-preserved c =
 
 pub returns-then-later-eq0-clause-reached : goal.returns-then-later-eq0-clause-reached
 returns-then-later-eq0-clause-reached c =
-    reached_at _ _ _ _ _ c.loop-many-test.true c.need-later.ensures c.if-later-eq0.true
+    reached_at _ _ _ _ c.loop-many-test.true c.need-later.ensures c.if-later-eq0.true
 
 pub returns-clause-passes : goal.returns-clause-passes
 returns-clause-passes c =

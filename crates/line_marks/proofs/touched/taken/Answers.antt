@@ -12,11 +12,11 @@ joined-one-requires c = omega (arith, few_both c.args.start _ _ _ c.loop-k.invar
 
 pub loop-k-preserved : goal.loop-k-preserved
 loop-k-preserved c =
-    (refl, takes_next _ _ _ _ c.loop-k.invariant.1 _ _ c.loop-k.invariant.0 c.loop-k-test.true _ c.led_by-next.ensures _ (omega arith) c.joined-one.ensures)
+    (refl, takes_next _ _ _ _ c.loop-k.invariant.1 _ _ c.loop-k.invariant.0 c.loop-k-test.true _ c.led_by-next.ensures (omega arith) c.joined-one.ensures)
 
 pub returns-then-more-next-clause-near : goal.returns-then-more-next-clause-near
 returns-then-more-next-clause-near c =
     near_next c.args.start _ _ _ c.loop-k.invariant.1 c.loop-k.k _ c.loop-k.invariant.0 c.loop-k-test.true _ c.led_by-next.ensures (omega arith)
 
 pub returns-clause-near : goal.returns-clause-near
-returns-clause-near c = near_none c.args.start _ _ _ c.loop-k.invariant.1 _ c.loop-k.invariant.0 c.loop-k-test.false
+returns-clause-near c = near_none c.args.start _ _ _ c.loop-k.invariant.1 c.loop-k.invariant.0 c.loop-k-test.false

@@ -4,10 +4,8 @@ use Rattle.re_runs.proofs.block.count_by.Goals as goal
 -- one line more: that of the first occurrence, which ends at the newline after it
 one_more : (text block rest : Text) (count at end : ℕ) → HasNoNewline text → FindsNeedle rest text 0 (Some at) → IsLineFrom rest at end → CountsTo (StandsIn text) block rest count → CountsTo (StandsIn text) block (drop (end + 1) rest) (count + 1)
 one_more text block rest count at end free finds cut counts =
-    let front = take at rest in
-    let (each, (last, none, is)) = AreEndedLines-ended_lines_of front in
-    let lines = ended_lines_of front in
-    let start = length (terminated lines) in
+    let front = take at rest in let (each, (last, none, is)) = AreEndedLines-ended_lines_of front in
+    let lines = ended_lines_of front in let start = length (terminated lines) in
     let passes : PassesAll (λ _. ⊤) front start = (lines, last, each, λ i d h. tt, is, refl) in
     let low : start ≤ at = omega (arith, passed_within (λ _. ⊤) front start passes, length-take at rest) in
     let clean : HasNoNewline (drop start front) = rw (left_after front last start lines is refl) none in
@@ -26,12 +24,9 @@ unreachable-requires c = newline_follows c.lines.rest.now c.in-Some.at c.lines.i
 
 pub lines-preserved : goal.lines-preserved
 lines-preserved c =
-    let rest = c.lines.rest.now in
-    let at = c.in-Some.at in
-    let k = c.in-Some-first_newline.length in
+    let rest = c.lines.rest.now in let at = c.in-Some.at in let k = c.in-Some-first_newline.length in
     let none = rw take_rest at c.in-Some-first_newline.ensures.none in
-    let cut = rw take_rest at c.in-Some-first_newline.ensures.some in
-    let same : at + k - at ≡ k = omega arith in
+    let cut = rw take_rest at c.in-Some-first_newline.ensures.some in let same : at + k - at ≡ k = omega arith in
     let place : at + (k + 1) ≡ at + k + 1 = omega arith in
     let beyond : drop (k + 1) (drop at rest) ≡ drop (at + k + 1) rest = cc (drop-drop (k + 1) at rest) in
     let line : IsLineFrom rest at (at + k) = (omega arith, omega (arith, length-drop at rest), rw same none, rw same (cc cut.1)) in

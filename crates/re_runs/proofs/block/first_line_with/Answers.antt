@@ -17,10 +17,9 @@ pub returns-in_default-clause-within : goal.returns-in_default-clause-within
 returns-in_default-clause-within c = rw c.nothing_in.ensures.place tt
 
 pub returns-clause-within : goal.returns-clause-within
-returns-clause-within c = let high = c.in-Some.ensures.found.0.high in omega (arith, high)
+returns-clause-within c = let high = c.in-Some.ensures.found.0.high in omega arith
 
 pub returns-clause-stops : goal.returns-clause-stops
 returns-clause-stops c = λ end.
-    let block = c.args.block.now in
-    let fits : c.in-Some.at ≤ length block = let high = c.in-Some.ensures.found.0.high in omega (arith, high) in
-    look_in_line block c.line_start.result c.in-Some.at end fits c.line_start.ensures.lines c.line_start.ensures.last
+    let fits : c.in-Some.at ≤ length c.args.block.now = let high = c.in-Some.ensures.found.0.high in omega arith in
+    look_in_line c.args.block.now c.line_start.result c.in-Some.at end fits c.line_start.ensures.lines c.line_start.ensures.last

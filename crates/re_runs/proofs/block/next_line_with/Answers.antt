@@ -10,17 +10,11 @@ returns-in_default-line_end-clause-reported c =
 
 pub returns-clause-reported : goal.returns-clause-reported
 returns-clause-reported c =
-    let text = c.args.finder.now in
-    let start = c.line_start-start.result in
-    let cut = c.in-Some-line_end.ensures in
+    let text = c.args.finder.now in let start = c.line_start-start.result in let cut = c.in-Some-line_end.ensures in
     next_from (StandsIn text) c.args.block.now start c.in-Some-line_end.end cut (passed_without _ _ _ (passes_front text c.args.block.now c.in-Some.at start c.in-Some.ensures.found c.line_start-start.ensures.lines))
     (stands_around text c.requires.one_line c.args.block.now c.in-Some.at start c.in-Some-line_end.end c.in-Some.ensures.found.1 c.line_start-start.ensures.lines c.line_start-start.ensures.last cut)
 
 pub returns-clause-steps : goal.returns-clause-steps
 returns-clause-steps c =
-    let block = c.args.block.now in
-    let at = c.in-Some.at in
-    let start = c.line_start-start.result in
-    let end = c.in-Some-line_end.end in
-    let fits : at ≤ length block = let high = c.in-Some.ensures.found.0.high in omega (arith, high) in
-    only_passed (end + 1) _ _ _ (look_in_line block start at end fits c.line_start-start.ensures.lines c.line_start-start.ensures.last c.in-Some-line_end.ensures) c.in-Some.ensures.counted
+    let fits : c.in-Some.at ≤ length c.args.block.now = let high = c.in-Some.ensures.found.0.high in omega arith in
+    only_passed (c.in-Some-line_end.end + 1) _ _ _ (look_in_line c.args.block.now c.line_start-start.result c.in-Some.at c.in-Some-line_end.end fits c.line_start-start.ensures.lines c.line_start-start.ensures.last c.in-Some-line_end.ensures) c.in-Some.ensures.counted

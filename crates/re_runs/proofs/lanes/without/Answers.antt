@@ -9,10 +9,8 @@ returns-clause-no_more c k h = omega (arith, bit_at_and c.args.marks (bit_not w6
 
 pub returns-clause-smaller : goal.returns-clause-smaller
 returns-clause-smaller c =
-    let m = c.args.marks in
-    let k = c.args.bit in
+    let m = c.args.marks in let k = c.args.bit in
     let small : 2 ^ k < 2 ^ 64 = omega (arith, two-pow-succ k, pow_pos k, pow_mono {i = suc k} {j = 64} (omega arith)) in
-    let one : 1 * 2 ^ k % 2 ^ 64 ≡ 2 ^ k = omega arith in
-    let parts = and-not 64 (2 ^ k) m small c.ranges.marks.fits in
+    let one : 1 * 2 ^ k % 2 ^ 64 ≡ 2 ^ k = omega arith in let parts = and-not 64 (2 ^ k) m small c.ranges.marks.fits in
     let there = and_comm _ _ ∙ and_pow m k ∙ ap (λ x. x * 2 ^ k) c.requires.set in
     rw one (omega (arith, and_comm m (2 ^ 64 - 1 - 2 ^ k), pow_pos k))

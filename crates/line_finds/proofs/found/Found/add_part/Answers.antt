@@ -4,13 +4,13 @@ use Rattle.line_finds.proofs.found.Found.add_part.Goals as goal
 pub renew-self-inside-requires : goal.renew-self-inside-requires
 renew-self-inside-requires c =
     let end_is : c.in-Some.end ≡ c.len-size.result + (c.args.to - c.args.from) = omega arith in
-    let many = grown c.self.inside.marks.items c.add_marks.new.marks.items c.in-Some.end c.in_ok-add_marks.ensures.ok (omega arith) in
+    let many = grown c.self.inside.marks.items c.in-Some.end c.in_ok-add_marks.ensures.ok (omega arith) in
     rw (many, end_is) c.in_default-add_all.ensures.within
 
 pub invariant_of-self-2 : goal.invariant_of-self-2
 invariant_of-self-2 c =
     let end_is : c.in-Some.end ≡ c.len-size.result + (c.args.to - c.args.from) = omega arith in
-    let many = grown c.self.inside.marks.items c.add_marks.new.marks.items c.in-Some.end c.in_ok-add_marks.ensures.ok (omega arith) in
+    let many = grown c.self.inside.marks.items c.in-Some.end c.in_ok-add_marks.ensures.ok (omega arith) in
     let now = c.renew-self-inside.ensures.size ∙ many ∙ end_is in
     record {
       below = rw now c.in_default-add_all.ensures.within;
@@ -21,7 +21,7 @@ invariant_of-self-2 c =
 
 pub invariant_of-self-in-Err : goal.invariant_of-self-in-Err
 invariant_of-self-in-Err c =
-    let same = cut_off c.self.inside.marks.items (replicate (c.in-Some.end - length c.self.inside.marks.items) false) c.add_marks.new.marks.items c.truncate.new.self.items c.len-size.result c.in_ok-add_marks.ensures.ok (omega arith) c.truncate.ensures.items in
+    let same = cut_off c.self.inside.marks.items (replicate (c.in-Some.end - length c.self.inside.marks.items) false) c.len-size.result c.in_ok-add_marks.ensures.ok (omega arith) c.truncate.ensures.items in
     let pairs = c.in-Err.ensures.matches in
     record {
       below = rw same (rw pairs c.self.invariant.below);
@@ -32,7 +32,7 @@ invariant_of-self-in-Err c =
 
 pub returns-in-Err-clause-err : goal.returns-in-Err-clause-err
 returns-in-Err-clause-err c =
-    let same = cut_off c.self.inside.marks.items (replicate (c.in-Some.end - length c.self.inside.marks.items) false) c.add_marks.new.marks.items c.truncate.new.self.items c.len-size.result c.in_ok-add_marks.ensures.ok (omega arith) c.truncate.ensures.items in
+    let same = cut_off c.self.inside.marks.items (replicate (c.in-Some.end - length c.self.inside.marks.items) false) c.len-size.result c.in_ok-add_marks.ensures.ok (omega arith) c.truncate.ensures.items in
     ap length same ∙ (λ i. (c.self.view_is i).size)
 
 pub returns-in-Err-clause-old : goal.returns-in-Err-clause-old
@@ -43,6 +43,6 @@ returns-in-Err-clause-old c =
 pub returns-clause-size : goal.returns-clause-size
 returns-clause-size c =
     let end_is : c.in-Some.end ≡ c.len-size.result + (c.args.to - c.args.from) = omega arith in
-    let many = grown c.self.inside.marks.items c.add_marks.new.marks.items c.in-Some.end c.in_ok-add_marks.ensures.ok (omega arith) in
+    let many = grown c.self.inside.marks.items c.in-Some.end c.in_ok-add_marks.ensures.ok (omega arith) in
     let size : length c.self.inside.marks.items ≡ c.args.self.now.size = λ i. (c.self.view_is i).size in
     omega arith

@@ -2,7 +2,7 @@ use Rattle.line_finds.proofs.{Prelude.{length, ap, arith, length-map, pair_of}, 
 use Rattle.line_finds.proofs.matches.Matches.add_part.Goals as goal
 
 pub returns-in-Err-clause-err : goal.returns-in-Err-clause-err
-returns-in-Err-clause-err c = cut_back _ c.self-2.inside.pairs.items _ _ c.len-len.result c.truncate.ensures.items c.self-2.view_is (omega (arith, length-map c.self.inside.pairs.items pair_of, ap length c.self.view_is)) c.in-Err.ensures.err
+returns-in-Err-clause-err c = cut_back c.self-2.inside.pairs.items c.len-len.result c.truncate.ensures.items c.self-2.view_is (omega (arith, length-map c.self.inside.pairs.items pair_of, ap length c.self.view_is)) c.in-Err.ensures.err
 
 pub returns-clause-old : goal.returns-clause-old
 returns-clause-old c = λ k low. cc (c.in_default.ensures.ok, added_old c.args.at c.args.from c.args.to c.args.self.now c.args.other.now k low)

@@ -12,4 +12,4 @@ part-requires-clause-within g c =
 pub returns : goal.returns
 returns g c =
     let are = are_of c.self.view_is c.self.invariant in
-    c.part.ensures ∙ list_between c.args.self.now c.args.k c.start.result c.start-2.result c.deref.result.now (omega arith) (c.deref.ensures.value ∙ are.items_are) c.start.ensures.start c.start-2.ensures.start
+    c.part.ensures ∙ list_between c.args.self.now c.args.k (omega arith) (c.deref.ensures.value ∙ are.items_are) c.start.ensures.start c.start-2.ensures.start

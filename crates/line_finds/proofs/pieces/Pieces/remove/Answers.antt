@@ -16,11 +16,11 @@ pub remove_starts-requires-clause-within : goal.remove_starts-requires-clause-wi
 remove_starts-requires-clause-within g c = omega (arith, many_starts (are_of c.self.view_is c.self.invariant))
 
 pub invariant_of-self : goal.invariant_of-self
-invariant_of-self g c = are_lists (are_without (are_of c.self.view_is c.self.invariant) c.min-from.result c.min-to.result _ _ (omega arith) c.start-start.ensures.start c.start-end.ensures.start (c.drop-drain.ensures.items ∙ c.drain.ensures.kept) c.remove_starts.ensures)
+invariant_of-self g c = are_lists (are_without (are_of c.self.view_is c.self.invariant) c.min-from.result c.min-to.result (omega arith) c.start-start.ensures.start c.start-end.ensures.start (c.drop-drain.ensures.items ∙ c.drain.ensures.kept) c.remove_starts.ensures)
 
 pub returns : goal.returns
 returns g c =
     let lists = c.args.self.now in
     let from : c.min-from.result ≡ min c.args.from (length lists) = cc (c.min-from.ensures, c.len-count.ensures) in
     let to : c.min-to.result ≡ min c.args.to (length lists) = cc (c.min-to.ensures, c.len-count.ensures) in
-    seen_as (are_without (are_of c.self.view_is c.self.invariant) c.min-from.result c.min-to.result _ _ (omega arith) c.start-start.ensures.start c.start-end.ensures.start (c.drop-drain.ensures.items ∙ c.drain.ensures.kept) c.remove_starts.ensures) ∙ (λ j. take (from j) lists ++ drop (to j) lists) ∙ (λ j. take_min c.args.from lists j ++ drop_min c.args.to lists j)
+    seen_as (are_without (are_of c.self.view_is c.self.invariant) c.min-from.result c.min-to.result (omega arith) c.start-start.ensures.start c.start-end.ensures.start (c.drop-drain.ensures.items ∙ c.drain.ensures.kept) c.remove_starts.ensures) ∙ (λ j. take (from j) lists ++ drop (to j) lists) ∙ (λ j. take_min c.args.from lists j ++ drop_min c.args.to lists j)

@@ -9,4 +9,4 @@ returns-then-most-eq0 c =
 pub returns : goal.returns
 returns c =
     let within : c.args.start + c.args.count ≤ c.self.inside.lines = omega (arith, ap (λ (m : Marked). m.lines) c.self.view_is) in
-    rw (← c.self.view_is) (replaced_mark _ _ _ _ _ (omega arith) c.splice_at.ensures.splices refl refl within (c.splice_at.ensures.fits c.self.inside.known c.self.invariant.1))
+    rw (← c.self.view_is) (replaced_mark _ _ _ _ (omega arith) c.splice_at.ensures.splices refl refl within (c.splice_at.ensures.fits c.self.inside.known c.self.invariant.1))

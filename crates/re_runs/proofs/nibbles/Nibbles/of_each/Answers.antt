@@ -5,12 +5,8 @@ pub runs-preserved : goal.runs-preserved
 runs-preserved c = λ n d lt within x small has. elim (cases_lt n c.runs.number) [
   | inl early ↦ c.runs.invariant n d early within x small has
   | inr late ↦
-      let runs = c.args.runs.now in
-      let number = c.runs.number in
-      let items = c.deref.result.now in
-      let set = c.in_ok-set.set.now in
-      let same : n ≡ number = omega arith in
-      let look = c.in_ok-set.ensures.lookup in
+      let runs = c.args.runs.now in let number = c.runs.number in let items = c.deref.result.now in
+      let set = c.in_ok-set.set.now in let same : n ≡ number = omega arith in let look = c.in_ok-set.ensures.lookup in
       let there : set_at (map members items) c.args.at ≡ members set = its_members items c.args.at set look.3.0 (look.3.1 set) in
       let here =
       ap (λ r. set_at r c.args.at) (each_at _ _ d _ _ c.runs-test.true c.index-runs-number.is c.deref.ensures.value) ∙ there in

@@ -3,6 +3,5 @@ use Rattle.re_runs.proofs.set_finder.SetFinder.new.Goals as goal
 
 pub returns-clause-some : goal.returns-clause-some
 returns-clause-some c =
-    let runs = c.args.runs.items in
     let wide = rw c.deref.ensures.value at c.shortest-width.ensures in
-    subst (IsNoWider 1) (sym (seen_runs _ runs refl)) (λ n d lt. omega (arith, c.in-Some.ensures.first.within, wide n d lt))
+    rw (seen_runs _ c.args.runs.items refl) (λ n d lt. omega (arith, c.in-Some.ensures.first.within, wide n d lt))
