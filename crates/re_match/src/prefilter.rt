@@ -1,12 +1,12 @@
 //! What is known of lines, parts and blocks by what each match contains.
 ghost use Rattle.std.specs.Prelude.{IsTrue, ◌<◌, ◌≡◌, Some, map, ◌+◌, [], ℕ, All, ◌-◌, false, ◌≤◌};
-ghost use Rattle.std.specs.Prelude.{IfSome, ◌++◌, drop, length, slice_range, ◌⊎◌, Bool, IfOk, ◌∷◌};
+ghost use Rattle.std.specs.Prelude.{IfSome, ◌++◌, drop, length, min, slice_range, ◌⊎◌, Bool, IfOk, ◌∷◌};
 ghost use Rattle.re_trees.specs.{Expression.Expression, Working.Trees.expression_of, Bytes.Text};
 ghost use Rattle.re_trees.specs.Lines.{newline, HasNoNewline, lines_of};
 ghost use Rattle.re_meter.specs.Meters.{AddsJust, AddsUpTo, Steps};
 ghost use Rattle.re_needle.specs.Working.Needles.{IsNeeded, IsNeedleOf};
 ghost use Rattle.re_runs.specs.Working.{Blocks.{PassesUnmatched, IsBlock}, Finders.runs_of};
-ghost use Rattle.re_runs.specs.Working.Runs.{FindsRun, IsLongestRun};
+ghost use Rattle.re_runs.specs.Working.Runs.{FindsRun, longest_of};
 ghost use Rattle.re_match.specs.Working.Prefilters.{AreNeeded, IsPrefilterFor, IsSaidAtOnce};
 ghost use Rattle.re_match.specs.Working.{Prefilters.NeedsOneOf, Sweeps.{LooksOver, StopsAt}};
 ghost use Rattle.re_match.specs.Working.Aheads.{PassesAtLeast, AreEdgesFor, IsSaid};
@@ -239,19 +239,18 @@ fn is_inside(swept: Swept) -> bool
     }
 }
 
-// Whether the run that a look found is in one line. A run of sets may go over a newline.
+// Whether the run that a look found is surely in one line: no newline is among as many bytes as the
+// longest has. A run of sets may go over one.
 fn has_run(finder: &RunFinder, block: &[u8], swept: Swept) -> bool
     requires { FindsRun block.now (runs_of finder.now) swept.place }
-    ensures { IsTrue result → (at end : ℕ) × (swept.place ≡ Some at)
-        × IsLongestRun block.now (runs_of finder.now) at end
-        × HasNoNewline (slice_range block.now at end) }
+    ensures { IsTrue result → (at : ℕ) × (swept.place ≡ Some at)
+        × HasNoNewline (slice_range block.now at
+        (at + min (longest_of (runs_of finder.now)) (length block.now - at))) }
 {
     let Some(at) = swept.place else {
         return false;
     };
-    let Some(end) = finder.longest_end(block, at) else {
-        return false;
-    };
+    let end = at + finder.longest().min(block.len() - at);
     has_no_newline(&block[at..end])
 }
 

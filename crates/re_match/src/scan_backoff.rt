@@ -5,12 +5,15 @@ use std::cell::Cell;
 // How many bytes count as a line.
 const LINE: usize = 64;
 
+// A look is worth while that passes so many bytes.
+const WORTH: usize = 32;
+
 // The most lines between two looks.
 const MOST_REST: usize = 256;
 
-/// When to look ahead, by how well earlier looks have paid. After a look that passed less than a line,
-/// one line is searched without a look. Each further such look doubles the number of these lines, up to
-/// a limit. One that passed more sets it back to one.
+/// When to look ahead, by how well earlier looks have paid. After a look that passed few bytes, one line
+/// is searched without a look. Each further such look doubles the number of these lines, up to a limit.
+/// One that passed more sets it back to one.
 #[derive(Drop)]
 pub struct ScanBackoff {
     rest: Cell<usize>,
@@ -72,7 +75,7 @@ impl ScanBackoff {
     /// A look passed `bytes` bytes.
     #[inline(always)]
     pub fn note(&self, bytes: usize) {
-        if bytes >= LINE {
+        if bytes >= WORTH {
             self.next_rest.set(1);
             return;
         }

@@ -47,10 +47,16 @@ impl RunFinder {
         ensures counted { meter.new ≡
             many_passed (min (longest_of (runs_of self.now)) (length line.now)) meter.old }
     {
-        meter.add_passed(self.longest().min(line.len()));
         match self {
-            RunFinder::Text(finder) => begins_with(line, finder.needle()),
-            RunFinder::Sets(finder) => finder.begins(line),
+            RunFinder::Text(finder) => {
+                let text = finder.needle();
+                meter.add_passed(text.len().min(line.len()));
+                begins_with(line, text)
+            }
+            RunFinder::Sets(finder) => {
+                meter.add_passed(finder.longest().min(line.len()));
+                finder.begins(line)
+            }
         }
     }
 
@@ -99,15 +105,20 @@ impl RunFinder {
     }
 }
 
-// Whether the line begins with the text. Most lines are refused by their first byte.
+// Whether the line begins with the text. Most lines differ in its first byte, before any call.
 #[inline(always)]
 fn begins_with(line: &[u8], text: &[u8]) -> bool
     ensures { IsTrue result ↔ RunStandsAt line.now (one_run (map only text.now)) 0 }
 {
-    if !line.is_empty() && !text.is_empty() && line[0] != text[0] {
+    if line.len() < text.len() {
         return false;
     }
-    line.starts_with(text)
+    'bytes: for place in 0..text.len() {
+        if line[place] != text[place] {
+            return false;
+        }
+    }
+    true
 }
 
 // Where the text ends, if it is in the line at the place.
@@ -116,7 +127,7 @@ fn text_end(text: &[u8], line: &[u8], place: usize) -> Option<usize>
     ensures { MatchOption result (¬ RunStandsAt line.now (one_run (map only text.now)) place)
         (IsLongestRun line.now (one_run (map only text.now)) place) }
 {
-    if !line[place..].starts_with(text) {
+    if !begins_with(&line[place..], text) {
         return None;
     }
     Some(place + text.len())

@@ -1,5 +1,5 @@
 -- What a look over a block says of the line in which it stopped.
-use Rattle.{re_match.{proofs.{Prelude.{◌≡◌, ◌∙◌, ℕ, ◌+◌, ◌-◌, ◌<◌, ◌≤◌, ◌↔◌, ◌∷◌, inr, List, Bool, true, false, Some, length, take, drop, get_or, slice_range, slice_index, ap, refl, arith, length-take, length-drop, IsTrue, Text, Expression, Matches, newline, HasNoNewline, AddsUpTo, IsLineFrom, StopsInLine, PassesAll, PassesUnmatched, ⊤, IsJustRun, Runs, RunStandsAt, FindsRun, look_cost, Swept, Sweep, Stop, Unseen, Seen, Decided, StopsAt, left_for, steps_left, steps_to, false≢true}, lemmas.StepSums.adds_on}, specs.Working.Sweeps.{CountsSweep, StopsIn, Says}}, re_trees.specs.Bytes.Bytes, re_runs.{specs.Working.Runs.{IsLongestRun, IsNoWider, RunIsAt}, proofs.lemmas.{BlockLemmas.passed_within, Looks.{look_within, place_in_line}, RunLaws.{run_before, run_whole}, Ranges.{at_range, drop_range, length_range, line_after, newline_at, range_after}}}, re_meter.{specs.Meters.{Steps, AddsAtMost}, proofs.lemmas.Adding.adds_both}, re_needle.{specs.Working.Needles.{HasNoBegin, RunBegins}, proofs.lemmas.{NeedleLaws.settled_says, LaterStarts.rest_matched}}}
+use Rattle.{re_match.{proofs.{Prelude.{◌≡◌, ◌∙◌, sym, min, [], suc, zero, ℕ, ◌+◌, ◌-◌, ◌<◌, ◌≤◌, ◌↔◌, ◌∷◌, inr, List, Bool, true, false, Some, length, take, drop, get_or, slice_range, slice_index, ap, refl, arith, length-take, length-drop, IsTrue, Text, Expression, Matches, newline, HasNoNewline, AddsUpTo, IsLineFrom, StopsInLine, PassesAll, PassesUnmatched, ⊤, IsJustRun, Runs, RunStandsAt, FindsRun, look_cost, Swept, Sweep, Stop, Unseen, Seen, Decided, StopsAt, left_for, steps_left, steps_to, false≢true}, lemmas.StepSums.adds_on}, specs.Working.Sweeps.{CountsSweep, StopsIn, Says}}, re_trees.specs.Bytes.Bytes, re_runs.{specs.Working.Runs.{IsNoWider, RunIsAt, longest_of}, proofs.lemmas.{BlockLemmas.passed_within, Looks.{look_within, place_in_line}, RunLaws.{run_before, run_whole}, Ranges.{at_range, drop_range, length_range, line_after, newline_at, range_after}}}, re_meter.{specs.Meters.{Steps, AddsAtMost}, proofs.lemmas.Adding.adds_both}, re_needle.{specs.Working.Needles.{HasNoBegin, RunBegins}, proofs.lemmas.{NeedleLaws.settled_says, LaterStarts.rest_matched}}}
 use native.Mathlib.Omega.{by_contra}
 
 -- what a look says of the line in which it stopped, after which no byte is passed
@@ -20,15 +20,16 @@ pub stops_before : (e : Expression) (whole : Bool) (block : Text) (start stop : 
 stops_before e whole block start stop fits front none =
     stops_seen e _ _ _ _ fits (λ end cut. let near = place_in_line block start stop end fits (omega (arith, passed_within (λ _. ⊤) (take stop block) start front, length-take stop block)) none cut in omega arith)
 
--- a run without a newline that was found in the block is in the line in which the look stopped
-module _ (block : Text) (run : List Bytes) (start at end : ℕ) (there : RunIsAt block at run) (some : 1 ≤ length run) (low : start ≤ at) (near : look_cost block (Some at) ≤ end + 1) (free : HasNoNewline (slice_range block at (at + length run))) (cut : IsLineFrom block start end) where
+-- a run that was found in the block, and has no newline up to a place after it, is in the line in which
+-- the look stopped
+module _ (block : Text) (run : List Bytes) (start at last end : ℕ) (there : RunIsAt block at run) (some : 1 ≤ length run) (low : start ≤ at) (near : look_cost block (Some at) ≤ end + 1) (over : at + length run ≤ last) (fits : last ≤ length block) (free : HasNoNewline (slice_range block at last)) (cut : IsLineFrom block start end) where
   abbrev pub line : Text
   line = slice_range block start end
 
   in_line : at + length run ≤ end
   in_line = by_contra _ _ (λ far.
       let here : at ≤ end = omega arith in let back : at + (end - at) ≡ end = omega arith in
-      free (end - at) 0 (omega (arith, length_range block at (at + length run) there.fits)) (cc (at_range block at (at + length run) (end - at) (omega arith), newline_at block start end cut)))
+      free (end - at) 0 (omega (arith, length_range block at last fits)) (cc (at_range block at last (end - at) (omega arith), newline_at block start end cut)))
 
   is_in_line : RunIsAt line (at - start) run
   is_in_line = record {
@@ -38,13 +39,19 @@ module _ (block : Text) (run : List Bytes) (start at end : ℕ) (there : RunIsAt
         rw same (there.takes j below);
   }
 
+-- no run is longer than the longest
+within_longest : (runs : Runs) (n : ℕ) (run : List Bytes) → n < length runs → get_or runs n run ≡ run → length run ≤ longest_of runs
+within_longest [] n run lt at = absurd (omega arith)
+within_longest (first ∷ runs) zero run lt at = rw (sym at) (omega arith)
+within_longest (first ∷ runs) (suc n) run lt at = let more = within_longest runs n run (omega arith) at in omega (arith, more)
+
 -- a look that stopped in a line says that it is matched, if the expression holds where one of the runs is
-pub stops_matched : (e : Expression) (runs : Runs) (block : Text) (swept : Swept) (at last : ℕ) → IsJustRun runs e → IsNoWider 1 runs → swept.place ≡ Some at → IsLongestRun block runs at last → swept.start ≤ at
-    → HasNoNewline (slice_range block at last) → StopsInLine block swept → StopsAt e false block (record { start = swept.start; first = swept.start; reached = look_cost block swept.place; stop = Decided true })
-stops_matched e runs block swept at last is wide place longest low free stops = stops_saying e _ _ _ _ _ (λ n. refl) (look_within block swept.place) (λ end cut.
-    let (n, run, lt, here, (there, same)) = longest.ends in let some = rw here at (wide n run lt) in
-    let near = rw place at (stops end cut) in
-    let in_line = is_in_line block run swept.start at end there some low near (rw same at free) cut in (
+pub stops_matched : (e : Expression) (runs : Runs) (block : Text) (swept : Swept) (at : ℕ) → IsJustRun runs e → IsNoWider 1 runs → swept.place ≡ Some at → FindsRun block runs swept.place → swept.start ≤ at
+    → HasNoNewline (slice_range block at (at + min (longest_of runs) (length block - at))) → StopsInLine block swept → StopsAt e false block (record { start = swept.start; first = swept.start; reached = look_cost block swept.place; stop = Decided true })
+stops_matched e runs block swept at is wide place found low free stops = stops_saying e _ _ _ _ _ (λ n. refl) (look_within block swept.place) (λ end cut.
+    let (n, run, lt, here, there) = (rw place at found).1 in let some = rw here at (wide n run lt) in
+    let near = rw place at (stops end cut) in let few = within_longest runs n run lt here in let fits = there.fits in
+    let in_line = is_in_line block run swept.start at _ end there some low near (omega arith) (omega arith) free cut in (
       stops end cut,
       settled_says e (slice_range block swept.start end) false true (inr (inr (record { runs = runs; is = is; any = refl; place = at - swept.start; stands = (n, run, lt, here, in_line); yes = refl }))),
     ))

@@ -1,5 +1,5 @@
 -- Where a text is in a line, by a search for it.
-use Rattle.re_runs.proofs.Prelude.{◌≡◌, ℕ, suc, ◌+◌, ◌<◌, ◌≤◌, [], ◌∷◌, ◌++◌, length, drop, get_or, refl, ap, ◌∙◌, arith, length-append, length-drop, get_or-drop, get_or_append_left, Text, OccursAt}
+use Rattle.re_runs.proofs.Prelude.{◌≡◌, ℕ, suc, ◌+◌, ◌<◌, ◌≤◌, [], ◌∷◌, ◌++◌, length, drop, get_or, refl, ◌∙◌, arith, length-append, length-drop, get_or-drop, get_or_append_left, Text, OccursAt}
 
 -- the text begins the line where its bytes do
 begins : (line text : Text) → length text ≤ length line → ((j : ℕ) → j < length text → get_or line j 0 ≡ get_or text j 0) → line ≡ text ++ drop (length text) line

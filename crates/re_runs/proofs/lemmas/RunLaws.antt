@@ -1,5 +1,5 @@
 -- Where a run of sets is in a line, and what the tests of its probes say.
-use Rattle.{re_runs.proofs.{Prelude.{◌%◌, HasBitAt, ◌≡◌, ℕ, ◌+◌, ◌-◌, ◌<◌, ◌≤◌, ◌↔◌, ◌⊎◌, inl, inr, Bool, IsTrue, List, Vec, [], ◌∷◌, ◌++◌, length, map, drop, get_or, slice_index, Option, None, Some, refl, sym, ap, ◌∙◌, subst, arith, nat_eq, eq-eqb, length-append, length-drop, bit_at, starts_with, Bytes, Text, nothing, only, members, ByteSet, OccursAt, FindsNeedle, Nowhere, NoneBefore, Marks, Probe, Probes, Runs, members_of, one_run, RunIsAt, IsNoWider, RunStandsAt, Any, longest_of, IsLongestRun, take, All-cons, FindsRun, set_at, sets_of_each, PassesAt, AllPass, IsProbeOf, AreProbesOf, bit_at-zero, cases_lt, eqb-true, Decides-eqb, starts_is, get_or-drop, get_or_append_left, get_or-append-add, length-map}, lemmas.Occurrences.{occurs-stands, stands-occurs}}, std.{specs.Prelude.{IfSome, MatchOption, max}, proofs.lemmas.List.{get_or-map, map-append, take_more}}, re_trees.proofs.lemmas.{Decisions.Any-first, SomeOfJoined.Any-single}}
+use Rattle.{re_runs.proofs.{Prelude.{◌%◌, HasBitAt, ◌≡◌, ℕ, ◌+◌, ◌-◌, ◌<◌, ◌≤◌, ◌⊎◌, inl, inr, Bool, IsTrue, List, Vec, [], ◌∷◌, ◌++◌, length, map, drop, get_or, slice_index, Option, None, Some, refl, sym, ap, ◌∙◌, subst, arith, eq-eqb, length-append, length-drop, bit_at, Bytes, Text, nothing, only, members, ByteSet, OccursAt, FindsNeedle, Nowhere, NoneBefore, Marks, Probe, Probes, Runs, members_of, one_run, RunIsAt, IsNoWider, RunStandsAt, Any, longest_of, IsLongestRun, take, All-cons, FindsRun, set_at, sets_of_each, PassesAt, AllPass, IsProbeOf, AreProbesOf, bit_at-zero, cases_lt, eqb-true, get_or-drop, get_or_append_left, get_or-append-add, length-map}}, std.{specs.Prelude.{IfSome, MatchOption, max}, proofs.lemmas.List.{get_or-map, map-append, take_more}}, re_trees.proofs.lemmas.{Decisions.Any-first, SomeOfJoined.Any-single}}
 
 -- ---- in a longer line, and in the rest of one
 
@@ -73,14 +73,6 @@ run_text line text k o =
 pub finds_text : (line text : Text) (r : Option ℕ) → FindsNeedle line text 0 r → FindsRun line (one_run (map only text)) r
 finds_text line text None none = λ k low high o. none k low high (run_text line text k o)
 finds_text line text (Some at) (first, stands) = (record { low = first.low; high = first.high; before = λ k low high o. first.before k low high (run_text line text k o) }, text_run line text at stands)
-
--- a line begins with a text where it does with its run
-pub begins_text : (line text : Text) {r : Bool} → r ≡ starts_with nat_eq line text → IsTrue r ↔ RunStandsAt line (one_run (map only text)) 0
-begins_text line text {r} is =
-    let reported = starts_is Decides-eqb line text r is in (
-      λ yes. text_run line text 0 (stands-occurs line text (drop (length text) line) 0 (omega arith) (reported.0 yes)),
-      λ o. reported.1 (drop (length text) line) (occurs-stands line text 0 (run_text line text 0 o)),
-    )
 
 -- ---- where a search says that the run is nowhere
 

@@ -1,4 +1,4 @@
-use Rattle.re_runs.proofs.{Prelude.{sym, subst, arith, IsNoWider, refl}, lemmas.RunLaws.seen_runs}
+use Rattle.re_runs.proofs.{Prelude.{arith, refl}, lemmas.RunLaws.seen_runs}
 use Rattle.re_runs.proofs.set_finder.SetFinder.new.Goals as goal
 
 pub returns-clause-some : goal.returns-clause-some
