@@ -169,7 +169,8 @@ uint32_t gaxtrel_compile_with(gaxtrel_matcher *matcher, const uint8_t *patterns,
    GAXTREL_STOPPED (an empty line never): nothing is searched or written. A call on a text searches the
    whole lines in as many bytes from `from` on as it allows, and answers GAXTREL_STOPPED if it has to go
    on: what it counted and wrote is right so far. So a call stops at the same place each time. But a
-   step costs more the more positions its pattern has, up to 64 words for each of 4,096 (SECURITY.md). GAXTREL_OK; GAXTREL_MISUSED: `matcher` holds none. */
+   step costs more the more positions its pattern has, up to 64 words for each of 4,096 (SECURITY.md).
+   GAXTREL_OK; GAXTREL_MISUSED: `matcher` holds none. */
 uint32_t gaxtrel_limit(gaxtrel_matcher *matcher, uint64_t limit);
 
 /* Frees what `matcher` holds. It then holds none, and may be used again. */

@@ -39,10 +39,13 @@ static void dealloc(PyObject *self) {
 /* Two words of a call, of a Py_buffer. */
 #define TEXT(buffer) (buffer).buf, (size_t)(buffer).len
 
+static PyObject *stopped;
+
 /* The library's answer: whether it is yes; or less than 0, and an error. */
 static int judged(uint32_t answer) {
     if (answer == GAXTREL_NO || answer == GAXTREL_YES) return (int)answer;
     if (answer == GAXTREL_NO_MEMORY) PyErr_NoMemory();
+    else if (answer == GAXTREL_STOPPED) PyErr_SetString(stopped, "it may take more than its limit");
     else PyErr_SetString(PyExc_ValueError, answer == GAXTREL_JOINED ? "its patterns are joined" : "it is closed");
     return -1;
 }
@@ -63,6 +66,12 @@ static PyObject *compile(PyObject *self, PyObject *words) {
         MATCHER(self), (const uint8_t *)PyBytes_AsString(pattern), PyBytes_Size(pattern), syntax, fold, whole, &fault));
     if (refused <= 0) return refused ? NULL : Py_NewRef(Py_None);
     return Py_BuildValue("snn", gaxtrel_kind_name(fault.kind), fault.at, fault.pattern);
+}
+
+static PyObject *limit(PyObject *self, PyObject *work) {
+    unsigned long long most = PyLong_AsUnsignedLongLong(work);
+    if (PyErr_Occurred()) return NULL;
+    return judged(gaxtrel_limit(MATCHER(self), most)) < 0 ? NULL : Py_NewRef(Py_None);
 }
 
 static PyObject *matcher_work(PyObject *self, PyObject *none) { return work_of(&MATCHER(self)->work); }
@@ -194,6 +203,8 @@ static PyMethodDef matcher_methods[] = {
     {"_compile", compile, METH_VARARGS, NULL},
     {"_work", matcher_work, METH_NOARGS, NULL},
     {"_next_line", SEARCH(next_line), NULL},
+    {"limit", limit, METH_O,
+     "How much work a call may take, in steps and as many bytes; 0 is no limit. One that may take more is Stopped."},
     {"is_match", is_match, METH_O, "Whether the line is matched."},
     {"which", which, METH_O,
      "The numbers of the patterns that match the line, from 0. Lines of `compile_lines` need its `apart`."},
@@ -216,22 +227,40 @@ static PyObject *open_session(PyObject *self, PyObject *states) {
     return judged(answer) < 0 ? NULL : Py_NewRef(Py_None);
 }
 
-/* The replies, and the work. */
+/* The replies, and the work; or the error. */
+static PyObject *replies(PyObject *self, uint32_t answer, size_t count) {
+    if (judged(answer) < 0) return NULL;
+    gaxtrel_work work = SESSION(self)->work;
+    PyObject *text = PyBytes_FromStringAndSize(NULL, (Py_ssize_t)count);
+    if (!text) return NULL;
+    gaxtrel_session_replies(SESSION(self), 0, (uint8_t *)PyBytes_AsString(text), count, &count);
+    return Py_BuildValue("NN", text, work_of(&work));
+}
+
 static PyObject *answer(PyObject *self, PyObject *commands) {
     Py_buffer text;
-    size_t count;
-    PyObject *replies = NULL;
+    size_t count = 0;
     if (PyObject_GetBuffer(commands, &text, PyBUF_SIMPLE)) return NULL;
-    int refused = judged(gaxtrel_session_answer(SESSION(self), TEXT(text), &count));
-    gaxtrel_work work = SESSION(self)->work;
-    if (refused >= 0 && (replies = PyBytes_FromStringAndSize(NULL, (Py_ssize_t)count)))
-        gaxtrel_session_replies(SESSION(self), 0, (uint8_t *)PyBytes_AsString(replies), count, &count);
+    uint32_t answered = gaxtrel_session_answer(SESSION(self), TEXT(text), &count);
     PyBuffer_Release(&text);
-    return replies ? Py_BuildValue("NN", replies, work_of(&work)) : NULL;
+    return replies(self, answered, count);
+}
+
+static PyObject *edit(PyObject *self, PyObject *words) {
+    Py_buffer command, lines;
+    size_t count = 0;
+    if (!PyArg_ParseTuple(words, "y*y*", &command, &lines)) return NULL;
+    uint32_t answered = gaxtrel_session_edit(SESSION(self), TEXT(command), TEXT(lines), &count);
+    PyBuffer_Release(&command);
+    PyBuffer_Release(&lines);
+    if (answered == GAXTREL_MISUSED)
+        return PyErr_Format(PyExc_ValueError, "it is closed, or that is no one command with the lines that it counts");
+    return replies(self, answered, count);
 }
 
 static PyMethodDef session_methods[] = {
-    HELD_METHODS, {"_open", open_session, METH_O, NULL}, {"_answer", answer, METH_O, NULL}, {0}};
+    HELD_METHODS, {"_open", open_session, METH_O, NULL}, {"_answer", answer, METH_O, NULL},
+    {"_edit", edit, METH_VARARGS, NULL}, {0}};
 
 static int add_type(PyObject *module, const char *name, PyMethodDef *methods) {
     PyType_Slot slots[] = {{Py_tp_dealloc, dealloc}, {Py_tp_methods, methods}, {0}};
@@ -243,7 +272,9 @@ static int add_type(PyObject *module, const char *name, PyMethodDef *methods) {
 PyMODINIT_FUNC PyInit__core(void) {
     static PyModuleDef core = {PyModuleDef_HEAD_INIT, "gaxtrel._core", NULL, -1, NULL, NULL, NULL, NULL, NULL};
     PyObject *module = PyModule_Create(&core);
+    stopped = PyErr_NewExceptionWithDoc("gaxtrel.Stopped", "A call may take more work than its limit.", NULL, NULL);
     if (module && (PyModule_AddStringConstant(module, "__version__", GAXTREL_VERSION) ||
+                   PyModule_AddObjectRef(module, "Stopped", stopped) ||
                    add_type(module, "gaxtrel._core.Matcher", matcher_methods) ||
                    add_type(module, "gaxtrel._core.Session", session_methods)))
         Py_CLEAR(module);

@@ -18,10 +18,11 @@ from collections.abc import Iterator
 from typing import Any, NamedTuple
 
 from gaxtrel import _core
+from gaxtrel._core import Stopped
 from gaxtrel._core import __version__ as __version__
 
-__all__ = ["Error", "Kind", "Match", "Pattern", "Session", "Syntax", "Text", "Work", "compile",
-           "compile_lines"]
+__all__ = ["Error", "Kind", "Match", "Pattern", "Session", "Stopped", "Syntax", "Text", "Work",
+           "compile", "compile_lines"]
 
 Text = bytes | bytearray | memoryview | mmap.mmap
 """A line or a text: anything that has bytes in one stretch of memory. No process may change it during a call."""
@@ -139,14 +140,20 @@ class Session(_core.Session):
     def __init__(self, states: int = 256) -> None:
         self._open(states)
         self.work = Work(0, 0, 0)
-        """What the commands of the last `answer` took."""
+        """What the last commands took."""
 
     def answer(self, commands: Text) -> bytes:
         """The replies to commands, by the language of occur(1), with the lines that they count.
         After a `MemoryError` the first of them may have been answered."""
-        replies, work = self._answer(commands)
-        self.work = Work(*work)
-        return replies
+        return self._noted(self._answer(commands))
+
+    def edit(self, command: Text, lines: Text = b"") -> bytes:
+        """The reply to one command with the lines that it counts: no line is taken for a command."""
+        return self._noted(self._edit(command, lines))
+
+    def _noted(self, answered: tuple[bytes, tuple[int, int, int]]) -> bytes:
+        self.work = Work(*answered[1])
+        return answered[0]
 
     def __reduce__(self) -> tuple[Any, ...]:
         raise TypeError("a session has no copy")

@@ -63,6 +63,18 @@ class Searches(unittest.TestCase):
         self.assertTrue(pattern.is_match(b"a.B"))
         self.assertFalse(pattern.is_match(b"a.Bc") or pattern.is_match(b"axB"))
 
+    def test_limit(self) -> None:
+        self.pattern.limit(6)
+        self.assertTrue(self.pattern.is_match(b"xabcd"))
+        for call in ("is_match", "fullmatch", "search", "finditer"):
+            self.assertRaises(gaxtrel.Stopped, getattr(self.pattern, call), b"xabcde")
+        self.assertRaises(gaxtrel.Stopped, self.pattern.count_lines, b"ab\nab\nab\n")
+        self.assertRaises(gaxtrel.Stopped, list, self.pattern.lines(b"xyz\nxyz\nab\n"))
+        self.pattern.limit(0)
+        self.assertTrue(self.pattern.is_match(b"xabcde"))
+        for wrong in (-1, 2**64):
+            self.assertRaises(OverflowError, self.pattern.limit, wrong)
+
     def test_fullmatch(self) -> None:
         self.assertEqual(self.pattern.fullmatch(b"abcd").span(), (0, 4))
         self.assertIsNone(self.pattern.fullmatch(b"abc"))
@@ -170,6 +182,7 @@ class Errors(unittest.TestCase):
             self.assertTrue(pattern.is_match(b"a"))
         for call in ("is_match", "which", "fullmatch", "search", "finditer", "count_lines"):
             self.assertRaises(ValueError, getattr(pattern, call), b"a")
+        self.assertRaises(ValueError, pattern.limit, 1)
         pattern.close()
 
 
@@ -220,6 +233,17 @@ class Objects(unittest.TestCase):
             with self.assertRaises(ValueError):
                 gaxtrel.Session(states)
 
+    def test_no_line_is_taken_for_a_command(self) -> None:
+        with gaxtrel.Session() as session:
+            self.assertEqual(session.edit(b"file f 2", b"show\nab\n"), b"ok\n")
+            self.assertEqual(session.edit(b"patterns 1", memoryview(b"show")), b"ok\n")
+            self.assertEqual(session.edit(b"show"), b"o show\nstatus 0\n")
+            self.assertEqual(session.edit(b"close 7"), b"refused NoSuchFile\n")
+            for command, lines in ((b"file g 1", b"a\nb\n"), (b"file g 2", b"a\n"), (b"show\nshow", b"")):
+                self.assertRaises(ValueError, session.edit, command, lines)
+            self.assertRaises(TypeError, session.edit, "show")
+        self.assertRaises(ValueError, session.edit, b"show")
+
     def test_each_refused_request_of_python(self) -> None:
         try:
             from _testcapi import remove_mem_hooks, set_nomemory
@@ -230,7 +254,8 @@ class Objects(unittest.TestCase):
         refusals = 0
         for call, *words in ((pattern.fullmatch, b"bc"), (pattern.search, line, 1000), (pattern.finditer, line),
                              (gaxtrel.compile_lines(b".\n" * 900, apart=True).which, b"abc"),
-                             (pattern._next_line, line, 1000), (session._answer, b"page 0 9\n"),
+                             (pattern._next_line, line, 1000),
+                             (session._answer, b"page 0 9\n"), (session._edit, b"page 0 9", b""),
                              (gaxtrel.compile(b"")._compile, b"a(", 1, False, False, False, False)):
             wanted, refused, number = str(call(*words)).split(" at ")[0], True, 0
             while refused:
