@@ -8,8 +8,12 @@ ghost use Rattle.re_runs.specs.Working.Runs.{HaveRoom, IsNoWider, bits_of, sets_
 use crate::alike::Alike;
 use crate::lanes::{both, lesser, nonzero};
 use crate::nibbles::Nibbles;
+use crate::rare_places::stops_at;
 use re_trees::ByteSet;
 use std::simd::prelude::*;
+
+// From this number of places in 65,536 on that pass two tests a third is made.
+const MANY: u64 = 512;
 
 /// Two tests for the byte at this distance after a place.
 #[derive(Clone, Copy, Drop)]
@@ -97,7 +101,11 @@ impl Probes {
     {
         let first = Probe::of(runs, width, *places.first()?)?;
         let second = first.or_at(runs, width, places.get(1));
-        let more = if runs.len() > 1 { places.get(2) } else { None };
+        let more = if runs.len() > 1 && are_common(runs, places) {
+            places.get(2)
+        } else {
+            None
+        };
         let third = second.or_at(runs, width, more);
         Some(Probes {
             first,
@@ -149,8 +157,17 @@ impl Probes {
         let first = self.first.looked_up(line, place);
         let second = self.second.looked_up(line, place);
         if EACH {
-            return nonzero(both(both(first, second), self.third.looked_up(line, place)));
+            let two = both(first, second);
+            if self.third.at == self.second.at {
+                return nonzero(two);
+            }
+            return nonzero(both(two, self.third.looked_up(line, place)));
         }
         nonzero(lesser(first, second))
     }
+}
+
+// Whether two tests are passed at many places.
+fn are_common(runs: &[Vec<ByteSet>], places: &[usize]) -> bool {
+    stops_at(runs, &places[..places.len().min(2)]) > MANY
 }

@@ -117,3 +117,10 @@ module _ (each : Bool) (probes : Probes) (line : Text) (place k : ℕ) (all : Al
         its _ _ none,
         bit_at-zero bit,
       )
+
+  -- two have one, too
+  pub pair_met : IsTrue each → (v a b : List ℕ) → AreBoth v a b → AreBits probes.first a → AreBits probes.second b → get_or v k 0 ≢ 0
+  pair_met several v a b both first second none =
+      let (bit, one, two, three) = all.common several in
+      let its : (x y : ℕ) → x ≡ y → bit_at x bit ≡ bit_at y bit = λ x y is. rw is in
+      omega (arith, its _ _ (first.each k below), its _ _ (second.each k below), one, two, bit_at_and (get_or a k 0) (get_or b k 0) bit, its _ _ (both.each k below), its _ _ none, bit_at-zero bit)
