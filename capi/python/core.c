@@ -39,6 +39,7 @@ static void dealloc(PyObject *self) {
 /* Two words of a call, of a Py_buffer. */
 #define TEXT(buffer) (buffer).buf, (size_t)(buffer).len
 
+/* What a call raises that may take more work than its limit. */
 static PyObject *stopped;
 
 /* The library's answer: whether it is yes; or less than 0, and an error. */
@@ -254,7 +255,7 @@ static PyObject *edit(PyObject *self, PyObject *words) {
     PyBuffer_Release(&command);
     PyBuffer_Release(&lines);
     if (answered == GAXTREL_MISUSED)
-        return PyErr_Format(PyExc_ValueError, "it is closed, or that is no one command with the lines that it counts");
+        return PyErr_Format(PyExc_ValueError, "it is closed, or that isn't one command with the lines that it counts");
     return replies(self, answered, count);
 }
 

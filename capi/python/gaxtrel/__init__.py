@@ -148,7 +148,8 @@ class Session(_core.Session):
         return self._noted(self._answer(commands))
 
     def edit(self, command: Text, lines: Text = b"") -> bytes:
-        """The reply to one command with the lines that it counts: no line is taken for a command."""
+        """The reply to one command with the lines that it counts: no line is taken for a command. A
+        `ValueError` says that it has a newline, or counts other lines: then nothing is done."""
         return self._noted(self._edit(command, lines))
 
     def _noted(self, answered: tuple[bytes, tuple[int, int, int]]) -> bytes:
