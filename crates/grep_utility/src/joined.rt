@@ -21,7 +21,7 @@ pub struct Groups {
     pub matchers: Vec<Matcher>,
     /// The choice.
     pub choice: Choice,
-    /// Whether there is one pattern alone, which joins no choice.
+    /// Whether there is one pattern alone, which joins no choice but as a long string.
     pub alone: bool,
 }
 
@@ -60,7 +60,10 @@ impl Groups {
             positions (alt (map expression_of self.now.choice))
             + positions (pattern_expression pattern.now) ≤ most_positions }
     {
-        !self.alone && self.choice.has_room(pattern)
+        if self.alone && !pattern.is_long_string() {
+            return false;
+        }
+        self.choice.has_room(pattern)
     }
 
     // Gives the patterns of the choice their matcher. The next pattern begins another choice.

@@ -14,7 +14,7 @@ use re_syntax::{MOST_POSITIONS, PatternFault, Syntax, split_file};
 use std::alloc::{AllocError, Global};
 
 /// How many strings one automaton is quick for, whose needle is a choice of as many runs.
-const FEW: usize = 8;
+const FEW: usize = 16;
 
 /// From how many bytes on each string is one pass for the parts of several quicker than an automaton.
 const LONG: usize = 5;
@@ -66,7 +66,7 @@ pub fn has_more_than(most: usize, texts: &[u8]) -> bool
     split_file(texts).nth(most).is_some()
 }
 
-/// The strings that the patterns are, each followed by a newline, where they are more than eight.
+/// The strings that the patterns are, each followed by a newline, where they are more than sixteen.
 /// No list of the patterns is made. `None`: a pattern is something else or refused, or out of
 /// memory.
 fn many_strings(alloc: Global, texts: &[u8], syntax: Syntax, fold: bool) -> Option<Vec<u8>>

@@ -24,7 +24,7 @@ use re_runs::{RunFinder, Swept, bytes_over, first_line_with_run, has_no_newline}
 use re_trees::{Span, Tree};
 use std::alloc::{AllocError, Global};
 
-// From how many branches on a choice has strings in place of a needle, which has a run of each.
+// From how many branches on a choice has strings in place of a common needle.
 const MANY: usize = 9;
 
 /// What each match of an expression contains, if that is known. It is looked for in lines, and in
@@ -46,7 +46,7 @@ impl Prefilter {
         ensures { IfOk result (IsPrefilterFor (expression_of tree.now)) }
     {
         let needle = Needle::of(alloc, tree)?;
-        let strings = needed_strings(alloc, tree)?;
+        let strings = needed_strings(alloc, tree, &needle)?;
         Ok(Prefilter {
             needle,
             strings,
@@ -255,15 +255,19 @@ fn has_run(finder: &RunFinder, block: &[u8], swept: Swept) -> bool
 }
 
 // Strings, one of which each match of a choice of many contains. `None` if a branch isn't known to
-// need one. The only error is that an allocation failed.
-fn needed_strings(alloc: Global, tree: &Tree) -> Result<Option<StringSet>, AllocError>
+// need one, or if the needle is better. The only error is that an allocation failed.
+fn needed_strings(
+    alloc: Global,
+    tree: &Tree,
+    needle: &Option<Needle>,
+) -> Result<Option<StringSet>, AllocError>
     ensures { IfOk result
         (λ found. IfSome found (λ strings. AreNeeded strings (expression_of tree.now))) }
 {
     let Tree::Alt(branches) = tree else {
         return Ok(None);
     };
-    if branches.len() < MANY {
+    if branches.len() < MANY || is_good(needle) {
         return Ok(None);
     }
     let Some(texts) = needed_texts(alloc, branches)? else {
@@ -271,6 +275,11 @@ fn needed_strings(alloc: Global, tree: &Tree) -> Result<Option<StringSet>, Alloc
     };
     let strings = StringSet::new(alloc, &texts, false)?;
     Ok(Some(strings))
+}
+
+// Whether the needle says all, or is rare.
+fn is_good(needle: &Option<Needle>) -> bool {
+    matches!(needle, Some(needle) if needle.is_all || needle.is_rare(u64::MAX))
 }
 
 // A string that each branch needs, each followed by a newline. `None` if one isn't known.

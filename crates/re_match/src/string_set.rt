@@ -13,7 +13,7 @@ ghost use Rattle.re_ends.specs.Working.GreatestEnds.{AddsEnds};
 use crate::sweeps::{Stop, Sweep};
 use re_auto::Meter;
 use re_runs::line_start;
-use re_strings::{AhoCorasick, table_of};
+use re_strings::{AhoCorasick, Payoff, table_of};
 use re_trees::{Span, split_file};
 use std::alloc::{AllocError, Global};
 use std::marker::Model;
@@ -25,6 +25,7 @@ pub struct StringSet {
     texts: Vec<u8>,
     table: AhoCorasick,
     has_empty: bool,
+    payoff: Payoff,
 }
 
 impl Model for StringSet {
@@ -81,6 +82,7 @@ impl StringSet {
             texts: kept,
             table,
             has_empty,
+            payoff: Payoff::new(),
         })
     }
 
@@ -102,7 +104,8 @@ impl StringSet {
         if self.has_empty {
             return true;
         }
-        self.table.first_end(line, meter).is_some()
+        let leaps = self.table.leaps_in(line, &self.payoff);
+        self.table.first_end(line, leaps, meter).is_some()
     }
 
     /// Looks for the first line with some string in a block of whole lines.
@@ -118,7 +121,8 @@ impl StringSet {
         if self.has_empty {
             return Sweep::to(0, 0, Stop::Unseen);
         }
-        let Some(end) = self.table.first_end(block, meter) else {
+        let leaps = self.table.leaps_in(block, &self.payoff);
+        let Some(end) = self.table.first_end(block, leaps, meter) else {
             return Sweep::to(block.len(), block.len(), Stop::Seen);
         };
         Sweep::to(line_start(&block[..end]), end, Stop::Seen)
@@ -131,7 +135,8 @@ impl StringSet {
         ensures reported { FindsPart (any_literal self.now ∷ []) line.now false from result }
         ensures reached { ReachesPart self.now line.now from result meter.old meter.new }
     {
-        self.table.find(line, from, meter)
+        let leaps = self.table.leaps_in(line, &self.payoff);
+        self.table.find(line, from, leaps, meter)
     }
 
     /// Gives each place of the stretch of a line that begins at `start` the greatest end of the strings

@@ -3,7 +3,8 @@ ghost use Rattle.std.specs.Prelude.{IfSome, slice_index, ◌≤◌, ◌≡◌, l
 ghost use Rattle.std.specs.Int.{bit_at};
 ghost use Rattle.memchr.specs.{Find.Nowhere, Lanes.HasLanes};
 ghost use Rattle.re_runs.specs.Working.Runs.{IsProbeOf, AreProbesOf, AllPass, PassesAt, mark_of};
-ghost use Rattle.re_runs.specs.Working.Runs.{HaveRoom, IsNoWider, bits_of, sets_of_each};
+ghost use Rattle.re_runs.specs.Working.Runs.{HaveBitsAt, HaveRoom, IsNoWider, Runs, bits_of};
+ghost use Rattle.re_runs.specs.Working.Runs.{sets_of_each};
 
 use crate::alike::Alike;
 use crate::lanes::{both, lesser, nonzero};
@@ -58,6 +59,18 @@ impl Probe {
         match Probe::of(runs, width, *at) {
             Some(probe) => probe,
             None => self,
+        }
+    }
+
+    // The bits of the byte at this distance after the place; none if the line ends before it.
+    #[inline(always)]
+    fn bits_at(&self, line: &[u8], place: usize) -> u8
+        ensures { place + self.now.at < length line.now →
+            result ≡ bits_of self.now.nibbles (slice_index line.now (place + self.now.at)) }
+    {
+        match line.get(place.saturating_add(self.at)) {
+            Some(byte) => self.nibbles.bits(*byte),
+            None => 0,
         }
     }
 
@@ -139,6 +152,18 @@ impl Probes {
             marks = self.marks::<BITS, EACH>(line, at);
         }
         (at, marks)
+    }
+
+    /// Bits that the bytes after the place have in all three tests: of several runs those have one
+    /// that may be there.
+    #[inline(always)]
+    pub fn bits_at(&self, line: &[u8], place: usize) -> u8
+        ensures { (runs : Runs) (width : ℕ) → 2 ≤ length runs → IsNoWider width runs →
+            AreProbesOf self.now width runs → HaveBitsAt line.now place runs result }
+    {
+        self.first.bits_at(line, place)
+            & self.second.bits_at(line, place)
+            & self.third.bits_at(line, place)
     }
 
     /// A mark for each of 32 places where the first two tests are passed, by bits or by look-ups,

@@ -2,7 +2,7 @@
 ghost use Rattle.std.specs.Prelude.{◌≡◌, ◌↔◌, ◌⊎◌, ◌+◌, ◌<◌, ◌≤◌, Some, IfSome, IsTrue};
 ghost use Rattle.std.specs.Prelude.{MatchOption, length, map};
 ghost use Rattle.{re_trees.specs.Working.Trees.members, re_runs.specs.Working.Runs.IsLongestRun};
-ghost use Rattle.re_runs.specs.Working.Runs.{IsNoWider, RunIsAt, RunStandsAt, longest_of};
+ghost use Rattle.re_runs.specs.Working.Runs.{HaveBitsAt, IsNoWider, RunIsAt, RunStandsAt, longest_of};
 ghost use Rattle.re_runs.specs.Working.Runs.{sets_of_each, set_at};
 
 use re_trees::ByteSet;
@@ -32,13 +32,18 @@ pub fn longest(runs: &[Vec<ByteSet>]) -> usize
     longest
 }
 
-/// Whether the line has a byte of each set of some run, from the place on.
+/// Whether the line has a byte of each set of some run, from the place on. Each run has one of eight
+/// bits, and is only there if `bits` has it.
 #[inline(always)]
-pub fn take_some(runs: &[Vec<ByteSet>], line: &[u8], place: usize) -> bool
-    requires { place ≤ length line.now }
+pub fn take_some(runs: &[Vec<ByteSet>], bits: u8, line: &[u8], place: usize) -> bool
+    requires within { place ≤ length line.now }
+    requires bits { HaveBitsAt line.now place (sets_of_each runs.now) bits }
     ensures { IsTrue result ↔ RunStandsAt line.now (sets_of_each runs.now) place }
 {
     'runs: for number in 0..runs.len() {
+        if bits >> (number % 8) & 1 == 0 {
+            continue 'runs;
+        }
         if is_at(&runs[number], line, place) {
             return true;
         }

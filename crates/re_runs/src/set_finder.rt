@@ -3,8 +3,8 @@ ghost use Rattle.std.specs.Prelude.{◌≡◌, ℕ, ◌+◌, ◌<◌, ◌≤◌,
 ghost use Rattle.std.specs.{Prelude.{IfSome, MatchOption, length, map}, Int.bit_at};
 ghost use Rattle.memchr.specs.{Lanes.Marks, Find.IsFirst};
 ghost use Rattle.re_trees.specs.{declared.bytes.ByteSet.ByteSet, Working.Trees.members};
-ghost use Rattle.re_runs.specs.Working.Runs.{AllPass, AreProbesOf, FindsRun, HaveRoom};
-ghost use Rattle.re_runs.specs.Working.Runs.{IsLongestRun, IsNoWider, RunStandsAt, longest_of};
+ghost use Rattle.re_runs.specs.Working.Runs.{AllPass, AreProbesOf, FindsRun, HaveBitsAt};
+ghost use Rattle.re_runs.specs.Working.Runs.{HaveRoom, IsLongestRun, IsNoWider, RunStandsAt, longest_of};
 ghost use Rattle.re_runs.specs.Working.Runs.{look_cost, members_of, sets_of_each};
 ghost use Rattle.re_meter.specs.Meters.{many_passed};
 
@@ -170,7 +170,18 @@ impl SetFinder {
         requires { place ≤ length line.now }
         ensures { IsTrue result ↔ RunStandsAt line.now (members_of self.now) place }
     {
-        take_some(&self.runs, line, place)
+        take_some(&self.runs, self.bits_at(line, place), line, place)
+    }
+
+    // Bits of the runs that may be in the line at the place. One run alone is not tested once more.
+    #[inline(always)]
+    fn bits_at(&self, line: &[u8], place: usize) -> u8
+        ensures { HaveBitsAt line.now place (members_of self.now) result }
+    {
+        if self.runs.len() < 2 {
+            return u8::MAX;
+        }
+        self.probes.bits_at(line, place)
     }
 
     // The same by tests of bits or by look-ups, which one of several runs, `EACH`, has to pass: 32

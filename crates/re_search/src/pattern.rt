@@ -40,6 +40,12 @@ impl<'a> Pattern<'a> {
         }
     }
 
+    /// Whether it is a string whose first 32 bytes are looked for faster than all of it, and for which an
+    /// automaton is small.
+    pub fn is_long_string(&self) -> bool {
+        matches!(self, Pattern::String(text) if text.len() > 32 && text.len() <= 256)
+    }
+
     /// Adds the strings that it is, each followed by a newline: the one, or those that it is a
     /// choice of. `None`: it is something else, a string has a newline, or out of memory. What was
     /// added by then stays.

@@ -11,7 +11,7 @@ ghost use Rattle.re_strings.specs.Working.Reached.{IsSettled, Reaches, EndsFirst
 ghost use Rattle.re_meter.specs.Meters.{many_passed};
 
 use crate::keys::key_of;
-use crate::leaps::Leaps;
+use crate::leaps::{Leaps, Payoff};
 use crate::trie::Trie;
 use re_meter::Meter;
 use re_trees::Span;
@@ -38,37 +38,59 @@ pub struct AhoCorasick {
 }
 
 impl AhoCorasick {
+    /// Whether a search of the line leaps.
+    pub fn leaps_in(&self, line: &[u8], payoff: &Payoff) -> bool
+        requires { IsTable self.now }
+    {
+        payoff.of(&self.leaps, line, self.fold)
+    }
+
     /// The place at which a string, not the empty one, ends first in the line. The bytes up to there
-    /// are passed; all if no string occurs.
-    pub fn first_end(&self, line: &[u8], meter: &mut Meter) -> Option<usize>
+    /// are passed; all if no string occurs. `leaps` says whether to leap.
+    pub fn first_end(&self, line: &[u8], leaps: bool, meter: &mut Meter) -> Option<usize>
         requires { IsTable self.now }
         ensures ends { (all : Labels) → IsTableOf all self.now →
             EndsFirst all.strings (keys self.now.fold line.now) result }
         ensures within { IfSome result (λ end. (1 ≤ end) × (end ≤ length line.now)) }
         ensures counted { meter.new ≡ many_passed (end_cost line.now result) meter.old }
     {
-        let end = self.ended(line);
+        let end = self.ended(line, leaps);
         meter.add_passed(end.unwrap_or(line.len()));
         end
     }
 
     // The place at which a string ends first in the line.
     #[inline(always)]
-    fn ended(&self, line: &[u8]) -> Option<usize>
+    fn ended(&self, line: &[u8], leaps: bool) -> Option<usize>
+        requires { IsTable self.now }
+        ensures ends { (all : Labels) → IsTableOf all self.now →
+            EndsFirst all.strings (keys self.now.fold line.now) result }
+        ensures within { IfSome result (λ end. (1 ≤ end) × (end ≤ length line.now)) }
+    {
+        if leaps {
+            return self.ended_in::<true>(line);
+        }
+        self.ended_in::<false>(line)
+    }
+
+    // The same where the compiler knows whether to leap. The loops of one case take no registers of
+    // the other's.
+    #[inline(never)]
+    fn ended_in<const LEAPS: bool>(&self, line: &[u8]) -> Option<usize>
         requires { IsTable self.now }
         ensures ends { (all : Labels) → IsTableOf all self.now →
             EndsFirst all.strings (keys self.now.fold line.now) result }
         ensures within { IfSome result (λ end. (1 ≤ end) × (end ≤ length line.now)) }
     {
         if self.fold {
-            return self.ended_by(line, true);
+            return self.ended_by(line, true, LEAPS);
         }
-        self.ended_by(line, false)
+        self.ended_by(line, false, LEAPS)
     }
 
-    // The same with a `fold` that the compiler knows, so that there is a loop for each case.
+    // The same with a `fold` that the compiler knows too, so that there is a loop for each case.
     #[inline(always)]
-    fn ended_by(&self, line: &[u8], fold: bool) -> Option<usize>
+    fn ended_by(&self, line: &[u8], fold: bool, leaps: bool) -> Option<usize>
         requires table { IsTable self.now }
         requires alike { fold ≡ self.now.fold }
         ensures ends { (all : Labels) → IsTableOf all self.now →
@@ -78,7 +100,7 @@ impl AhoCorasick {
         let mut place = 0;
         let mut node = 0;
         'places: while place < line.len() {
-            let (beyond, into) = self.pass(line, place, node, fold);
+            let (beyond, into) = self.pass(line, place, node, fold, leaps);
             place = beyond;
             node = into;
             if self.outputs[node] > 0 {
@@ -89,8 +111,30 @@ impl AhoCorasick {
     }
 
     /// The leftmost-longest of the strings in the line that begin at `from` or later. Counts the
-    /// bytes up to where no other string can go on.
-    pub fn find(&self, line: &[u8], from: usize, meter: &mut Meter) -> Option<Span>
+    /// bytes up to where no other string can go on. `leaps` says whether to leap.
+    pub fn find(&self, line: &[u8], from: usize, leaps: bool, meter: &mut Meter) -> Option<Span>
+        requires table { IsTable self.now }
+        requires within { from ≤ length line.now }
+        ensures best { (all : Labels) → IsTableOf all self.now →
+            IsBestOccurrence all.strings from (keys self.now.fold line.now) (length line.now)
+            result }
+        ensures reached { Reaches (IsSettled self.now line.now from result)
+            (IsNear self.now result) line.now from meter.old meter.new }
+    {
+        if leaps {
+            return self.find_in::<true>(line, from, meter);
+        }
+        self.find_in::<false>(line, from, meter)
+    }
+
+    // The same where the compiler knows whether to leap.
+    #[inline(never)]
+    fn find_in<const LEAPS: bool>(
+        &self,
+        line: &[u8],
+        from: usize,
+        meter: &mut Meter,
+    ) -> Option<Span>
         requires table { IsTable self.now }
         requires within { from ≤ length line.now }
         ensures best { (all : Labels) → IsTableOf all self.now →
@@ -100,14 +144,21 @@ impl AhoCorasick {
             (IsNear self.now result) line.now from meter.old meter.new }
     {
         if self.fold {
-            return self.find_by(line, from, meter, true);
+            return self.find_by(line, from, meter, true, LEAPS);
         }
-        self.find_by(line, from, meter, false)
+        self.find_by(line, from, meter, false, LEAPS)
     }
 
-    // The same with a `fold` that the compiler knows.
+    // The same with a `fold` that the compiler knows too.
     #[inline(always)]
-    fn find_by(&self, line: &[u8], from: usize, meter: &mut Meter, fold: bool) -> Option<Span>
+    fn find_by(
+        &self,
+        line: &[u8],
+        from: usize,
+        meter: &mut Meter,
+        fold: bool,
+        leaps: bool,
+    ) -> Option<Span>
         requires table { IsTable self.now }
         requires within { from ≤ length line.now }
         requires alike { fold ≡ self.now.fold }
@@ -121,7 +172,7 @@ impl AhoCorasick {
         let mut node = 0;
         let mut best = None;
         'places: while place < line.len() {
-            let (beyond, into) = self.pass(line, place, node, fold);
+            let (beyond, into) = self.pass(line, place, node, fold, leaps);
             place = beyond;
             node = into;
             if begins_before(best, place.saturating_sub(self.depths[node] as usize)) {
@@ -165,7 +216,14 @@ impl AhoCorasick {
     // Goes over the byte at `place`. If no string has begun, it first passes the bytes where none
     // begins. Returns the place after the byte, and the node there.
     #[inline(always)]
-    fn pass(&self, line: &[u8], place: usize, node: usize, fold: bool) -> (usize, usize)
+    fn pass(
+        &self,
+        line: &[u8],
+        place: usize,
+        node: usize,
+        fold: bool,
+        leaps: bool,
+    ) -> (usize, usize)
         requires table { IsTable self.now }
         requires within { place < length line.now }
         requires in_trie { node < length self.now.trie.bytes.items }
@@ -183,7 +241,7 @@ impl AhoCorasick {
             StandsAtNode all from (keys self.now.fold line.now) place node
             → StandsAtNode all from (keys self.now.fold line.now) result.0 result.1 }
     {
-        let start = self.next_start(line, place, node, fold);
+        let start = self.next_start(line, place, node, fold, leaps);
         if start == line.len() {
             return (start, node);
         }
@@ -195,7 +253,7 @@ impl AhoCorasick {
     // The place itself if a string has begun, or if no leaps are made; else the first place from there on
     // where one may begin, or the line's end if there is none.
     #[inline(always)]
-    fn next_start(&self, line: &[u8], place: usize, node: usize, fold: bool) -> usize
+    fn next_start(&self, line: &[u8], place: usize, node: usize, fold: bool, leaps: bool) -> usize
         requires table { IsTable self.now }
         requires within { place < length line.now }
         requires alike { fold ≡ self.now.fold }
@@ -208,6 +266,9 @@ impl AhoCorasick {
             StandsSince all from (keys self.now.fold line.now) place node
             → NoneBetween all.strings from (keys self.now.fold line.now) place (result + 1) }
     {
+        if !leaps {
+            return place;
+        }
         if node > 0 {
             return place;
         }

@@ -7,9 +7,19 @@ ghost use Rattle.re_strings.specs.Working.Keys.{keys};
 
 use crate::keys::key_of;
 use std::alloc::{AllocError, Global};
+use std::cell::Cell;
 
 // The longest window, even if all strings are longer.
 const MOST_WINDOW: usize = 16;
+
+// At how many places a text is looked at to see whether leaps pay.
+const PLACES: usize = 64;
+
+// How long a text is at least that is looked at.
+const ENOUGH: usize = 8_192;
+
+// After how many searches another is.
+const SEARCHES: usize = 64;
 
 /// What is known of pairs of bytes. The window at a place of a line is no longer than any string. If
 /// the strings have its last two bytes only near their beginning, or not at all, then no string
@@ -91,6 +101,28 @@ impl Leaps {
         at
     }
 
+    /// Whether longest leaps can be made at many places of the text: then it is faster to leap than to
+    /// step over each byte. A text that is too short to tell has them.
+    #[inline(never)]
+    pub fn are_long(&self, line: &[u8], fold: bool) -> bool
+        requires leaps { IsLeaps self.now }
+        requires pair { 2 ≤ self.now.window }
+    {
+        let stride = line.len() / PLACES;
+        if stride < self.window.saturating_add(PLACES) {
+            return true;
+        }
+        let mut long: usize = 0;
+        'places: for number in 0..PLACES {
+            // Lines may be as long as each other, so that the distance changes.
+            let at = number * stride + number * number % PLACES;
+            if self.shift(line, at, fold) + 1 == self.window {
+                long = long.saturating_add(1);
+            }
+        }
+        long.saturating_mul(self.window.saturating_add(1)) > 3 * PLACES
+    }
+
     // At how many places from this one on no string begins, by the window there.
     #[inline(always)]
     fn shift(&self, line: &[u8], at: usize, fold: bool) -> usize
@@ -105,6 +137,43 @@ impl Leaps {
         let before = key_of(fold, line[last - 1]);
         let byte = key_of(fold, line[last]);
         self.shifts[row_of(before, byte)] as usize
+    }
+}
+
+/// Whether leaps pay in the texts that are searched. No contract depends on it.
+#[derive(Drop)]
+pub struct Payoff {
+    pays: Cell<bool>,
+    // After how many searches a text is looked at.
+    wait: Cell<usize>,
+}
+
+impl Payoff {
+    /// No text was looked at yet.
+    pub fn new() -> Payoff {
+        Payoff {
+            pays: Cell::new(true),
+            wait: Cell::new(0),
+        }
+    }
+
+    /// Whether these leaps pay in a text, or did in the last that was looked at.
+    #[inline(never)]
+    pub fn of(&self, leaps: &Leaps, line: &[u8], fold: bool) -> bool
+        requires { IsLeaps leaps.now }
+    {
+        if leaps.window < 2 {
+            return false;
+        }
+        let wait = self.wait.get();
+        if wait > 0 || line.len() < ENOUGH {
+            self.wait.set(wait.saturating_sub(1));
+            return self.pays.get();
+        }
+        let pays = leaps.are_long(line, fold);
+        self.wait.set(SEARCHES);
+        self.pays.set(pays);
+        pays
     }
 }
 

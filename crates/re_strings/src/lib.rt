@@ -13,4 +13,5 @@ mod trie;
 
 pub use aho_corasick::AhoCorasick;
 pub use build::table_of;
+pub use leaps::Payoff;
 pub use occurrences::add_occurrences;

@@ -10,7 +10,7 @@ use crate::trie::Trie;
 use std::alloc::{AllocError, Global};
 
 // How many nodes have a step for each byte.
-const FIRST: usize = 256;
+const FIRST: usize = 512;
 
 /// For each node its fallback, and the longest string that it ends with.
 #[derive(Drop)]

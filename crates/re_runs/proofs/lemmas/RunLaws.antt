@@ -1,5 +1,5 @@
 -- Where a run of sets is in a line, and what the tests of its probes say.
-use Rattle.{re_runs.proofs.{Prelude.{◌%◌, HasBitAt, ◌≡◌, ℕ, ◌+◌, ◌-◌, ◌<◌, ◌≤◌, ◌⊎◌, inl, inr, Bool, IsTrue, List, Vec, [], ◌∷◌, ◌++◌, length, map, drop, get_or, slice_index, Option, None, Some, refl, sym, ap, ◌∙◌, subst, arith, eq-eqb, length-append, length-drop, bit_at, Bytes, Text, nothing, only, members, ByteSet, OccursAt, FindsNeedle, Nowhere, NoneBefore, Marks, Probe, Probes, Runs, members_of, one_run, RunIsAt, IsNoWider, RunStandsAt, Any, longest_of, IsLongestRun, take, All-cons, FindsRun, set_at, sets_of_each, PassesAt, AllPass, IsProbeOf, AreProbesOf, bit_at-zero, cases_lt, eqb-true, get_or-drop, get_or_append_left, get_or-append-add, length-map}}, std.{specs.Prelude.{IfSome, MatchOption, max}, proofs.lemmas.List.{get_or-map, map-append, take_more}}, re_trees.proofs.lemmas.{Decisions.Any-first, SomeOfJoined.Any-single}}
+use Rattle.{re_runs.proofs.{Prelude.{◌%◌, HasBitAt, bits_of, ◌≡◌, ℕ, ◌+◌, ◌-◌, ◌<◌, ◌≤◌, ◌⊎◌, inl, inr, Bool, IsTrue, List, Vec, [], ◌∷◌, ◌++◌, length, map, drop, get_or, slice_index, Option, None, Some, refl, sym, ap, ◌∙◌, subst, arith, eq-eqb, length-append, length-drop, bit_at, Bytes, Text, nothing, only, members, ByteSet, OccursAt, FindsNeedle, Nowhere, NoneBefore, Marks, Probe, Probes, Runs, members_of, one_run, RunIsAt, IsNoWider, RunStandsAt, Any, longest_of, IsLongestRun, take, All-cons, FindsRun, set_at, sets_of_each, PassesAt, AllPass, IsProbeOf, AreProbesOf, bit_at-zero, cases_lt, eqb-true, get_or-drop, get_or_append_left, get_or-append-add, length-map}}, std.{specs.Prelude.{IfSome, MatchOption, max}, proofs.lemmas.List.{get_or-map, map-append, take_more}}, re_trees.proofs.lemmas.{Decisions.Any-first, SomeOfJoined.Any-single}}
 
 -- ---- in a longer line, and in the rest of one
 
@@ -185,6 +185,13 @@ module _ (runs : Runs) (width : ℕ) (wide : IsNoWider width runs) (line : Text)
 
     has_bit : 2 ≤ length runs → HasBitAt probe line k (n % 8)
     has_bit several = is.each several n run lt (slice_index line (k + probe.at)) (small (k + probe.at)) has
+
+  -- a byte's bits, where there is one, have that of a run there
+  pub bit_there : (probe : Probe) → IsProbeOf probe width runs → 2 ≤ length runs → (n : ℕ) (d : List Bytes) → n < length runs → RunIsAt line k (get_or runs n d) → (bits : ℕ)
+      → (k + probe.at < length line → bits ≡ bits_of probe.nibbles (slice_index line (k + probe.at))) → bit_at bits (n % 8) ≡ 1
+  bit_there probe is several n d lt there bits same =
+      let long : width ≤ length (get_or runs n d) = wide n d lt in let fits : k + length (get_or runs n d) ≤ length line = there.fits in let within : probe.at < width = is.within in
+      rw (same (omega arith)) (is.each several n d lt (slice_index line (k + probe.at)) (small (k + probe.at)) (there.takes probe.at (omega arith)))
 
   -- so it is for all three
   pub all_pass : (each : Bool) (probes : Probes) → (IsTrue each → 2 ≤ length runs) → AreProbesOf probes width runs → RunStandsAt line runs k → AllPass each probes line k

@@ -44,6 +44,10 @@ pub record RunIsAt (line : Text) (k : ℕ) (run : List Bytes) : Type 0 where
 abbrev pub RunStandsAt : Text → Runs → ℕ → Type 0
 RunStandsAt line runs k = Any (RunIsAt line k) runs
 
+-- each run that is there has its bit, one of eight
+abbrev pub HaveBitsAt : Text → ℕ → Runs → ℕ → Type 0
+HaveBitsAt line k runs bits = (n : ℕ) (d : List Bytes) → n < length runs → RunIsAt line k (get_or runs n d) → bit_at bits (n % 8) ≡ 1
+
 -- the longest of the runs there ends at this place
 pub record IsLongestRun (line : Text) (runs : Runs) (k end : ℕ) : Type 0 where
   pub ends : Any (λ run. RunIsAt line k run × (end ≡ k + length run)) runs
