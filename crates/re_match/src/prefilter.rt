@@ -27,6 +27,9 @@ use std::alloc::{AllocError, Global};
 // From how many branches on a choice has strings in place of a common needle.
 const MANY: usize = 9;
 
+// From how many on in place of any, since no needle has a run of each.
+const MOST: usize = 17;
+
 /// What each match of an expression contains, if that is known. It is looked for in lines, and in
 /// blocks where such looks pay.
 #[derive(Drop)]
@@ -267,7 +270,7 @@ fn needed_strings(
     let Tree::Alt(branches) = tree else {
         return Ok(None);
     };
-    if branches.len() < MANY || is_good(needle) {
+    if branches.len() < MANY || branches.len() < MOST && is_good(needle) {
         return Ok(None);
     }
     let Some(texts) = needed_texts(alloc, branches)? else {

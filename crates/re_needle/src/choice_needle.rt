@@ -23,8 +23,7 @@ const FEW_STOPS: u64 = 32;
 
 /// The runs to look for of a choice: one of each branch, if there are from two to sixteen branches.
 /// `None` if it is no choice of so many, if a branch isn't known to need a run, or if the runs are
-/// common and
-/// not all there is. The only error is that an allocation failed.
+/// common and not all there is. The only error is that an allocation failed.
 pub fn choice_needle(alloc: Global, tree: &Tree) -> Result<Option<Needle>, AllocError>
     ensures { IfOk result (IsNeedleFor (expression_of tree.now)) }
 {

@@ -12,12 +12,19 @@ ghost use Rattle.re_search.specs.Working.Patterns.{is_string, meaning, meant_by}
 use crate::matcher::{Matcher, fault_at_first, tree_matcher};
 use crate::strings::{add_each, add_string, add_tree};
 use re_match::Strings;
+use re_needle::one_byte;
 use re_syntax::{FaultKind, MOST_POSITIONS, PatternFault, Syntax, Tree, count_positions, read};
 use std::alloc::{AllocError, Global};
 
 /// Up to how many bytes a text is read into a tree at once. The positions of a longer one are
 /// counted first, since its tree may take some 80 times its memory.
 const MOST_BYTES: usize = 65_536;
+
+// Up to this number of bytes `memmem` compares a string whole.
+const WHOLE: usize = 32;
+
+// Up to this number an automaton for a string is small.
+const SMALL: usize = 256;
 
 /// What the text of a pattern is read as.
 #[derive(Drop)]
@@ -40,10 +47,15 @@ impl<'a> Pattern<'a> {
         }
     }
 
-    /// Whether it is a string whose first 32 bytes are looked for faster than all of it, and for which an
+    /// Whether it is a string whose first bytes are looked for faster than all of it, and for which an
     /// automaton is small.
     pub fn is_long_string(&self) -> bool {
-        matches!(self, Pattern::String(text) if text.len() > 32 && text.len() <= 256)
+        let bytes = match self {
+            Pattern::String(text) => text.len(),
+            Pattern::Tree(Tree::Cat(parts), _) if are_bytes(parts) => parts.len(),
+            Pattern::Tree(_, _) => 0,
+        };
+        bytes > WHOLE && bytes <= SMALL
     }
 
     /// Adds the strings that it is, each followed by a newline: the one, or those that it is a
@@ -104,6 +116,11 @@ impl<'a> Pattern<'a> {
             _ => tree_matcher(alloc, self.into_tree(alloc, fold)?, whole, states),
         }
     }
+}
+
+// Whether each of the trees is one byte.
+fn are_bytes(parts: &[Tree]) -> bool {
+    parts.iter().all(|part| one_byte(part).is_some())
 }
 
 // The tree of a meaning.
