@@ -22,7 +22,7 @@ pub use Rattle.{
   grep_core.specs.Working.Requests.{name_shown, selects},
   grep_core.specs.Working.SameChoice.{IsSameChoice, ServesForOthers},
   grep_core.specs.Working.Searched.{BreaksMessage, BreaksSource, CountsSource, EndsSource, FinishesSource, SearchesSource, SourceGives, StopsSource, count_line, ending_of, is_fault, leaves_early, reported_of, status_by, summary_as},
-  grep_core.specs.Working.SearchedBlocks.{IsDivided, IsNextOf},
+  grep_core.specs.Working.SearchedBlocks.{IsChosen, IsDivided, IsNextOf},
   grep_core.specs.Working.ShownLines.{BreaksShown, ShowGives, ShowStops},
   grep_core.specs.Working.Taken.{NextTaken},
   grep_core.specs.declared.options.Context.{Context},

@@ -1,23 +1,22 @@
 //! The matchers of a search, for all patterns together.
 ghost use Rattle.std.specs.Prelude.{◌≡◌, ◌+◌, ◌^◌, ◌<◌, ◌≤◌, ◌⊎◌, [], ◌∷◌, nat_lt, Bool, IfOk};
-ghost use Rattle.std.specs.Prelude.{IfErr, IfSome, length, map};
+ghost use Rattle.std.specs.Prelude.{IfErr, IfSome, IsTrue, length, map};
 ghost use Rattle.{re_syntax.specs.Lines.lines_of, re_search.specs.Reading.IsOutOfMemory};
 ghost use Rattle.grep_core.specs.Matchers.{IsFirstRefused};
-ghost use Rattle.grep_utility.specs.Working.ServingMatchers.{ServeFor, IsJoined, AreReadAs};
-ghost use Rattle.grep_utility.specs.Working.ServingMatchers.{AreStrings};
+ghost use Rattle.grep_utility.specs.Working.ServingMatchers.{ServeFor, IsJoined, AreStrings};
 
 use crate::joined::joined_matchers;
 use crate::pattern_list::{out_of_memory, patterns_of};
 use grep_core::Options;
-use re_search::{Matcher, Pattern, Strings, read_pattern};
+use re_search::{Matcher, Strings, read_pattern};
 use re_syntax::{MOST_POSITIONS, PatternFault, Syntax, split_file};
 use std::alloc::{AllocError, Global};
 
 /// How many strings one automaton is quick for, whose needle is a choice of as many runs.
 const FEW: usize = 16;
 
-/// From how many bytes on each string is one pass for the parts of several quicker than an automaton.
-const LONG: usize = 5;
+/// Above how many strings an automaton that has all of them is quicker than a pass that leaps.
+const MANY: usize = 48;
 
 /// How many bytes the patterns may have that one pass looks for. They have at most one beginning
 /// more than bytes, and the pass numbers its beginnings in 32 bits.
@@ -40,19 +39,13 @@ pub fn searchers_of(
     ensures err { IfErr result (λ refused. IsOutOfMemory refused.1
         ⊎ IsFirstRefused syntax options.now.ignore_case (lines_of texts.now) refused.0 refused.1) }
 {
-    if let Some(strings) = many_strings(alloc, texts, syntax, options.ignore_case) {
+    if let Some(strings) = many_strings(alloc, texts, syntax, options) {
         let Ok(matchers) = joined(alloc, &strings, options) else {
             return Err(out_of_memory());
         };
         return Ok(matchers);
     }
     let patterns = patterns_of(alloc, texts, syntax, options.ignore_case)?;
-    if let Some(strings) = strings_of(alloc, texts, &patterns, options) {
-        let Ok(matchers) = joined(alloc, &strings, options) else {
-            return Err(out_of_memory());
-        };
-        return Ok(matchers);
-    }
     let Ok(matchers) = joined_matchers(alloc, patterns, options) else {
         return Err(out_of_memory());
     };
@@ -66,73 +59,39 @@ pub fn has_more_than(most: usize, texts: &[u8]) -> bool
     split_file(texts).nth(most).is_some()
 }
 
-/// The strings that the patterns are, each followed by a newline, where they are more than sixteen.
+/// Whether one pass is quicker for the lines of `texts`, if they are strings: they are more than sixteen,
+/// and have too many positions for one automaton, or parts are asked for, or the pass leaps.
+fn are_for_one_pass(texts: &[u8], options: &Options) -> bool
+    ensures { IsTrue result → 1 ≤ length (lines_of texts.now) }
+{
+    if !has_more_than(FEW, texts) {
+        return false;
+    }
+    let leaps = !options.ignore_case && !options.line_regexp && !has_more_than(MANY, texts);
+    leaps || options.only_matching || texts.len() > MOST_POSITIONS
+}
+
+/// The strings that the patterns are, each followed by a newline, where one pass for them is quicker.
 /// No list of the patterns is made. `None`: a pattern is something else or refused, or out of
 /// memory.
-fn many_strings(alloc: Global, texts: &[u8], syntax: Syntax, fold: bool) -> Option<Vec<u8>>
+fn many_strings(alloc: Global, texts: &[u8], syntax: Syntax, options: &Options) -> Option<Vec<u8>>
     ensures few { IfSome result (λ _. length texts.now + 1 < 2 ^ 32) }
     ensures some { IfSome result (λ _. 1 ≤ length (lines_of texts.now)) }
     ensures read { IfSome result
-        (λ strings. AreStrings syntax fold (lines_of texts.now) (lines_of strings.items)) }
+        (λ strings. AreStrings syntax options.now.ignore_case (lines_of texts.now)
+        (lines_of strings.items)) }
 {
-    if texts.len() > MOST_BYTES || !has_more_than(FEW, texts) {
+    if texts.len() > MOST_BYTES || !are_for_one_pass(texts, options) {
         return None;
     }
     let mut strings = Vec::new(alloc);
     for text in split_file(texts) {
-        let Ok(pattern) = read_pattern(alloc, text, syntax, fold) else {
+        let Ok(pattern) = read_pattern(alloc, text, syntax, options.ignore_case) else {
             return None;
         };
         pattern.add_strings(alloc, &mut strings)?;
     }
     Some(strings)
-}
-
-/// The strings that the patterns are, each followed by a newline, where one pass for all of them is
-/// quicker than an automaton. `None`: unknown, or out of memory.
-fn strings_of(
-    alloc: Global,
-    texts: &[u8],
-    patterns: &[Pattern<'_>],
-    options: &Options,
-) -> Option<Vec<u8>>
-    ensures some { IfSome result (λ _. 1 ≤ length patterns.now) }
-    ensures read { IfSome result
-        (λ strings. (fold : Bool) → AreReadAs fold patterns.now (lines_of strings.items)) }
-{
-    if texts.len() > MOST_POSITIONS || patterns.is_empty() {
-        return None;
-    }
-    let strings = read_strings(alloc, patterns)?;
-    if !are_quicker(&strings, options) {
-        return None;
-    }
-    Some(strings)
-}
-
-/// The strings that the patterns are, each followed by a newline. `None` if a pattern is something
-/// else, or if an allocation fails.
-fn read_strings(alloc: Global, patterns: &[Pattern<'_>]) -> Option<Vec<u8>>
-    ensures { IfSome result
-        (λ strings. (fold : Bool) → AreReadAs fold patterns.now (lines_of strings.items)) }
-{
-    let mut strings = Vec::new(alloc);
-    'patterns: for place in 0..patterns.len() {
-        patterns[place].add_strings(alloc, &mut strings)?;
-    }
-    Some(strings)
-}
-
-/// Whether one pass for the strings is quicker than an automaton: they are many, or parts are asked for
-/// and they are several that are long and in one case.
-fn are_quicker(strings: &[u8], options: &Options) -> bool {
-    if has_more_than(FEW, strings) {
-        return true;
-    }
-    options.only_matching
-        && !options.ignore_case
-        && has_more_than(1, strings)
-        && !split_file(strings).any(|string| string.len() < LONG)
 }
 
 /// The one matcher for all strings.

@@ -30,6 +30,9 @@ const MANY: usize = 9;
 // From how many on in place of any, since no needle has a run of each.
 const MOST: usize = 17;
 
+// Above how many steps alone are quicker.
+const TOO_MANY: usize = 48;
+
 /// What each match of an expression contains, if that is known. It is looked for in lines, and in
 /// blocks where such looks pay.
 #[derive(Drop)]
@@ -270,7 +273,8 @@ fn needed_strings(
     let Tree::Alt(branches) = tree else {
         return Ok(None);
     };
-    if branches.len() < MANY || branches.len() < MOST && is_good(needle) {
+    let count = branches.len();
+    if count < MANY || count > TOO_MANY || count < MOST && is_good(needle) {
         return Ok(None);
     }
     let Some(texts) = needed_texts(alloc, branches)? else {

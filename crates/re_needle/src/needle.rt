@@ -23,6 +23,12 @@ const MANY_SETS: usize = 8;
 // table of ranks counts all bytes from 0xC0 on as common, too.
 const COMMON: u8 = 250;
 
+// A string of at most so many bytes may be a word that is on most lines of a text.
+const WORD: usize = 5;
+
+// About how many of 65,536 places of such a text have it.
+const OF_WORDS: u64 = 64;
+
 // Sets that are at no more than this number of 65,536 places of most texts are at few.
 const FEW: u64 = 4_096;
 
@@ -70,9 +76,10 @@ impl Needle {
     }
 
     /// About how many of 65,536 places of most texts a look for it stops at: none if it is a string, which
-    /// is looked for fast.
+    /// is looked for fast, unless it may be a common word.
     pub fn stops(&self) -> u64 {
         match &self.finder {
+            RunFinder::Text(finder) if finder.needle().len() <= WORD => OF_WORDS,
             RunFinder::Text(_) => 0,
             RunFinder::Sets(finder) => finder.stops(),
         }

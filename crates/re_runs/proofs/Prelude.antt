@@ -4,7 +4,7 @@ pub use Rattle.{
   memchr.specs.Lanes.{HasLanes, Marks},
   re_runs.specs.Working.Blocks.{FindsNext, HoldsOfMany, IsBlock, IsLineFrom, IsNext, Lacks, PassesAll, StandsIn},
   re_runs.specs.Working.Finders.{runs_of},
-  re_runs.specs.Working.Runs.{AllPass, AreProbesOf, FindsRun, HasBitAt, HasBitFor, HasBits, IsLongestRun, IsNoWider, IsProbeOf, LacksRun, PassesAt, RunIsAt, RunStandsAt, Runs, bits_of, front_of, longest_of, look_cost, mark_of, members_of, most_sets, one_run, set_at, sets_of_each},
+  re_runs.specs.Working.Runs.{AllPass, AreProbesOf, FindsRun, HasBitAt, HasBitFor, HasBits, IsLongestRun, IsNoWider, IsProbeOf, LacksRun, PassesAt, RunIsAt, RunStandsAt, Runs, bits_of, front_of, half_of, longest_of, look_cost, mark_of, members_of, most_sets, one_run, set_at, sets_of_each},
   re_runs.specs.declared.alike.Alike.{Alike},
   re_runs.specs.declared.probes.Probe.{Probe},
   re_runs.specs.declared.probes.Probes.{Probes},

@@ -1,22 +1,18 @@
 //! Tests of the bytes after a place, for 32 places at once.
-ghost use Rattle.std.specs.Prelude.{IfSome, slice_index, ◌≤◌, ◌≡◌, length, ℕ, ◌+◌, ◌<◌};
+ghost use Rattle.std.specs.Prelude.{IfSome, slice_index, ◌≤◌, ◌≡◌, ◌≢◌, length, ℕ, ◌+◌, ◌<◌, true};
 ghost use Rattle.std.specs.Int.{bit_at};
 ghost use Rattle.memchr.specs.{Find.Nowhere, Lanes.HasLanes};
 ghost use Rattle.re_runs.specs.Working.Runs.{IsProbeOf, AreProbesOf, AllPass, PassesAt, mark_of};
 ghost use Rattle.re_runs.specs.Working.Runs.{HaveBitsAt, HaveRoom, IsNoWider, Runs, bits_of};
-ghost use Rattle.re_runs.specs.Working.Runs.{sets_of_each};
+ghost use Rattle.re_runs.specs.Working.Runs.{half_of, sets_of_each};
 
 use crate::alike::Alike;
-use crate::lanes::{both, lesser, nonzero};
+use crate::lanes::{both, by_low, lesser, load, nonzero};
 use crate::nibbles::Nibbles;
-use crate::rare_places::stops_at;
 use re_trees::ByteSet;
 use std::simd::prelude::*;
 
-// From this number of places in 65,536 on that pass two tests a third is made.
-const MANY: u64 = 512;
-
-/// Two tests for the byte at this distance after a place.
+/// Tests for the byte at this distance after a place.
 #[derive(Clone, Copy, Drop)]
 pub struct Probe {
     /// The distance.
@@ -84,6 +80,16 @@ impl Probe {
         self.nibbles.lanes(line, place + self.at)
     }
 
+    // What the table has for the low half of each byte alone, which says less and costs half.
+    #[inline(always)]
+    fn half_looked_up(&self, line: &[u8], place: usize) -> u8x32
+        requires { place + 32 + self.now.at ≤ length line.now }
+        ensures { HasLanes result
+            (λ k. half_of self.now.nibbles (slice_index line.now (place + k + self.now.at))) }
+    {
+        by_low(&self.nibbles.low, load(line, place + self.at))
+    }
+
     // The same by bits.
     #[inline(always)]
     fn bit_tested(&self, line: &[u8], place: usize) -> u8x32
@@ -95,7 +101,7 @@ impl Probe {
     }
 }
 
-/// Three probes; some may be the same.
+/// Four probes; some may be the same.
 #[derive(Clone, Copy, Drop)]
 pub struct Probes {
     /// The first, which the fewest bytes pass.
@@ -104,26 +110,25 @@ pub struct Probes {
     pub second: Probe,
     /// The third.
     pub third: Probe,
+    /// The fourth.
+    pub fourth: Probe,
 }
 
 impl Probes {
-    /// The tests at the first three of these distances; `None` if there is none.
+    /// The tests at the first four of these distances; `None` if there is none.
     pub fn of(runs: &[Vec<ByteSet>], width: usize, places: &[usize]) -> Option<Probes>
         requires { IsNoWider width (sets_of_each runs.now) }
         ensures { IfSome result (λ probes. AreProbesOf probes width (sets_of_each runs.now)) }
     {
         let first = Probe::of(runs, width, *places.first()?)?;
         let second = first.or_at(runs, width, places.get(1));
-        let more = if runs.len() > 1 && are_common(runs, places) {
-            places.get(2)
-        } else {
-            None
-        };
-        let third = second.or_at(runs, width, more);
+        let third = second.or_at(runs, width, places.get(2));
+        let fourth = third.or_at(runs, width, places.get(3));
         Some(Probes {
             first,
             second,
             third,
+            fourth,
         })
     }
 
@@ -131,7 +136,7 @@ impl Probes {
     /// before `past`. Returns where these 32 begin, and their marks.
     // The loop calls nothing, so the tables stay in registers.
     #[inline(never)]
-    pub fn next_marks<const BITS: bool, const EACH: bool>(
+    pub fn next_marks<const CHEAP: bool, const EACH: bool>(
         &self,
         line: &[u8],
         from: usize,
@@ -146,15 +151,15 @@ impl Probes {
         ensures within { (k : ℕ) → bit_at result.1 k ≡ 1 → k < 32 }
     {
         let mut at = from;
-        let mut marks = self.marks::<BITS, EACH>(line, at);
+        let mut marks = self.marks::<CHEAP, EACH>(line, at);
         'quiet: while marks == 0 && 64 <= past - at {
             at += 32;
-            marks = self.marks::<BITS, EACH>(line, at);
+            marks = self.marks::<CHEAP, EACH>(line, at);
         }
         (at, marks)
     }
 
-    /// Bits that the bytes after the place have in all three tests: of several runs those have one
+    /// Bits that the bytes after the place have in all four tests: of several runs those have one
     /// that may be there.
     #[inline(always)]
     pub fn bits_at(&self, line: &[u8], place: usize) -> u8
@@ -164,35 +169,66 @@ impl Probes {
         self.first.bits_at(line, place)
             & self.second.bits_at(line, place)
             & self.third.bits_at(line, place)
+            & self.fourth.bits_at(line, place)
     }
 
-    /// A mark for each of 32 places where the first two tests are passed, by bits or by look-ups,
-    /// or where one of several runs, `EACH`, passes all three look-ups.
+    // A mark for each of 32 places where the first two look-ups are passed, by one of several runs if
+    // there are, `EACH`. Cheap tests are the first two of bits or, of several runs, all four of halves.
     #[inline(always)]
-    pub fn marks<const BITS: bool, const EACH: bool>(&self, line: &[u8], place: usize) -> u64
+    fn marks<const CHEAP: bool, const EACH: bool>(&self, line: &[u8], place: usize) -> u64
         requires { HaveRoom self.now line.now (place + 32) }
         ensures each { (k : ℕ) → k < 32 → AllPass EACH self.now line.now (place + k)
             → bit_at result k ≡ 1 }
         ensures within { (k : ℕ) → bit_at result k ≡ 1 → k < 32 }
     {
-        if BITS {
-            let first = self.first.bit_tested(line, place);
-            return nonzero(both(first, self.second.bit_tested(line, place)));
-        }
-        let first = self.first.looked_up(line, place);
-        let second = self.second.looked_up(line, place);
         if EACH {
-            let two = both(first, second);
-            if self.third.at == self.second.at {
-                return nonzero(two);
-            }
-            return nonzero(both(two, self.third.looked_up(line, place)));
+            return nonzero(self.common::<CHEAP>(line, place));
         }
-        nonzero(lesser(first, second))
+        let first = &self.first;
+        let second = &self.second;
+        if CHEAP {
+            let marks = both(
+                first.bit_tested(line, place),
+                second.bit_tested(line, place),
+            );
+            return nonzero(marks);
+        }
+        nonzero(lesser(first.looked_up(line, place), second.looked_up(line, place)))
     }
-}
 
-// Whether two tests are passed at many places.
-fn are_common(runs: &[Vec<ByteSet>], places: &[usize]) -> bool {
-    stops_at(runs, &places[..places.len().min(2)]) > MANY
+    // The bits that the first two look-ups have in common, or all four of halves.
+    #[inline(always)]
+    fn common<const HALVES: bool>(&self, line: &[u8], place: usize) -> u8x32
+        requires { HaveRoom self.now line.now (place + 32) }
+        ensures { (k : ℕ) → k < 32 → AllPass true self.now line.now (place + k) →
+            slice_index result k ≢ 0 }
+    {
+        if !HALVES {
+            let first = self.first.looked_up(line, place);
+            return both(first, self.second.looked_up(line, place));
+        }
+        let first = self.first.half_looked_up(line, place);
+        let second = self.second.half_looked_up(line, place);
+        let third = self.third.half_looked_up(line, place);
+        both(
+            both(both(first, second), third),
+            self.fourth.half_looked_up(line, place),
+        )
+    }
+
+    /// The marks of those of 32 places where the third and the fourth look-up are passed, too. Of several
+    /// runs, `EACH`, all are left.
+    #[inline(always)]
+    pub fn narrowed<const EACH: bool>(&self, line: &[u8], place: usize, marks: u64) -> u64
+        requires { HaveRoom self.now line.now (place + 32) }
+        ensures each { (k : ℕ) → k < 32 → bit_at marks k ≡ 1 →
+            AllPass EACH self.now line.now (place + k) → bit_at result k ≡ 1 }
+        ensures within { (k : ℕ) → bit_at result k ≡ 1 → bit_at marks k ≡ 1 }
+    {
+        if EACH {
+            return marks;
+        }
+        let third = self.third.looked_up(line, place);
+        marks & nonzero(lesser(third, self.fourth.looked_up(line, place)))
+    }
 }

@@ -37,11 +37,9 @@ pub struct SetFinder {
     // How many sets the shortest run has.
     width: usize,
     longest: usize,
-    // Whether one run is looked for by bits, which is cheaper than by look-ups.
-    by_bits: bool,
+    // Whether the cheap tests do: for one run those of bits, for several those of halves.
+    cheaply: bool,
     probes: Probes,
-    // Tests after the first two; `None` if there are none.
-    others: Option<Probes>,
     // About how many of 65,536 places of most texts have a run.
     stops: u64,
 }
@@ -59,7 +57,6 @@ impl Model for SetFinder {
       wide : IsNoWider f.width (sets_of_each f.runs.items);
       longest : f.longest ≡ longest_of (sets_of_each f.runs.items);
       first : AreProbesOf f.probes f.width (sets_of_each f.runs.items);
-      others : IfSome f.others (λ others. AreProbesOf others f.width (sets_of_each f.runs.items));
     } };
 }
 
@@ -77,20 +74,18 @@ impl SetFinder {
         let Some(probes) = Probes::of(&runs, width, &places) else {
             return Ok(None);
         };
-        let by_bits = runs.len() == 1 && are_bits_enough(&probes, longest);
-        let others = if longest > FEW_SETS {
-            Probes::of(&runs, width, &places[places.len().min(2)..])
+        let cheaply = if runs.len() > 1 {
+            are_halves_enough(&runs, &places)
         } else {
-            None
+            are_bits_enough(&probes, longest)
         };
         let stops = stops_at(&runs, &places);
         Ok(Some(SetFinder {
             runs,
             width,
             longest,
-            by_bits,
+            cheaply,
             probes,
-            others,
             stops,
         }))
     }
@@ -139,13 +134,12 @@ impl SetFinder {
         ensures found { FindsRun line.now (members_of self.now) result }
         ensures within { IfSome result (λ place. place ≤ length line.now) }
     {
-        if self.runs.len() > 1 {
-            return self.find_by::<false, true>(line);
+        match (self.cheaply, self.runs.len() > 1) {
+            (true, true) => self.find_by::<true, true>(line),
+            (true, false) => self.find_by::<true, false>(line),
+            (false, true) => self.find_by::<false, true>(line),
+            (false, false) => self.find_by::<false, false>(line),
         }
-        if self.by_bits {
-            return self.find_by::<true, false>(line);
-        }
-        self.find_by::<false, false>(line)
     }
 
     /// Whether the line begins with a run.
@@ -184,10 +178,10 @@ impl SetFinder {
         self.probes.bits_at(line, place)
     }
 
-    // The same by tests of bits or by look-ups, which one of several runs, `EACH`, has to pass: 32
+    // The same by the cheap tests or by look-ups, which one of several runs, `EACH`, has to pass: 32
     // places at once, or one by one where there are fewer.
     #[inline(always)]
-    fn find_by<const BITS: bool, const EACH: bool>(&self, line: &[u8]) -> Option<usize>
+    fn find_by<const CHEAP: bool, const EACH: bool>(&self, line: &[u8]) -> Option<usize>
         requires { IsTrue EACH → 2 ≤ length self.now }
         ensures { FindsRun line.now (members_of self.now) result }
     {
@@ -202,8 +196,8 @@ impl SetFinder {
         'runs: while start < end {
             // The last places are tried with some before them once more.
             let from = start.min(end - 32);
-            let (at, marks) = self.probes.next_marks::<BITS, EACH>(line, from, end);
-            let left = narrowed::<EACH>(&self.others, line, at, marks);
+            let (at, marks) = self.probes.next_marks::<CHEAP, EACH>(line, from, end);
+            let left = self.probes.narrowed::<EACH>(line, at, marks);
             if let Some(place) = self.first_marked(line, at, left) {
                 return Some(place);
             }
@@ -248,18 +242,11 @@ impl SetFinder {
     }
 }
 
-// The marks of those of 32 places where the other tests are passed too, if there are others.
-#[inline(always)]
-fn narrowed<const EACH: bool>(others: &Option<Probes>, line: &[u8], at: usize, marks: u64) -> u64
-    requires { IfSome others.now (λ probes. HaveRoom probes line.now (at + 32)) }
-    ensures each { (k : ℕ) → k < 32 → bit_at marks k ≡ 1
-        → IfSome others.now (λ probes. AllPass EACH probes line.now (at + k)) → bit_at result k ≡ 1 }
-    ensures within { (k : ℕ) → bit_at result k ≡ 1 → bit_at marks k ≡ 1 }
-{
-    match others {
-        Some(probes) => marks & probes.marks::<false, EACH>(line, at),
-        None => marks,
-    }
+// Whether look-ups of halves do, as four cost what two whole ones cost: the others leave few places
+// that the first two leave.
+fn are_halves_enough(runs: &[Vec<ByteSet>], places: &[usize]) -> bool {
+    let all = stops_at(runs, places).saturating_mul(8);
+    places.len() > 2 && all <= stops_at(runs, &places[..2])
 }
 
 // Whether two tests of bits do, which are the cheapest: for two letters, and where few places of

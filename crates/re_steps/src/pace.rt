@@ -12,7 +12,8 @@ const REST: u32 = 1024;
 // How many reused steps make up for one miss.
 const BYTES_A_MISS: usize = 32;
 
-// After this number of passes their mean length decides whether passing goes on.
+// After this number of passes their mean length decides whether passing goes on; half of them count
+// again.
 const PASSES: u32 = 64;
 
 // From this mean length on, passing bytes is quicker than reading their cells.
@@ -112,14 +113,19 @@ impl Pace {
         self.passing
     }
 
+    /// Whether no byte was passed yet, or passing bytes doesn't pay.
+    pub fn walks(&self) -> bool {
+        self.passes == 0 || !self.passing
+    }
+
     /// Notes that this number of bytes was passed.
     pub fn note_pass(&mut self, bytes: usize) {
         self.passes = self.passes.saturating_add(1);
         self.passed = self.passed.saturating_add(bytes);
         if self.passes >= PASSES {
             self.passing = self.passed / PASSES as usize >= WORTH_PASSING;
-            self.passes = 0;
-            self.passed = 0;
+            self.passes /= 2;
+            self.passed /= 2;
         }
     }
 }

@@ -93,7 +93,7 @@ impl StepTable {
     pub fn walks(&self) -> bool
         ensures { IsTrue result → length self.now.marks.items ≡ 0 → ⊥ }
     {
-        !self.marks.is_empty() && !self.pace.passes()
+        !self.marks.is_empty() && self.pace.walks()
     }
 
     /// The spot at a line's first place.

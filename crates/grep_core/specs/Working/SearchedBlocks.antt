@@ -1,6 +1,6 @@
 -- The lines that are held in one piece, as far as they were searched at once.
 use Rattle.std.specs.Prelude.{ℕ, All, length, ◌≡◌, ◌++◌, [], MatchOption, Result, IfOk, List}
-use Rattle.std.specs.Prelude.{Option, ◌+◌, ◌∷◌, ◌≤◌}
+use Rattle.std.specs.Prelude.{Bool, MatchBool, Option, ◌+◌, ◌∷◌, ◌≤◌}
 use Rattle.re_syntax.specs.{Lines.{HasNoNewline, lines_of, terminated}, Bytes.Text}
 use Rattle.re_search.specs.Working.Sought.{IsSought, Sought}
 use Rattle.grep_io.specs.{declared.input.lines.Stage.TheVariants.Ended, Working.Numbered.Numbered}
@@ -26,9 +26,13 @@ pub record IsNextOf {R : Type 0} (now : Numbered R) (all : List Text) : Type 0 w
   pub few : now.number + length all ≤ most_lines
   pub open_still : now.lines.stage ≡ Ended → now.lines.ahead ≡ []
 
--- the matched lines of the block were written as they are, and at an Ok it is known how many they are
-abbrev pub WritesMatched : {W E : Type 0} → (W → Option Text) → (W → ℕ) → Sought → Text → W → W → Result ℕ E → Type 0
-WritesMatched contents failures sought block old new result =
-    (matched : List Text) × Chosen (IsSought sought) (lines_of block) matched
-    × Writes contents failures old new (terminated matched) result
-    × IfOk result (λ found. found ≡ length matched)
+-- the line is matched, or it isn't, if the others are asked for
+abbrev pub IsChosen : Bool → Sought → Text → Type 0
+IsChosen others sought line = MatchBool others (IsSought sought line → ⊥) (IsSought sought line)
+
+-- such lines of the block were written as they are, and at an Ok it is known how many they are
+abbrev pub WritesChosen : {W E : Type 0} → (W → Option Text) → (W → ℕ) → Bool → Sought → Text → W → W → Result ℕ E → Type 0
+WritesChosen contents failures others sought block old new result =
+    (chosen : List Text) × Chosen (IsChosen others sought) (lines_of block) chosen
+    × Writes contents failures old new (terminated chosen) result
+    × IfOk result (λ found. found ≡ length chosen)

@@ -1,10 +1,10 @@
 //! The search of the lines that are held in one piece, and the rows that are written for them.
 ghost use Rattle.std.specs.Prelude.{◌≡◌, ◌*◌, ◌+◌, ◌++◌, ◌^◌, ◌<◌, ◌≤◌, ◌⊎◌, List, length, false};
 ghost use Rattle.std.specs.Prelude.{true, IfErr, IfOk, IsTrue, slice_range};
-ghost use Rattle.{re_syntax.specs.{Bytes.Text, Lines.terminated}, re_search.specs.Meters.Steps};
+ghost use Rattle.{re_syntax.specs.{Bytes.Text, Lines.{lines_of, terminated}}, re_search.specs.Meters.Steps};
 ghost use Rattle.re_search.specs.{Searches.AddsAtMost, Working.{Blocks.IsBlock, Matchers.AreSame}};
 ghost use Rattle.re_search.specs.Working.{Matchers.{expressions_of, AreAlike}, Sought.sought_of};
-ghost use Rattle.grep_core.specs.Working.SearchedBlocks.{WritesMatched, IsNextOf, IsDivided};
+ghost use Rattle.grep_core.specs.Working.SearchedBlocks.{WritesChosen, IsNextOf, IsDivided};
 ghost use Rattle.grep_core.specs.Working.{OneLine.IsBare, BlockRows.{SearchesLines, TakesLines}};
 ghost use Rattle.grep_core.specs.{Working.BlockRows.{StopsLines, TakesHeld, StopsHeld}, Run.writer};
 ghost use Rattle.grep_io.specs.Written.{GoesOut, StopsWithin};
@@ -101,7 +101,7 @@ fn write_matched<W: CountedWrite>(
 ) -> Result<u64, WriteFault>
     requires alike { AreAlike whole matchers.old }
     requires block { IsBlock block.now }
-    ensures written { WritesMatched W.contents W.failures (sought_of whole matchers.old)
+    ensures written { WritesChosen W.contents W.failures false (sought_of whole matchers.old)
         block.now out.old out.new result }
     ensures same { AreSame matchers.old matchers.new }
     ensures steps { AddsAtMost (length (expressions_of matchers.old) * length block.now)
@@ -119,6 +119,65 @@ fn write_matched<W: CountedWrite>(
         start += at.end + 1;
         found += 1;
     }
+}
+
+// Writes the other lines of a block, which has `count` lines, as they are, and returns how many they
+// are.
+fn write_others<W: CountedWrite>(
+    block: &[u8],
+    count: u64,
+    matchers: &mut [Matcher],
+    whole: bool,
+    out: &mut W,
+    meter: &mut Meter,
+) -> Result<u64, WriteFault>
+    requires alike { AreAlike whole matchers.old }
+    requires block { IsBlock block.now }
+    requires count { count ≡ length (lines_of block.now) }
+    ensures written { WritesChosen W.contents W.failures true (sought_of whole matchers.old)
+        block.now out.old out.new result }
+    ensures same { AreSame matchers.old matchers.new }
+    ensures steps { AddsAtMost (length (expressions_of matchers.old) * length block.now)
+        meter.old meter.new }
+{
+    let mut others = count;
+    let mut start = 0;
+    'lines: loop {
+        let Some(at) = next_matched(matchers, whole, &block[start..], meter) else {
+            push_all(out, &block[start..])?;
+            return Ok(others);
+        };
+        push_all(out, &block[start..start + at.start])?;
+        others -= 1;
+        start += at.end + 1;
+    }
+}
+
+// Writes the selected lines of a block, which has `count` lines, as they are, and returns how many they
+// are.
+#[inline(always)]
+fn write_chosen<W: CountedWrite>(
+    block: &[u8],
+    count: u64,
+    matchers: &mut [Matcher],
+    invert: bool,
+    whole: bool,
+    out: &mut W,
+    meter: &mut Meter,
+) -> Result<u64, WriteFault>
+    requires alike { AreAlike whole matchers.old }
+    requires block { IsBlock block.now }
+    requires count { count ≡ length (lines_of block.now) }
+    ensures written { WritesChosen W.contents W.failures invert (sought_of whole matchers.old)
+        block.now out.old out.new result }
+    ensures same { AreSame matchers.old matchers.new }
+    ensures steps { AddsAtMost (length (expressions_of matchers.old) * length block.now)
+        meter.old meter.new }
+{
+    if invert {
+        return write_others(block, count, matchers, whole, out, meter);
+    }
+    write_matched(block, matchers, whole, out, meter)
 }
 
 /// Writes the rows of the selected lines of a stretch, and returns how many they are. `number` lines
@@ -171,8 +230,8 @@ pub fn write_searched<W: CountedWrite>(
 }
 
 /// Searches lines that are held in one piece, and writes the rows of the selected ones. Where these
-/// are the matched lines as they are, all lines of the piece are searched; else none after the first
-/// that is matched. `bare` says whether the rows are the lines as they are.
+/// are the lines as they are, all lines of the piece are searched; else none after the first that is
+/// matched. `bare` says whether the rows are the lines as they are.
 #[inline(always)]
 pub fn write_held<R: CountedRead, W: CountedWrite>(
     lines: &Lines<R>,
@@ -198,11 +257,12 @@ pub fn write_held<R: CountedRead, W: CountedWrite>(
     let invert = request.options.invert_match;
     let whole = request.options.line_regexp;
     let block = lines.ready();
-    if bare && !invert && lines.may_number(block.len()) {
-        let found = write_matched(block, matchers, whole, out, meter)?;
+    if bare && lines.may_number(block.len()) {
+        let count = count_newlines(block);
+        let found = write_chosen(block, count, matchers, invert, whole, out, meter)?;
         return Ok(SearchedLines {
             bytes: block.len(),
-            count: count_newlines(block),
+            count,
             found,
             goes_on: false,
         });

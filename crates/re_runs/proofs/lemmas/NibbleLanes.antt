@@ -1,5 +1,5 @@
 -- What operations on vectors of 32 bytes hold at each lane, beside those of memchr.
-use Rattle.{re_runs.proofs.Prelude.{IsTrue, bits_of, AllPass, Probes, bit_at-zero, bit_at_and, ◌≡◌, ◌≢◌, ◌↔◌, ℕ, ◌+◌, ◌*◌, ◌/◌, ◌%◌, ◌^◌, ◌<◌, List, Bool, true, false, not, cond, eqb, ltb, min, bit_and, length, get_or, slice_index, map, replicate, refl, sym, ap, ◌∙◌, eq-eqb, arith, w8, bit_at, zip2, sel_l, mask_l, top, HasLanes, Text, Alike, Probe, HasBits, mark_of, ltb-true, ltb-false, eqb-true, eqb-false, get_or-zip2, get_or-replicate, length-zip2, length-swz_l, get_or-swz_l_below, swz_l, SwzOk, SwzOk-from_below, Each1-from_get_or, length-sel_l, get_or-sel_l, tops_compared, bitmask_splat, bit_mask_l}, std.proofs.Math.ListN.get_or-map, memchr.proofs.lemmas.LaneLemmas.{HasLanes-zip2, HasLanes-select}}
+use Rattle.{re_runs.proofs.Prelude.{IsTrue, bits_of, half_of, HasBitAt, AllPass, Probes, bit_at-zero, bit_at_and, ◌≡◌, ◌≢◌, ◌↔◌, ℕ, ◌+◌, ◌*◌, ◌/◌, ◌%◌, ◌^◌, ◌<◌, List, Bool, true, false, not, cond, eqb, ltb, min, bit_and, length, get_or, slice_index, map, replicate, refl, sym, ap, ◌∙◌, eq-eqb, arith, w8, bit_at, zip2, sel_l, mask_l, top, HasLanes, Text, Alike, Probe, HasBits, mark_of, ltb-true, ltb-false, eqb-true, eqb-false, get_or-zip2, get_or-replicate, length-zip2, length-swz_l, get_or-swz_l_below, swz_l, SwzOk, SwzOk-from_below, Each1-from_get_or, length-sel_l, get_or-sel_l, tops_compared, bitmask_splat, bit_mask_l}, std.proofs.Math.ListN.get_or-map, memchr.proofs.lemmas.LaneLemmas.{HasLanes-zip2, HasLanes-select}}
 
 -- an operator on a vector and a splat
 pub with_splat : (f : ℕ → ℕ → ℕ) (a : List ℕ) (x : ℕ) → length a ≡ 32 → HasLanes (zip2 f a (replicate 32 x)) (λ k. f (get_or a k 0) x)
@@ -97,30 +97,29 @@ module _ (each : Bool) (probes : Probes) (line : Text) (place k : ℕ) (all : Al
   pub two_met : (v a b : List ℕ) → HasLanes v (λ i. min (get_or a i 0) (get_or b i 0)) → AreBits probes.first a → AreBits probes.second b → get_or v k 0 ≢ 0
   two_met v a b met first second none = omega (arith, met.each k below, first.each k below, second.each k below)
 
-  -- three look-ups have a bit in common
-  pub three_met : IsTrue each → (w v a b c : List ℕ) → AreBoth w v c → AreBoth v a b → AreBits probes.first a → AreBits probes.second b → AreBits probes.third c → get_or w k 0 ≢ 0
-  three_met several w v a b c more both first second third none =
-      let (bit, one, two, three) = all.common several in
-      let its : (x y : ℕ) → x ≡ y → bit_at x bit ≡ bit_at y bit = λ x y is. rw is in
-      omega (
-        arith,
-        its _ _ (first.each k below),
-        its _ _ (second.each k below),
-        its _ _ (third.each k below),
-        one,
-        two,
-        three,
-        bit_at_and (get_or a k 0) (get_or b k 0) bit,
-        bit_at_and (get_or v k 0) (get_or c k 0) bit,
-        its _ _ (both.each k below),
-        its _ _ (more.each k below),
-        its _ _ none,
-        bit_at-zero bit,
-      )
+  abbrev AreHalves : Probe → List ℕ → Type 0
+  AreHalves probe a = HasLanes a (λ i. half_of probe.nibbles (slice_index line (place + i + probe.at)))
 
-  -- two have one, too
+  has_some : (bit x : ℕ) → bit_at x bit ≡ 1 → x ≢ 0
+  has_some bit x one none = omega (arith, one, bit_at-zero bit, ap (λ y. bit_at y bit) none)
+
+  both_have : (bit : ℕ) (v a b : List ℕ) → AreBoth v a b → bit_at (get_or a k 0) bit ≡ 1 → bit_at (get_or b k 0) bit ≡ 1 → bit_at (get_or v k 0) bit ≡ 1
+  both_have bit v a b both one two = rw (both.each k below) (omega (arith, bit_at_and (get_or a k 0) (get_or b k 0) bit, one, two))
+
+  half_has : (probe : Probe) (bit : ℕ) (a : List ℕ) → HasBitAt probe line (place + k) bit → AreHalves probe a → bit_at (get_or a k 0) bit ≡ 1
+  half_has probe bit a has half =
+      let x = slice_index line (place + k + probe.at) in
+      rw (half.each k below) (omega (arith, bit_at_and (slice_index probe.nibbles.low (x % 16)) (slice_index probe.nibbles.high (x / 16)) bit, has))
+
+  -- four look-ups of halves have a bit in common
+  pub halves_met : IsTrue each → (v w u a b c d : List ℕ) → AreBoth v a b → AreBoth w v c → AreBoth u w d
+      → AreHalves probes.first a → AreHalves probes.second b → AreHalves probes.third c → AreHalves probes.fourth d → get_or u k 0 ≢ 0
+  halves_met several v w u a b c d two three four first second third fourth =
+      let (bit, has1, has2, has3, has4) = all.common several in
+      has_some bit _ (both_have bit u w d four (both_have bit w v c three (both_have bit v a b two (half_has probes.first bit a has1 first) (half_has probes.second bit b has2 second)) (half_has probes.third bit c has3 third)) (half_has probes.fourth bit d has4 fourth))
+
+  -- two whole ones have one, too
   pub pair_met : IsTrue each → (v a b : List ℕ) → AreBoth v a b → AreBits probes.first a → AreBits probes.second b → get_or v k 0 ≢ 0
-  pair_met several v a b both first second none =
-      let (bit, one, two, three) = all.common several in
-      let its : (x y : ℕ) → x ≡ y → bit_at x bit ≡ bit_at y bit = λ x y is. rw is in
-      omega (arith, its _ _ (first.each k below), its _ _ (second.each k below), one, two, bit_at_and (get_or a k 0) (get_or b k 0) bit, its _ _ (both.each k below), its _ _ none, bit_at-zero bit)
+  pair_met several v a b both first second =
+      let (bit, has1, has2, _, _) = all.common several in
+      has_some bit _ (both_have bit v a b both (rw (first.each k below) has1) (rw (second.each k below) has2))

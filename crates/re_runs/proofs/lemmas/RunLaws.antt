@@ -193,12 +193,14 @@ module _ (runs : Runs) (width : ℕ) (wide : IsNoWider width runs) (line : Text)
       let long : width ≤ length (get_or runs n d) = wide n d lt in let fits : k + length (get_or runs n d) ≤ length line = there.fits in let within : probe.at < width = is.within in
       rw (same (omega arith)) (is.each several n d lt (slice_index line (k + probe.at)) (small (k + probe.at)) (there.takes probe.at (omega arith)))
 
-  -- so it is for all three
+  -- so it is for all four
   pub all_pass : (each : Bool) (probes : Probes) → (IsTrue each → 2 ≤ length runs) → AreProbesOf probes width runs → RunStandsAt line runs k → AllPass each probes line k
   all_pass each probes several are (n, run, lt, at, there) = record {
     first = passes probes.first are.first n run lt at there;
     second = passes probes.second are.second n run lt at there;
-    common = λ yes. (n % 8, has_bit probes.first are.first n run lt at there (several yes), has_bit probes.second are.second n run lt at there (several yes), has_bit probes.third are.third n run lt at there (several yes));
+    third = passes probes.third are.third n run lt at there;
+    fourth = passes probes.fourth are.fourth n run lt at there;
+    common = λ yes. (n % 8, has_bit probes.first are.first n run lt at there (several yes), has_bit probes.second are.second n run lt at there (several yes), has_bit probes.third are.third n run lt at there (several yes), has_bit probes.fourth are.fourth n run lt at there (several yes));
   }
 
 -- the runs of a finder
@@ -213,25 +215,18 @@ found_pass {seen} runs each is wide are several line small k o =
     let long : length (sets_of_each runs) ≡ length seen = omega (arith, length-map runs (λ run. map members run.items), length-map runs (λ run. run.items), ap length is) in
     all_pass _ _ wide _ k small _ _ (λ yes. omega (arith, several yes)) are (rw (seen_runs _ _ is) at o)
 
-pub others_passed : {seen : List (List ByteSet)} (runs : List (Vec ByteSet)) (width : ℕ) (each : Bool) (others : Option Probes) → map (λ run. run.items) runs ≡ seen
-    → IsNoWider width (sets_of_each runs) → IfSome others (λ o. AreProbesOf o width (sets_of_each runs)) → (IsTrue each → 2 ≤ length seen)
-    → (line : Text) → ((x : ℕ) → slice_index line x < 256) → (k : ℕ) → RunStandsAt line (members_of seen) k → IfSome others (λ o. AllPass each o line k)
-others_passed runs width each None is wide are several line small k o = tt
-others_passed runs width each (Some probes) is wide are several line small k o = found_pass _ _ is wide are several _ small k o
-
 -- a run is nowhere where it has no room
 pub no_room : (runs : Runs) (width : ℕ) → IsNoWider width runs → (line : Text) (k : ℕ) → length line + 1 ≤ k + width → ¬ RunStandsAt line runs k
 no_room runs width wide line k short (n, run, lt, at, is) =
     let long = subst (λ r. width ≤ length r) at (wide n run lt) in absurd (omega arith)
 
--- marks of the 32 places that the probes pass, and of those the others pass, mark those where the run is
-pub marks_stand : (runs : Runs) (line : Text) (each : Bool) (probes : Probes) (others : Option Probes) (place m narrowed : ℕ) → ((k : ℕ) → RunStandsAt line runs k → AllPass each probes line k)
-    → ((k : ℕ) → RunStandsAt line runs k → IfSome others (λ o. AllPass each o line k))
+-- marks of the 32 places that the probes pass, and then those that are left, mark those where the run is
+pub marks_stand : (runs : Runs) (line : Text) (each : Bool) (probes : Probes) (place m narrowed : ℕ) → ((k : ℕ) → RunStandsAt line runs k → AllPass each probes line k)
     → ((k : ℕ) → k < 32 → AllPass each probes line (place + k) → bit_at m k ≡ 1) → ((k : ℕ) → bit_at m k ≡ 1 → k < 32)
-    → ((k : ℕ) → k < 32 → bit_at m k ≡ 1 → IfSome others (λ o. AllPass each o line (place + k)) → bit_at narrowed k ≡ 1) → ((k : ℕ) → bit_at narrowed k ≡ 1 → bit_at m k ≡ 1)
+    → ((k : ℕ) → k < 32 → bit_at m k ≡ 1 → AllPass each probes line (place + k) → bit_at narrowed k ≡ 1) → ((k : ℕ) → bit_at narrowed k ≡ 1 → bit_at m k ≡ 1)
     → Marks (RunStandsAt line runs) place (place + 32) narrowed
-marks_stand runs line each probes others place m narrowed pass others_pass marked within kept left = record {
-  each = λ k lt o. kept k (omega arith) (marked k (omega arith) (pass (place + k) o)) (others_pass (place + k) o);
+marks_stand runs line each probes place m narrowed pass marked within kept left = record {
+  each = λ k lt o. let all = pass (place + k) o in kept k (omega arith) (marked k (omega arith) all) all;
   within = λ k h. omega (arith, within k (left k h));
 }
 

@@ -83,6 +83,10 @@ BeginsWithout runs line = ¬ RunStandsAt line runs 0
 abbrev pub bits_of : Nibbles → ℕ → ℕ
 bits_of nibbles x = bit_and (slice_index nibbles.low (x % 16)) (slice_index nibbles.high (x / 16))
 
+-- those that the table of low halves has
+abbrev pub half_of : Nibbles → ℕ → ℕ
+half_of nibbles x = slice_index nibbles.low (x % 16)
+
 -- for all bytes of the set there are some
 abbrev pub Covers : Nibbles → Bytes → Type 0
 Covers nibbles set = (x : ℕ) → x < 256 → IsTrue (set x) → bits_of nibbles x ≢ 0
@@ -111,17 +115,20 @@ PassesAt probe line k = IsPassedBy probe (slice_index line (k + probe.at))
 abbrev pub HasBitAt : Probe → Text → ℕ → ℕ → Type 0
 HasBitAt probe line k bit = bit_at (bits_of probe.nibbles (slice_index line (k + probe.at))) bit ≡ 1
 
--- the first two do, and all three with a bit in common if they are for each of several runs
+-- all four do, with a bit in common if they are for each of several runs
 pub record AllPass (each : Bool) (probes : Probes) (line : Text) (k : ℕ) : Type 0 where
   pub first : PassesAt probes.first line k
   pub second : PassesAt probes.second line k
-  pub common : IsTrue each → (bit : ℕ) × HasBitAt probes.first line k bit × HasBitAt probes.second line k bit × HasBitAt probes.third line k bit
+  pub third : PassesAt probes.third line k
+  pub fourth : PassesAt probes.fourth line k
+  pub common : IsTrue each → (bit : ℕ) × HasBitAt probes.first line k bit × HasBitAt probes.second line k bit × HasBitAt probes.third line k bit × HasBitAt probes.fourth line k bit
 
 -- there is a byte at each probe's distance after each place before this one
 pub record HaveRoom (probes : Probes) (line : Text) (past : ℕ) : Type 0 where
   pub first : past + probes.first.at ≤ length line
   pub second : past + probes.second.at ≤ length line
   pub third : past + probes.third.at ≤ length line
+  pub fourth : past + probes.fourth.at ≤ length line
 
 -- each byte of the set has the bit in the tables
 abbrev pub HasBitFor : Nibbles → ℕ → Bytes → Type 0
@@ -137,8 +144,9 @@ pub record IsProbeOf (probe : Probe) (width : ℕ) (runs : Runs) : Type 0 where
   pub passes : All (λ run. (x : ℕ) → x < 256 → IsTrue (set_at run probe.at x) → IsPassedBy probe x) runs
   pub each : 2 ≤ length runs → HasBitsOfEach probe.nibbles runs probe.at
 
--- all three are
+-- all four are
 pub record AreProbesOf (probes : Probes) (width : ℕ) (runs : Runs) : Type 0 where
   pub first : IsProbeOf probes.first width runs
   pub second : IsProbeOf probes.second width runs
   pub third : IsProbeOf probes.third width runs
+  pub fourth : IsProbeOf probes.fourth width runs

@@ -9,11 +9,6 @@ returns-in-Some-clause-ok c =
     groups_serve _ options _ patterns _ are
     (joined_grouped options patterns (lines_of c.in-Some.strings.items) c.in-Ok.matchers.items read (omega (arith, c.in-Some.ensures.some, AllZip-long (IsPattern c.args.syntax options.ignore_case) texts patterns are)) (rw c.deref.ensures.value at c.in-Ok.ensures))
 
-pub returns-in-Some-strings_of-clause-ok : goal.returns-in-Some-strings_of-clause-ok
-returns-in-Some-strings_of-clause-ok c =
-    groups_serve _ c.args.options.now _ c.in_ok-patterns.patterns.items _ c.in_ok-patterns.ensures.ok
-    (joined_grouped c.args.options.now c.in_ok-patterns.patterns.items (lines_of c.in-Some-strings_of.strings.items) _ (rw c.deref-2.ensures.value at (c.in-Some-strings_of.ensures.read c.args.options.now.ignore_case)) (rw c.deref-2.ensures.value at c.in-Some-strings_of.ensures.some) (rw c.deref-in-Some-strings_of.ensures.value at c.in-Ok-joined.ensures))
-
 pub joined_matchers-requires : goal.joined_matchers-requires
 joined_matchers-requires c = (patterns_meant c.args.syntax c.args.options.now.ignore_case (lines_of c.args.texts.now) c.in_ok-patterns.patterns.items c.in_ok-patterns.ensures.ok).2
 

@@ -1,6 +1,9 @@
 use Rattle.{grep_core.proofs.{Prelude.{◌∙◌, refl, sym, arith}, lemmas.{OneLineLemmas.is_err, SearchedBlockLemmas.{bare_if, divided_kept, stretch_spent, line_within}, MatchedLemmas.{block_next, takes_matched, stops_matched}}}, grep_io.proofs.lemmas.PassedLemmas.count_block, re_search.proofs.lemmas.KeptMatchers.{same_sought, still_alike}}
 use Rattle.grep_core.proofs.search.held.write_held.Goals as goal
 
+pub write_chosen-requires-clause-count : goal.write_chosen-requires-clause-count
+write_chosen-requires-clause-count g c = c.count_newlines-count.ensures ∙ count_block c.ready-block.result.now c.ready-block.ensures.block
+
 pub returns-then-may_number-clause-ok : goal.returns-then-may_number-clause-ok
 returns-then-may_number-clause-ok g c =
     let block = c.ready-block.result.now in
@@ -8,7 +11,7 @@ returns-then-may_number-clause-ok g c =
     let (rest, ahead) = c.ready-block.ensures.ahead in
     let next = block_next block rest whole ahead (c.if-may_number.ensures.room refl) c.ready-block.ensures.none_at_end in
     let (matched, chosen, went, found) = c.in_ok-found.ensures.written in
-    takes_matched (c.requires.bare c.if-bare.true) c.if-not-invert.true whole next c.write_matched.ensures.steps _ chosen went found (c.count_newlines.ensures ∙ count_block block whole)
+    takes_matched (c.requires.bare c.if-bare.true) whole next c.write_chosen.ensures.steps _ chosen went found (c.count_newlines-count.ensures ∙ count_block block whole)
 
 pub returns-in_err-found-clause-err : goal.returns-in_err-found-clause-err
 returns-in_err-found-clause-err g c =
@@ -18,7 +21,7 @@ returns-in_err-found-clause-err g c =
     let next = block_next block rest whole ahead (c.if-may_number.ensures.room refl) c.ready-block.ensures.none_at_end in
     let (matched, chosen, stopped, none) = c.in_err-found.ensures.written in
     rw (is_err _ c.from_residual.ensures.1)
-    (stops_matched (c.requires.bare c.if-bare.true) c.if-not-invert.true whole next c.write_matched.ensures.steps _ chosen stopped)
+    (stops_matched (c.requires.bare c.if-bare.true) whole next c.write_chosen.ensures.steps _ chosen stopped)
 
 pub write_searched-requires : goal.write_searched-requires
 write_searched-requires g c =

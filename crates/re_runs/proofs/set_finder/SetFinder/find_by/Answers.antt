@@ -1,10 +1,10 @@
-use Rattle.re_runs.proofs.{Prelude.{rules, ℕ, ◌+◌, ◌<◌, ◌≤◌, slice_index, arith, members_of, RunStandsAt}, lemmas.RunLaws.{marks_stand, nowhere_on, finds_none, finds_some, found_pass, others_passed}}
+use Rattle.re_runs.proofs.{Prelude.{rules, ℕ, ◌+◌, ◌<◌, ◌≤◌, slice_index, arith, members_of, RunStandsAt}, lemmas.RunLaws.{marks_stand, nowhere_on, finds_none, finds_some, found_pass}}
 use Rattle.re_runs.proofs.set_finder.SetFinder.find_by.Goals as goal
 
 pub first_marked-requires-clause-marks : goal.first_marked-requires-clause-marks
 first_marked-requires-clause-marks g c =
     let small : (x : ℕ) → slice_index c.args.line.now x < 256 = search rules in
-    marks_stand _ _ _ _ _ _ _ _ (found_pass c.self.inside.runs.items _ c.self.view_is c.self.invariant.wide c.self.invariant.first c.requires c.args.line.now small) (others_passed c.self.inside.runs.items c.self.inside.width _ c.self.inside.others c.self.view_is c.self.invariant.wide c.self.invariant.others c.requires c.args.line.now small) c.next_marks-at.ensures.each c.next_marks-at.ensures.within
+    marks_stand _ _ _ _ _ _ _ (found_pass c.self.inside.runs.items _ c.self.view_is c.self.invariant.wide c.self.invariant.first c.requires c.args.line.now small) c.next_marks-at.ensures.each c.next_marks-at.ensures.within
     c.narrowed-left.ensures.each c.narrowed-left.ensures.within
 
 pub returns-in-Some : goal.returns-in-Some
