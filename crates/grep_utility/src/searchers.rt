@@ -13,7 +13,7 @@ use re_syntax::{MOST_POSITIONS, PatternFault, Syntax, split_file};
 use std::alloc::{AllocError, Global};
 
 /// How many strings one automaton is quick for, whose needle is a choice of as many runs.
-const FEW: usize = 16;
+const FEW: usize = 20;
 
 /// Above how many strings an automaton that has all of them is quicker than a pass that leaps.
 const MANY: usize = 48;
@@ -59,7 +59,7 @@ pub fn has_more_than(most: usize, texts: &[u8]) -> bool
     split_file(texts).nth(most).is_some()
 }
 
-/// Whether one pass is quicker for the lines of `texts`, if they are strings: they are more than sixteen,
+/// Whether one pass is quicker for the lines of `texts`, if they are strings: they are more than twenty,
 /// and have too many positions for one automaton, or parts are asked for, or the pass leaps.
 fn are_for_one_pass(texts: &[u8], options: &Options) -> bool
     ensures { IsTrue result → 1 ≤ length (lines_of texts.now) }

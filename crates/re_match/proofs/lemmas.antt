@@ -7,7 +7,6 @@ pub mod SetAround
 pub mod StepSums
 pub mod WindowLaws
 pub mod SweptLines
-pub mod NeededStrings
 pub mod LookLaws
 pub mod SameLaws
 pub mod WalkedLines

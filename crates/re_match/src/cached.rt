@@ -9,7 +9,7 @@ ghost use Rattle.re_auto.specs.{declared.build.BuildFault.TheVariants.Memory, Se
 ghost use Rattle.re_auto.specs.Working.{Tables.IsRefused, StateSets.IsMadeFor};
 ghost use Rattle.re_match.specs.Working.CachedMatchers.{no_cache, SameCached, AnswersLine};
 ghost use Rattle.re_match.specs.Working.Sweeps.{LooksOver, StopsAt, CountsSweep};
-ghost use Rattle.re_match.specs.Working.{Prefilters.IsSaidAtOnce, Aheads.AreEdgesFor};
+ghost use Rattle.{re_match.specs.Working.Aheads.AreEdgesFor, re_needle.specs.Working.Needles.IsSettled};
 ghost use Rattle.re_match.specs.Working.Aheads.{CountsAhead, IsAhead, IsSaid, IsWindowOf, past};
 ghost use Rattle.re_meter.specs.Meters.{AddsAtMost, AddsJust, many_built};
 ghost use Rattle.re_steps.specs.Working.{Simulations.AreSetsFor, Walks.{IsAt, IsReported}};
@@ -162,7 +162,7 @@ impl Cached {
     #[inline(always)]
     fn settled(&self, line: &[u8], meter: &mut Meter) -> Option<bool>
         ensures settled { IfSome result
-            (λ reported. IsSaidAtOnce (expression_of self.now.tree) self.now.whole line.now reported) }
+            (λ reported. IsSettled (expression_of self.now.tree) self.now.whole line.now reported) }
         ensures looked { LooksOver (expression_of self.now.tree) line.now result meter.old meter.new }
     {
         self.prefilter.settled(line, self.whole, meter)

@@ -1,45 +1,32 @@
 //! What is known of lines, parts and blocks by what each match contains.
-ghost use Rattle.std.specs.Prelude.{IsTrue, ◌<◌, ◌≡◌, Some, map, ◌+◌, [], ℕ, All, ◌-◌, false, ◌≤◌};
-ghost use Rattle.std.specs.Prelude.{IfSome, ◌++◌, drop, length, min, slice_range, ◌⊎◌, Bool, IfOk, ◌∷◌};
-ghost use Rattle.re_trees.specs.{Expression.Expression, Working.Trees.expression_of, Bytes.Text};
-ghost use Rattle.re_trees.specs.Lines.{newline, HasNoNewline, lines_of};
+ghost use Rattle.std.specs.Prelude.{IsTrue, ◌<◌, ◌≡◌, Some, ◌+◌, ℕ, ◌-◌, false, ◌≤◌};
+ghost use Rattle.std.specs.Prelude.{IfSome, drop, length, min, slice_range, ◌⊎◌, IfOk};
+ghost use Rattle.re_trees.specs.{Expression.Expression, Working.Trees.expression_of};
+ghost use Rattle.re_trees.specs.Lines.{HasNoNewline};
 ghost use Rattle.re_meter.specs.Meters.{AddsJust, AddsUpTo, Steps};
-ghost use Rattle.re_needle.specs.Working.Needles.{IsNeeded, IsNeedleOf};
+ghost use Rattle.re_needle.specs.Working.Needles.{IsNeedleOf, IsSettled};
 ghost use Rattle.re_runs.specs.Working.{Blocks.{PassesUnmatched, IsBlock}, Finders.runs_of};
 ghost use Rattle.re_runs.specs.Working.Runs.{FindsRun, longest_of};
-ghost use Rattle.re_match.specs.Working.Prefilters.{AreNeeded, IsPrefilterFor, IsSaidAtOnce};
-ghost use Rattle.re_match.specs.Working.{Prefilters.NeedsOneOf, Sweeps.{LooksOver, StopsAt}};
+ghost use Rattle.re_match.specs.Working.{Prefilters.IsPrefilterFor, Sweeps.{LooksOver, StopsAt}};
 ghost use Rattle.re_match.specs.Working.Aheads.{PassesAtLeast, AreEdgesFor, IsSaid};
 ghost use Rattle.re_match.specs.declared.ahead.Ahead.TheVariants.{In};
 
 use crate::ahead::Ahead;
 use crate::scan_backoff::ScanBackoff;
-use crate::string_set::{StringSet, add_line};
 use crate::sweeps::{Stop, Sweep};
 use crate::window::{Edges, rest_of};
 use re_auto::Meter;
 use re_ends::Window;
-use re_needle::{Needle, has_begin, needed_string};
+use re_needle::{Needle, has_begin};
 use re_runs::{RunFinder, Swept, bytes_over, first_line_with_run, has_no_newline};
 use re_trees::{Span, Tree};
 use std::alloc::{AllocError, Global};
-
-// From how many branches on a choice has strings in place of a common needle.
-const MANY: usize = 9;
-
-// From how many on in place of any, since no needle has a run of each.
-const MOST: usize = 17;
-
-// Above how many steps alone are quicker.
-const TOO_MANY: usize = 48;
 
 /// What each match of an expression contains, if that is known. It is looked for in lines, and in
 /// blocks where such looks pay.
 #[derive(Drop)]
 pub struct Prefilter {
     needle: Option<Needle>,
-    // Strings, one of which each match contains: of a choice of many. They come before the needle.
-    strings: Option<StringSet>,
     // Whether the expression has a `^`.
     has_begin: bool,
     /// When such looks pay.
@@ -52,34 +39,22 @@ impl Prefilter {
         ensures { IfOk result (IsPrefilterFor (expression_of tree.now)) }
     {
         let needle = Needle::of(alloc, tree)?;
-        let strings = needed_strings(alloc, tree, &needle)?;
         Ok(Prefilter {
             needle,
-            strings,
             has_begin: has_begin(tree),
             backoff: ScanBackoff::new(),
         })
     }
 
     /// Whether the line is matched, if one look over it says so. A run that is common is looked for
-    /// over blocks alone, and so is one that most lines had of late, unless it is all there is, and
-    /// so are strings that most lines had.
+    /// over blocks alone, and so is one that most lines had of late, unless it is all there is.
     #[inline(always)]
     pub fn settled(&self, line: &[u8], whole: bool, meter: &mut Meter) -> Option<bool>
         ensures settled { (e : Expression) → IsPrefilterFor e self.now →
-            IfSome result (λ reported. IsSaidAtOnce e whole line.now reported) }
+            IfSome result (λ reported. IsSettled e whole line.now reported) }
         ensures looked { (e : Expression) → IsPrefilterFor e self.now →
             LooksOver e line.now result meter.old meter.new }
     {
-        if let Some(strings) = &self.strings {
-            if self.backoff.rests() {
-                return None;
-            }
-            if strings.stands_in(line, meter) {
-                return None;
-            }
-            return Some(false);
-        }
         let Some(needle) = &self.needle else {
             return None;
         };
@@ -125,9 +100,6 @@ impl Prefilter {
             StopsAt e whole block.now result }
         ensures steps { AddsUpTo 0 result.reached meter.old meter.new }
     {
-        if let Some(strings) = &self.strings {
-            return strings.first_line(block, meter);
-        }
         let Some(needle) = &self.needle else {
             return Sweep::to(0, 0, Stop::Unseen);
         };
@@ -258,64 +230,4 @@ fn has_run(finder: &RunFinder, block: &[u8], swept: Swept) -> bool
     };
     let end = at + finder.longest().min(block.len() - at);
     has_no_newline(&block[at..end])
-}
-
-// Strings, one of which each match of a choice of many contains. `None` if a branch isn't known to
-// need one, or if the needle is better. The only error is that an allocation failed.
-fn needed_strings(
-    alloc: Global,
-    tree: &Tree,
-    needle: &Option<Needle>,
-) -> Result<Option<StringSet>, AllocError>
-    ensures { IfOk result
-        (λ found. IfSome found (λ strings. AreNeeded strings (expression_of tree.now))) }
-{
-    let Tree::Alt(branches) = tree else {
-        return Ok(None);
-    };
-    let count = branches.len();
-    if count < MANY || count > TOO_MANY || count < MOST && is_good(needle) {
-        return Ok(None);
-    }
-    let Some(texts) = needed_texts(alloc, branches)? else {
-        return Ok(None);
-    };
-    let strings = StringSet::new(alloc, &texts, false)?;
-    Ok(Some(strings))
-}
-
-// Whether the needle says all, or is rare.
-fn is_good(needle: &Option<Needle>) -> bool {
-    matches!(needle, Some(needle) if needle.is_all || needle.is_rare(u64::MAX))
-}
-
-// A string that each branch needs, each followed by a newline. `None` if one isn't known.
-fn needed_texts(alloc: Global, branches: &[Tree]) -> Result<Option<Vec<u8>>, AllocError>
-    ensures { IfOk result (λ found. IfSome found
-        (λ texts. All (NeedsOneOf (lines_of texts.items)) (map expression_of branches.now))) }
-{
-    let mut texts = Vec::new(alloc);
-    'branches: for place in 0..branches.len() {
-        let added = add_needed(alloc, &branches[place], &mut texts)?;
-        if !added {
-            return Ok(None);
-        }
-    }
-    Ok(Some(texts))
-}
-
-// Adds a string that the branch needs, and a newline. Whether one without a newline in it is known.
-fn add_needed(alloc: Global, branch: &Tree, texts: &mut Vec<u8>) -> Result<bool, AllocError>
-    ensures { IfOk result (λ added. IsTrue added →
-        (text : Text) × IsNeeded text (expression_of branch.now) × HasNoNewline text
-        × (texts.new.items ≡ texts.old.items ++ (text ++ newline ∷ []))) }
-{
-    let Some(text) = needed_string(alloc, branch)? else {
-        return Ok(false);
-    };
-    if !has_no_newline(&text) {
-        return Ok(false);
-    }
-    add_line(texts, &text)?;
-    Ok(true)
 }

@@ -13,7 +13,7 @@ use re_trees::{ByteSet, Tree};
 use std::alloc::{AllocError, Global};
 
 // How many runs are looked for at once.
-const MOST_RUNS: usize = 16;
+const MOST_RUNS: usize = 20;
 
 // Among how many parts a choice is found.
 const MOST_PARTS: usize = 16;
@@ -21,7 +21,7 @@ const MOST_PARTS: usize = 16;
 // Runs that are at so many places of 65,536 fewer are looked for in place of others.
 const FEW_STOPS: u64 = 32;
 
-/// The runs to look for of a choice: one of each branch, if there are from two to sixteen branches.
+/// The runs to look for of a choice: one of each branch, if there are from two to twenty branches.
 /// `None` if it is no choice of so many, if a branch isn't known to need a run, or if the runs are
 /// common and not all there is. The only error is that an allocation failed.
 pub fn choice_needle(alloc: Global, tree: &Tree) -> Result<Option<Needle>, AllocError>

@@ -10,4 +10,4 @@ mod outline;
 mod outline_item;
 
 pub use anchors::has_begin;
-pub use needle::{Needle, needed_string, one_byte};
+pub use needle::{Needle, one_byte};

@@ -3,7 +3,7 @@ ghost use Rattle.std.specs.Prelude.{◌≡◌, ◌≤◌, ◌++◌, List, Option
 ghost use Rattle.std.specs.Prelude.{false, length, map};
 ghost use Rattle.re_trees.specs.{Bytes.{Bytes, only}, Expression.{Expression, byte}};
 ghost use Rattle.re_trees.specs.Working.Trees.{expression_of, members};
-ghost use Rattle.re_needle.specs.Working.Needles.{IsNeeded, IsNeedleFor, IsRunNeedleFor};
+ghost use Rattle.re_needle.specs.Working.Needles.{IsNeedleFor, IsRunNeedleFor};
 ghost use Rattle.re_needle.specs.Working.Outlines.{IsOutline, shown};
 
 use crate::choice::{Run, RunKind, best_run};
@@ -137,22 +137,6 @@ pub fn run_needle(alloc: Global, marks: &[OutlineItem]) -> Result<Option<Needle>
         return Ok(single);
     }
     set_needle(alloc, marks, sets.start, RunKind::SmallSets, 1, true)
-}
-
-/// A string that every match contains, the longest or rarest that is known. `None` if none of two
-/// bytes or more is known. The only error is that an allocation failed.
-pub fn needed_string(alloc: Global, tree: &Tree) -> Result<Option<Vec<u8>>, AllocError>
-    ensures { IfOk result
-        (λ found. IfSome found (λ text. IsNeeded text.items (expression_of tree.now))) }
-{
-    let mut marks = Vec::new(alloc);
-    add_outline(alloc, tree, &mut marks)?;
-    let run = best_run(&marks, RunKind::Bytes);
-    let text = leading_bytes(alloc, &marks[run.start..])?;
-    if text.len() < 2 {
-        return Ok(None);
-    }
-    Ok(Some(text))
 }
 
 // The needle of the single bytes from a mark on, if there are at least `least`.

@@ -34,10 +34,10 @@ const AT_LEAST: Pattern = (Syntax::Basic, b"[0-9]\\{2,\\}-2\\{2,3\\}", false, fa
 
 const BRANCHES: Pattern = (Syntax::Extended, b"queue|zebra|jukebox", false, false);
 
-// Of many branches a string of each is looked for.
+// Of many branches a run of each is looked for, if these are rare.
 const MANY_BRANCHES: Pattern = (
     Syntax::Extended,
-    b"a1[x-z]*|b2[x-z]*|c3[x-z]*|d4[x-z]*|e5[x-z]*|f6[x-z]*|g7[x-z]*|h8[x-z]*|i9[x-z]*",
+    b"jq1[x-z]*|jq2[x-z]*|jq3[x-z]*|jq4[x-z]*|jq5[x-z]*|jq6[x-z]*|jq7[x-z]*|jq8[x-z]*|jq9[x-z]*",
     false,
     true,
 );
@@ -72,7 +72,7 @@ static NEEDED: [Search; 15] = [
     (DATE, b"2026-1-25", false, 0, None),
     (DATE, b"12026-111", true, 1, Some((1, 8))),
     (AT_LEAST, b"44-2x2", false, 0, None),
-    (MANY_BRANCHES, b"a2xyz", false, 0, None),
+    (MANY_BRANCHES, b"qj2xyz", false, 0, None),
 ];
 
 fn needed() -> &'static [Search] {

@@ -4,7 +4,7 @@ use Rattle.re_trees.specs.{Bytes.Text, Expression.Expression, declared.tree.Tree
 use Rattle.re_auto.specs.{Meters.Steps, Working.StateSets.IsMadeFor}
 use Rattle.re_steps.specs.Working.{Stages.{Cache, Searches, mode_for}, Rows.{IsKnownFor, cache_of}}
 use Rattle.re_steps.specs.declared.table.StepTable.{StepTable}
-use Rattle.re_match.specs.Working.{Prefilters.IsSaidAtOnce, Sweeps.LooksOver}
+use Rattle.{re_match.specs.Working.Sweeps.LooksOver, re_needle.specs.Working.Needles.IsSettled}
 
 -- the expression's tree, whether the whole line has to be matched (XCU grep, option -x), the cache,
 -- and how many entries it may have
@@ -31,7 +31,7 @@ IsTableFor e whole most table =
 -- the answer was known without a step
 pub record SaysAtOnce (e : Expression) (whole : Bool) (line : Text) (old new : Cache)
     (before after : Steps) (answer : Bool) : Type 0 where
-  pub settled : IsSaidAtOnce e whole line answer
+  pub settled : IsSettled e whole line answer
   pub cache : new ≡ old
   pub steps : after ≡ before
 

@@ -6,7 +6,6 @@ use Rattle.re_trees.specs.{Holds.Matches, Expression.Expression, Bytes.Text}
 use Rattle.re_meter.specs.Meters.{AddsBetween, Steps, many_passed}
 use Rattle.re_runs.specs.Working.{Runs.{Runs, FindsRun, longest_of, look_cost}, Blocks.IsLineFrom}
 use Rattle.re_needle.specs.Working.Needles.{RunBegins, RunIsNeeded}
-use Rattle.re_match.specs.Working.{Literals.{LooksForAny, Literals}, Prefilters.AreNeeded}
 use Rattle.re_match.specs.declared.sweeps.Stop.{Stop, TheVariants.{Seen, Unseen, Decided}}
 use Rattle.re_match.specs.declared.sweeps.Sweep.{Sweep}
 
@@ -69,14 +68,7 @@ pub record LooksAtFirst (e : Expression) (line : Text) (old new : Steps) : Type 
   pub begins : RunBegins runs e
   pub passed : new ≡ many_passed (min (longest_of runs) (length line)) old
 
--- strings were looked for, one of which each match contains
-pub record LooksForStrings (e : Expression) (line : Text) (old new : Steps) : Type 0 where
-  pub strings : Literals
-  pub needed : AreNeeded strings e
-  pub looked : LooksForAny strings line old new
-
 -- the line was looked over once, or not at all if nothing is said of it
 abbrev pub LooksOver : Expression → Text → Option Bool → Steps → Steps → Type 0
 LooksOver e line said old new =
-    ((said ≡ None) × (new ≡ old)) ⊎ (LooksForNeeded e line old new
-    ⊎ (LooksAtFirst e line old new ⊎ LooksForStrings e line old new))
+    ((said ≡ None) × (new ≡ old)) ⊎ (LooksForNeeded e line old new ⊎ LooksAtFirst e line old new)

@@ -1,8 +1,8 @@
-use Rattle.{re_match.proofs.{Prelude.{arith, inl, refl}, lemmas.{LookLaws.looks_once, NeededStrings.said_at_once, StepSums.adds_on}}, re_meter.proofs.lemmas.Adding.adds_within, re_steps.proofs.lemmas.StageLaws.{searches_say, searches_steps}}
+use Rattle.{re_match.proofs.{Prelude.{arith, inl, refl}, lemmas.{LookLaws.looks_once, StepSums.adds_on}}, re_meter.proofs.lemmas.Adding.adds_within, re_needle.proofs.lemmas.NeedleLaws.settled_says, re_steps.proofs.lemmas.StageLaws.{searches_say, searches_steps}}
 use Rattle.re_match.proofs.cached.CachedLineMatch.is_match.Goals as goal
 
 pub returns-in-Some-clause-reported : goal.returns-in-Some-clause-reported
-returns-in-Some-clause-reported c = said_at_once _ _ _ _ c.in-Some.ensures.settled
+returns-in-Some-clause-reported c = settled_says _ _ _ _ c.in-Some.ensures.settled
 
 pub returns-in-Some-clause-steps : goal.returns-in-Some-clause-steps
 returns-in-Some-clause-steps c = adds_within _ _ _ _ _ _ (omega arith) (omega arith) (looks_once _ _ _ _ c.in-Some.ensures.looked)
