@@ -14,11 +14,10 @@ use crate::line_parts::put_parts;
 use crate::options::GaxtrelOptions;
 use crate::part::GaxtrelPart;
 use crate::text_lines::{GaxtrelLine, put_lines};
-use crate::text_search::{count_in_text, next_in_text};
+use crate::text_search::{count_in_text, last_line, next_in_text};
 use crate::which::put_numbers;
 use grep_core::Options;
 use grep_utility::searchers_of;
-use re_runs::line_start;
 use re_search::{LineParts, Matcher, Meter, Span, Syntax, is_matched, parts};
 use re_syntax::PatternFault;
 use std::alloc::{AllocError, Global};
@@ -206,7 +205,7 @@ impl Patterns {
         if end == text.len() {
             return end;
         }
-        from + line_start(&text[from..end])
+        from + last_line(&text[from..end])
     }
 
     /// Whether some pattern matches the line.

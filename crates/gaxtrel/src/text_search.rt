@@ -1,6 +1,7 @@
 //! What several matchers find in the lines of a text, the last of which may lack its newline.
-ghost use Rattle.std.specs.Prelude.{◌*◌, ◌≤◌, IfSome, length};
+ghost use Rattle.std.specs.Prelude.{◌*◌, ◌≤◌, IfSome, length, drop, ⊤};
 ghost use Rattle.{re_syntax.specs.Lines.lines_of, re_meter.specs.Meters.AddsAtMost};
+ghost use Rattle.{re_trees.specs.Lines.HasNoNewline, re_runs.specs.Working.Blocks.PassesAll};
 ghost use Rattle.re_search.specs.Working.Sought.{CountsSought, FindsSought, sought_of};
 ghost use Rattle.re_search.specs.Working.Matchers.{AreAlike, AreSame, expressions_of};
 ghost use Rattle.gaxtrel.specs.Calls.{bytes_to_next, line_cost};
@@ -22,7 +23,7 @@ pub(crate) fn next_in_text(
     ensures steps { AddsAtMost
         (length (expressions_of matchers.old) * bytes_to_next text.now result) meter.old meter.new }
 {
-    let cut = line_start(text);
+    let cut = last_line(text);
     let found = next_matched(matchers, whole, &text[..cut], meter);
     if let Some(at) = found {
         return Some(at);
@@ -52,7 +53,7 @@ pub(crate) fn count_in_text(
     ensures steps { AddsAtMost (line_cost (length (expressions_of matchers.old)) text.now)
         meter.old meter.new }
 {
-    let cut = line_start(text);
+    let cut = last_line(text);
     let count = count_matched(matchers, whole, &text[..cut], meter);
     if cut >= text.len() {
         return count;
@@ -61,4 +62,12 @@ pub(crate) fn count_in_text(
         return count + 1;
     }
     count
+}
+
+/// Where the last line of a text begins, which need not end with a newline.
+pub(crate) fn last_line(text: &[u8]) -> usize
+    ensures lines { PassesAll (λ _. ⊤) text.now result }
+    ensures last { HasNoNewline (drop result text.now) }
+{
+    line_start(text, text.len())
 }

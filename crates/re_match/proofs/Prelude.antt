@@ -8,7 +8,7 @@ pub use Rattle.{
   re_match.specs.Working.CachedMatchers.{CachedMatcher, SameCached, cache_in},
   re_match.specs.Working.Literals.{Literals, any_literal, literal_meaning},
   re_match.specs.Working.Same.{SameMatcher},
-  re_match.specs.Working.Strings.{IsPartOfLines, look_expression},
+  re_match.specs.Working.Strings.{look_expression},
   re_match.specs.Working.Sweeps.{LooksOver, StopsAt, left_for, steps_left, steps_to},
   re_match.specs.declared.strings.Look.{Look},
   re_match.specs.declared.strings.Look.TheVariants.{Many, One},

@@ -2,7 +2,7 @@ ghost use Rattle.std.specs.Prelude.{◌≡◌, Bool, ℕ, ◌+◌, ◌-◌, ◌<
 ghost use Rattle.std.specs.Prelude.{false, length, vec_capacity};
 ghost use Rattle.re_trees.specs.{Holds.Matches, Lines.lines_of, Expression.Expression};
 ghost use Rattle.{re_auto.specs.Searches.{FindsPart, AddsAtMost}, re_meter.specs.Meters.AddsJust};
-ghost use Rattle.re_runs.specs.Working.Blocks.{next_cost, FindsMatched, IsBlock, CountsMatched};
+ghost use Rattle.re_runs.specs.Working.Blocks.{next_cost, FindsMatched, IsBlock};
 ghost use Rattle.re_ends.specs.Working.GreatestEnds.{AddsEnds, FoundPast};
 ghost use Rattle.re_match.specs.Working.Aheads.{IsAhead, IsWindowOf, CountsAhead};
 ghost use Rattle.re_match.specs.Working.Same.{SameMatcher};
@@ -84,24 +84,4 @@ pub trait LineMatch {
             (λ at. (at.start ≤ at.end) × (at.end < length block.now)) }
         ensures same { SameMatcher expression whole room self.old self.new }
         ensures steps { AddsAtMost (next_cost block.now result) meter.old meter.new };
-
-    /// How many lines of a block of whole lines are matched. It takes at most one step for each byte
-    /// of the block, and passes each at most once.
-    fn count_matched(&mut self, block: &[u8], meter: &mut Meter) -> u64
-        requires { IsBlock block.now }
-        ensures reported { CountsMatched (expression self.old) (whole self.old) (lines_of block.now)
-            result }
-        ensures same { SameMatcher expression whole room self.old self.new }
-        ensures steps { AddsAtMost (length block.now) meter.old meter.new }
-    {
-        let mut count: u64 = 0;
-        let mut rest = block;
-        'lines: loop {
-            let Some(at) = self.next_matched(rest, meter) else {
-                return count;
-            };
-            count += 1;
-            rest = &rest[at.end + 1..];
-        }
-    }
 }

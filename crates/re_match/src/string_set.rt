@@ -125,7 +125,7 @@ impl StringSet {
         let Some(end) = self.table.first_end(block, leaps, meter) else {
             return Sweep::to(block.len(), block.len(), Stop::Seen);
         };
-        Sweep::to(line_start(&block[..end]), end, Stop::Seen)
+        Sweep::to(line_start(block, end), end, Stop::Seen)
     }
 
     /// The first string at `from` or later, and of those that begin there the longest. An empty

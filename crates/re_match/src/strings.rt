@@ -4,11 +4,11 @@ ghost use Rattle.std.specs.Prelude.{◌+◌, ◌<◌, Bool, map, ◌⊎◌, vec_
 ghost use Rattle.re_trees.specs.{Holds.Matches, Parts.IsFound, Lines.lines_of, Expression.byte};
 ghost use Rattle.re_trees.specs.{Expression.sequence, Bytes.Text};
 ghost use Rattle.re_meter.specs.Meters.{AddsAtMost, AddsUpTo, many_passed, AddsJust, many_built};
-ghost use Rattle.re_runs.specs.Working.Blocks.{CountsMatched, next_cost, FindsMatched, IsBlock};
+ghost use Rattle.re_runs.specs.Working.Blocks.{next_cost, FindsMatched, IsBlock};
 ghost use Rattle.re_runs.specs.Working.Blocks.{PassesUnmatched};
 ghost use Rattle.re_match.specs.{declared.strings.Look.TheVariants.One, Working.Same.SameMatcher};
-ghost use Rattle.re_match.specs.Working.Strings.{IsForSet, part_cost, look_expression, IsOnLines};
-ghost use Rattle.re_match.specs.Working.Strings.{IsPartOfLines, LooksFor, CountsLook};
+ghost use Rattle.re_match.specs.Working.Strings.{IsForSet, part_cost, look_expression};
+ghost use Rattle.re_match.specs.Working.Strings.{LooksFor, CountsLook};
 ghost use Rattle.re_match.specs.Working.Strings.{matched_strings, LooksForPart, CountsPart};
 ghost use Rattle.re_match.specs.Working.{Aheads.{CountsAhead, IsAhead, IsWindowOf}, Sweeps.StopsAt};
 ghost use Rattle.{re_match.specs.Working.Literals.any_literal, re_auto.specs.Searches.FindsPart};
@@ -23,10 +23,7 @@ use crate::window::rest_of;
 use memchr::memmem::Finder;
 use re_auto::{Meter, fresh_meter};
 use re_ends::Window;
-use re_runs::{
-    bytes_over, bytes_to, count_by, find_text, first_line_with, has_no_newline, line_end,
-    next_line_with,
-};
+use re_runs::{bytes_over, bytes_to, find_text, first_line_with, line_end, next_line_with};
 use re_strings::add_occurrences;
 use re_trees::Span;
 use std::alloc::{AllocError, Global};
@@ -123,10 +120,9 @@ impl Look {
         }
     }
 
-    // The place of that line, where the strings can be on a line. The block is looked over once.
+    // The place of that line. The block is looked over once.
     fn next_line(&self, block: &[u8], meter: &mut Meter) -> Option<Span>
-        requires block { IsBlock block.now }
-        requires one_line { IsOnLines self.now }
+        requires { IsBlock block.now }
         ensures reported { FindsMatched (look_expression self.now) false (lines_of block.now) result }
         ensures within { IfSome result (λ at. (at.start ≤ at.end) × (at.end < length block.now)) }
         ensures looked { LooksFor self.now block.now meter.old meter.new }
@@ -210,43 +206,6 @@ impl Strings {
             look,
             whole,
             backoff: ScanBackoff::new(),
-        }
-    }
-
-    /// How many lines of a block of whole lines are matched, like [`LineMatch::count_matched`]. Where
-    /// it is enough that a line has one string, each byte is passed at most once.
-    pub fn count_lines(&mut self, block: &[u8], meter: &mut Meter) -> u64
-        requires { IsBlock block.now }
-        ensures reported { CountsMatched (matched_strings self.old) self.old.whole
-            (lines_of block.now) result }
-        ensures same { SameMatcher matched_strings (λ s. s.whole) (λ s. 0) self.old self.new }
-        ensures steps { AddsAtMost (length block.now) meter.old meter.new }
-        ensures counted { (text : Text) → self.old.look ≡ One text → IsPartOfLines self.old →
-            1 ≤ length text →
-            meter.new ≡ many_built (length block.now) (many_passed (length block.now) meter.old) }
-    {
-        if self.is_part() {
-            if let Look::One(finder) = &self.look {
-                if !finder.needle().is_empty() {
-                    let count = count_by(finder, block, meter);
-                    meter.add_built(block.len() as u64);
-                    return count;
-                }
-            }
-        }
-        self.count_matched(block, meter)
-    }
-
-    // Whether each line that has a string is matched, and a line can have it.
-    fn is_part(&self) -> bool
-        ensures { IsTrue result ↔ IsPartOfLines self.now }
-    {
-        if self.whole {
-            return false;
-        }
-        match &self.look {
-            Look::One(finder) => has_no_newline(finder.needle()),
-            Look::Many(_) => true,
         }
     }
 
@@ -357,10 +316,10 @@ impl LineMatch for Strings {
             (λ at. (at.start ≤ at.end) × (at.end < length block.now)) }
         ensures same { SameMatcher matched_strings (λ s. s.whole) (λ s. 0) self.old self.new }
         ensures steps { AddsAtMost (next_cost block.now result) meter.old meter.new }
-        ensures counted { IsPartOfLines self.old →
+        ensures counted { self.old.whole ≡ false →
             CountsLook self.old block.now (next_cost block.now result) meter.old meter.new }
     {
-        if !self.is_part() {
+        if self.whole {
             return next_by_sweeps(self, block, meter);
         }
         let found = self.look.next_line(block, meter);

@@ -5,7 +5,7 @@ pub use Rattle.{
   re_needle.specs.Working.Outlines.{AddsOutline, AddsSets, AddsTurns, AreJoined, AreSetMarks, BeginsWith, Fits, IsOutline, Leads, MarkFits, shown},
   re_needle.specs.declared.needle.Needle.{Needle},
   re_needle.specs.declared.outline_item.OutlineItem.{OutlineItem},
-  re_runs.specs.Working.Blocks.{CountsMatched, FindsMatched, FindsNext, HoldsOfMany, Lacks, PassesAll, PassesUnmatched, StandsIn},
+  re_runs.specs.Working.Blocks.{FindsMatched, FindsNext, Lacks, PassesAll, PassesUnmatched, StandsIn},
   re_runs.specs.Working.Finders.{runs_of},
   re_runs.specs.Working.Runs.{FindsRun, IsLongestRun, IsNoWider, LacksRun, RunIsAt, RunStandsAt, Runs, front_of, members_of, most_sets, one_run, set_at, sets_of_each},
   re_runs.specs.declared.run_finder.RunFinder.{RunFinder},

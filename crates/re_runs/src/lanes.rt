@@ -1,7 +1,7 @@
 //! Vectors of 32 bytes. What each lane holds is in the contracts.
 ghost use Rattle.std.specs.Prelude.{◌≡◌, ◌≢◌, ◌==◌, if◌then◌else◌, ◌↔◌, ◌+◌, ◌/◌, ◌%◌, ◌<◌, ◌≤◌, ℕ};
 ghost use Rattle.std.specs.{Prelude.{length, slice_index, bit_and, min}, Int.bit_at};
-ghost use Rattle.memchr.specs.Lanes.{HasLanes};
+ghost use Rattle.memchr.specs.{Lanes.{HasLanes, Marks}, Find.{Passes, is_byte}};
 
 use std::simd::prelude::*;
 
@@ -96,4 +96,35 @@ pub fn without(marks: u64, bit: usize) -> u64
     ensures no_more { (k : ℕ) → bit_at result k ≡ 1 → bit_at marks k ≡ 1 }
 {
     marks & !(1 << bit)
+}
+
+/// The highest bit that is set.
+#[inline(always)]
+pub fn highest(marks: u64) -> usize
+    requires { marks ≢ 0 }
+    ensures bound { result < 64 }
+    ensures set { bit_at marks result ≡ 1 }
+    ensures above { (k : ℕ) → result < k → bit_at marks k ≡ 0 }
+{
+    marks.ilog2() as usize
+}
+
+/// The marks below a bit.
+#[inline(always)]
+pub fn bits_below(marks: u64, bit: usize) -> u64
+    requires { bit < 64 }
+    ensures kept { (k : ℕ) → k < bit → bit_at result k ≡ bit_at marks k }
+    ensures no_more { (k : ℕ) → bit_at result k ≡ 1 → k < bit }
+{
+    marks & ((1 << bit) - 1)
+}
+
+/// A mark for each of the 32 bytes from a place on that is this byte.
+#[inline(always)]
+pub fn marks_of(byte: u8, line: &[u8], i: usize) -> u64
+    requires { i + 32 ≤ length line.now }
+    ensures marks { Marks (Passes (is_byte byte) line.now) i (i + 32) result }
+    ensures exact { (k : ℕ) → bit_at result k ≡ 1 → Passes (is_byte byte) line.now (i + k) }
+{
+    load(line, i).simd_eq(u8x32::splat(byte)).to_bitmask()
 }

@@ -105,9 +105,9 @@ impl RunFinder {
     }
 }
 
-// Whether the line begins with the text. Most lines differ in its first byte, before any call.
+/// Whether the line begins with the text. Most lines differ in its first byte, before any call.
 #[inline(always)]
-fn begins_with(line: &[u8], text: &[u8]) -> bool
+pub fn begins_with(line: &[u8], text: &[u8]) -> bool
     ensures { IsTrue result ↔ RunStandsAt line.now (one_run (map only text.now)) 0 }
 {
     if line.len() < text.len() {

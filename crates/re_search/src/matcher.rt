@@ -134,13 +134,6 @@ impl LineMatch for Matcher {
             Matcher::Cached(cached) => cached.next_matched(block, meter),
         }
     }
-
-    fn count_matched(&mut self, block: &[u8], meter: &mut Meter) -> u64 {
-        match self {
-            Matcher::Strings(strings) => strings.count_lines(block, meter),
-            Matcher::Cached(cached) => cached.count_matched(block, meter),
-        }
-    }
 }
 
 /// The matcher for a tree that is not too large: it looks for a string, or steps an automaton.

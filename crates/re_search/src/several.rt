@@ -91,9 +91,9 @@ fn better(best: Option<Span>, found: Option<Span>) -> Option<Span>
     best
 }
 
-/// Whether some matcher matches the line. `whole` is what all matchers answer to whether the whole
-/// line has to be matched. None is asked after the first that matches. It takes at most one step
-/// for each matcher and byte, and one more for each matcher, and passes at most as many bytes.
+/// Whether some matcher matches the line. `whole` is as for [`parts`]. None is asked after the first
+/// that matches. It takes at most one step for each matcher and byte, and one more for each matcher,
+/// and passes at most as many bytes.
 pub fn is_matched(matchers: &mut [Matcher], _whole: bool, line: &[u8], meter: &mut Meter) -> bool
     requires alike { AreAlike _whole matchers.old }
     ensures reported { IsTrue result ↔ IsSought (sought_of _whole matchers.old) line.now }
@@ -110,10 +110,10 @@ pub fn is_matched(matchers: &mut [Matcher], _whole: bool, line: &[u8], meter: &m
 }
 
 /// The first line of a block of whole lines that some matcher matches, by its place without its
-/// newline. `whole` is what all matchers answer to whether the whole line has to be matched. It
-/// takes at most one step for each matcher and byte up to that newline, and one more for each
-/// matcher, and passes at most as many bytes. If no line is matched, it takes at most one step for
-/// each matcher and byte of the block, and passes at most as many bytes.
+/// newline. `whole` is as for [`parts`]. It takes at most one step for each matcher and byte up to
+/// that newline, and one more for each matcher, and passes at most as many bytes. If no line is
+/// matched, it takes at most one step for each matcher and byte of the block, and passes at most as
+/// many bytes.
 pub fn next_matched(
     matchers: &mut [Matcher],
     whole: bool,
@@ -143,9 +143,8 @@ pub fn next_matched(
     }
 }
 
-/// How many lines of a block of whole lines some matcher matches. `whole` is what all matchers
-/// answer to whether the whole line has to be matched. It takes at most one step for each matcher
-/// and byte, and passes at most as many bytes.
+/// How many lines of a block of whole lines some matcher matches. `whole` is as for [`parts`]. It
+/// takes at most one step for each matcher and byte, and passes at most as many bytes.
 pub fn count_matched(matchers: &mut [Matcher], whole: bool, block: &[u8], meter: &mut Meter) -> u64
     requires alike { AreAlike whole matchers.old }
     requires block { IsBlock block.now }
@@ -154,9 +153,6 @@ pub fn count_matched(matchers: &mut [Matcher], whole: bool, block: &[u8], meter:
     ensures steps { AddsAtMost (length (expressions_of matchers.old) * length block.now) meter.old
         meter.new }
 {
-    if matchers.len() == 1 {
-        return matchers[0].count_matched(block, meter);
-    }
     let mut count: u64 = 0;
     let mut rest = block;
     'lines: loop {

@@ -1,7 +1,7 @@
 -- Matchers for fixed strings: one string by itself, or many in one pass.
 use Rattle.std.specs.Prelude.{◌⊎◌, Option, ◌-◌, ◌≡◌, map, ◌+◌, Bool, Some, drop, [], None, true}
-use Rattle.std.specs.Prelude.{false, ⊤, length, ℕ}
-use Rattle.re_trees.specs.{Bytes.Text, declared.span.Span.Span, Lines.HasNoNewline}
+use Rattle.std.specs.Prelude.{length, ℕ}
+use Rattle.re_trees.specs.{Bytes.Text, declared.span.Span.Span}
 use Rattle.re_trees.specs.Expression.{Expression, byte, sequence}
 use Rattle.{re_meter.specs.Meters.{many_built, Steps}, re_runs.specs.Working.Blocks.LooksOnce}
 use Rattle.re_match.specs.declared.strings.Look.{TheVariants.{One, Many}, Look}
@@ -24,15 +24,6 @@ matched_strings matcher = look_expression matcher.look
 abbrev pub IsForSet : Look → Literals → Type 0
 IsForSet (One text) literals = ⊥
 IsForSet (Many set) literals = set.value ≡ literals
-
--- a line can have them
-abbrev pub IsOnLines : Look → Type 0
-IsOnLines (One text) = HasNoNewline text
-IsOnLines (Many set) = ⊤
-
--- they are looked for anywhere in a line, and a line can have them
-abbrev pub IsPartOfLines : StringMatcher → Type 0
-IsPartOfLines matcher = (matcher.whole ≡ false) × IsOnLines matcher.look
 
 -- they were looked for once: up to where the one string begins, or the first of many ends
 abbrev pub LooksFor : Look → Text → Steps → Steps → Type 0

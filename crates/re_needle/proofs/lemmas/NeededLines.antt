@@ -1,5 +1,5 @@
 -- Lines, and blocks of lines, that lack what an expression needs, or have all that it is.
-use Rattle.{re_needle.proofs.{Prelude.{ℕ, ◌+◌, ◌≤◌, Bool, false, List, length, map, get_or, arith, Text, Expression, Matches, Lacks, PassesAll, PassesUnmatched, IsNeeded, RunIsNeeded, Runs, LacksRun, byte, sequence, StandsIn, HoldsOfMany, CountsMatched, Option, Span, FindsMatched, FindsNext}, lemmas.{NeededLaws.sequence_needed, NeedleLaws.{lacks_run, matched_part}}}, re_trees.proofs.lemmas.FixedStrings.stands-matches, re_runs.proofs.lemmas.{Occurrences.occurs-stands, CountedBlocks.counts_same, NextLines.finds_same}}
+use Rattle.{re_needle.proofs.{Prelude.{ℕ, ◌+◌, ◌≤◌, Bool, false, List, length, map, get_or, arith, Text, Expression, Matches, Lacks, PassesAll, PassesUnmatched, IsNeeded, RunIsNeeded, Runs, LacksRun, byte, sequence, StandsIn, Option, Span, FindsMatched, FindsNext}, lemmas.{NeededLaws.sequence_needed, NeedleLaws.{lacks_run, matched_part}}}, re_trees.proofs.lemmas.FixedStrings.stands-matches, re_runs.proofs.lemmas.{Occurrences.occurs-stands, NextLines.finds_same}}
 
 -- a line without a text that the expression needs is not matched
 pub unmatched : (e : Expression) (text line : Text) (whole : Bool) → IsNeeded text e → Lacks text line → ¬ Matches e line whole
@@ -20,9 +20,6 @@ stands_literal text line (k, o) = stands-matches line text k _ (omega arith) (oc
 
 pub literal_stands : (text line : Text) → Matches (sequence (map byte text)) line false → StandsIn text line
 literal_stands text line (i, j, within, holds) = let there = sequence_needed text line i j within holds in (there.0, there.3)
-
-pub counts_literal : (text : Text) (lines : List Text) (n : ℕ) → HoldsOfMany (StandsIn text) lines n → CountsMatched (sequence (map byte text)) false lines n
-counts_literal text lines n h = counts_same (StandsIn text) (λ line. Matches (sequence (map byte text)) line false) (stands_literal text) (literal_stands text) lines n h
 
 -- the lines that have a string are those that it matches
 pub finds_literal : (text : Text) (lines : List Text) (found : Option Span) → FindsNext (StandsIn text) lines found → FindsMatched (sequence (map byte text)) false lines found

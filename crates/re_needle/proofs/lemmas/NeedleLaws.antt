@@ -39,12 +39,6 @@ run_is_needle marks finder is_first is_all is_common run rest start is stands so
   is,
 )
 
--- a string whose run is needed is needed
-pub text_needed : (text : Text) (e : Expression) → RunIsNeeded (one_run (map only text)) e → IsNeeded text e
-text_needed text e needed = λ line i j within h.
-    let (k, low, some) = needed line i j within h in let (there, high) = one_between (map only text) line j k some in
-    (k, low, omega (arith, length-map text only), run_text line text k (one_stands (map only text) line k there))
-
 -- of a run that is needed the first sets are
 pub front_needed : (front run : List Bytes) (e : Expression) → front ≡ front_of run → RunIsNeeded (one_run run) e → RunIsNeeded (one_run front) e
 front_needed front run e is needed = λ line i j within h.

@@ -91,7 +91,7 @@ passes_front_run run block at count (first, stands) front =
     passes_free_front (λ l k. RunStandsAt l run k) (λ l k o. stands_within l run k o) (run_before run) (run_after run) block at count inside (λ k below o. first.before k (omega arith) below o) front
 
 -- a line that lacks the run of a text lacks the text
-passes_text : (text block : Text) (count : ℕ) → PassesAll (LacksRun (one_run (map only text))) block count → PassesAll (Lacks text) block count
+pub passes_text : (text block : Text) (count : ℕ) → PassesAll (LacksRun (one_run (map only text))) block count → PassesAll (Lacks text) block count
 passes_text text block count (lines, rest, free, lack, is, counted) = (lines, rest, free, λ i d below k o. lack i d below k (text_run _ _ k o), is, counted)
 
 pub passes_whole : (text block : Text) → IsBlock block → FindsNeedle block text 0 None → PassesAll (Lacks text) block (length block)

@@ -1,5 +1,5 @@
 -- Newlines of a block, and a text in a line.
-use Rattle.re_runs.proofs.{Prelude.{◌≡◌, ◌≢◌, ℕ, suc, ◌+◌, ◌-◌, ◌<◌, ◌≤◌, inl, inr, List, [], ◌∷◌, ◌++◌, length, drop, take, slice_range, slice_index, get_or, sym, ap, ◌∙◌, arith, length-append, length-drop, length-take, dec_le, drop-append-add, get_or-append-add, get_or-drop, drop-append-le, All-from_get_or, Text, newline, terminated, HasNoNewline, OccursAt, ⊤, IsBlock, IsLineFrom, PassesAll, StandsIn, HoldsOfMany}, lemmas.{Ranges.{at_range, length_range, newline_at}, BlockLemmas.passed_within, Looks.place_in_line}}
+use Rattle.re_runs.proofs.{Prelude.{inl, inr, ◌≡◌, ◌≢◌, ℕ, suc, ◌+◌, ◌-◌, ◌<◌, ◌≤◌, List, [], ◌∷◌, ◌++◌, length, drop, slice_range, slice_index, get_or, sym, ap, ◌∙◌, arith, length-append, length-drop, dec_le, drop-append-add, get_or-append-add, get_or-drop, drop-append-le, All-from_get_or, Text, newline, terminated, HasNoNewline, OccursAt, IsBlock, IsLineFrom, StandsIn, HoldsOfMany}, lemmas.{Ranges.{at_range, length_range, newline_at}}}
 use native.Mathlib.Omega.{by_contra}
 
 -- ---- where a newline is
@@ -31,17 +31,19 @@ more_follow block k whole below other = by_contra _ _ (λ le. newline_follows bl
 
 -- ---- a text in a line
 
-module _ (text : Text) where
-  -- the line around a place of the text, which has no newline, has the text
-  pub stands_around : HasNoNewline text → (block : Text) (at start end : ℕ) → OccursAt block text at → PassesAll (λ _. ⊤) (take at block) start → HasNoNewline (drop start (take at block)) → IsLineFrom block start end → StandsIn text (slice_range block start end)
-  stands_around free block at start end o passes none cut =
-      let low : start ≤ at = omega (arith, passed_within (λ _. ⊤) (take at block) start passes, length-take at block) in
-      let near = place_in_line block start at end (omega arith) low none cut in
-      let fits : at + length text ≤ end = by_contra _ _ (λ far.
-      free (end - at) 0 (omega arith) (sym (o.reads (end - at) (omega arith)) ∙ ap (λ n. get_or block n 0) (omega arith) ∙ newline_at block start end cut)) in (
-        at - start,
-        record { fits = omega (arith, length_range block start end (omega arith)); reads = λ j below. at_range block start end (at - start + j) (omega arith) ∙ ap (λ n. get_or block n 0) (omega arith) ∙ o.reads j below },
-      )
+module _ (text block : Text) (at : ℕ) (o : OccursAt block text at) where
+  -- the line around the text, which ends after it, has it
+  pub stands_around : (start end : ℕ) → start ≤ at → at + length text ≤ end → IsLineFrom block start end → StandsIn text (slice_range block start end)
+  stands_around start end low fits cut = (
+    at - start,
+    record { fits = omega (arith, length_range block start end (omega (arith, cut.1))); reads = λ j below. at_range block start end (at - start + j) (omega arith) ∙ ap (λ n. get_or block n 0) (omega arith) ∙ o.reads j below },
+  )
+
+  -- if the line ends before the text does, no line has the text
+  pub stands_nowhere : (end : ℕ) → IsLineFrom block at end → end < at + length text → (line : Text) → HasNoNewline line → ¬ StandsIn text line
+  stands_nowhere end cut far line free (k, there) =
+      let low = cut.0 in let fits = there.fits in
+      free (k + (end - at)) 0 (omega arith) (there.reads (end - at) (omega arith) ∙ sym (o.reads (end - at) (omega arith)) ∙ ap (λ n. get_or block n 0) (omega arith) ∙ newline_at block at end cut)
 
 -- ---- the same lines in another form
 

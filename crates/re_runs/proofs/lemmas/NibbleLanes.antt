@@ -1,5 +1,5 @@
 -- What operations on vectors of 32 bytes hold at each lane, beside those of memchr.
-use Rattle.{re_runs.proofs.Prelude.{IsTrue, bits_of, half_of, HasBitAt, AllPass, Probes, bit_at-zero, bit_at_and, ◌≡◌, ◌≢◌, ◌↔◌, ℕ, ◌+◌, ◌*◌, ◌/◌, ◌%◌, ◌^◌, ◌<◌, List, Bool, true, false, not, cond, eqb, ltb, min, bit_and, length, get_or, slice_index, map, replicate, refl, sym, ap, ◌∙◌, eq-eqb, arith, w8, bit_at, zip2, sel_l, mask_l, top, HasLanes, Text, Alike, Probe, HasBits, mark_of, ltb-true, ltb-false, eqb-true, eqb-false, get_or-zip2, get_or-replicate, length-zip2, length-swz_l, get_or-swz_l_below, swz_l, SwzOk, SwzOk-from_below, Each1-from_get_or, length-sel_l, get_or-sel_l, tops_compared, bitmask_splat, bit_mask_l}, std.proofs.Math.ListN.get_or-map, memchr.proofs.lemmas.LaneLemmas.{HasLanes-zip2, HasLanes-select}}
+use Rattle.{re_runs.proofs.Prelude.{IsTrue, bits_of, half_of, HasBitAt, AllPass, Probes, bit_at-zero, bit_at_and, ◌≡◌, ◌≢◌, ◌↔◌, ℕ, ◌+◌, ◌*◌, ◌/◌, ◌%◌, ◌^◌, ◌<◌, List, Bool, true, false, not, cond, eqb, ltb, min, bit_and, length, get_or, slice_index, map, replicate, refl, sym, ap, ◌∙◌, arith, w8, bit_at, zip2, sel_l, mask_l, top, HasLanes, Text, Probe, ltb-true, ltb-false, eqb-true, eqb-false, get_or-zip2, get_or-replicate, length-zip2, length-swz_l, get_or-swz_l_below, swz_l, SwzOk, SwzOk-from_below, Each1-from_get_or, length-sel_l, get_or-sel_l, tops_compared, bitmask_splat, bit_mask_l}, std.proofs.Math.ListN.get_or-map, memchr.proofs.lemmas.LaneLemmas.{HasLanes-zip2, HasLanes-select}}
 
 -- an operator on a vector and a splat
 pub with_splat : (f : ℕ → ℕ → ℕ) (a : List ℕ) (x : ℕ) → length a ≡ 32 → HasLanes (zip2 f a (replicate 32 x)) (λ k. f (get_or a k 0) x)
@@ -71,31 +71,14 @@ equal_lanes v asked bits chosen long h =
     let reported = HasLanes-select eqb chosen bits 255 0 h.long in
     rw (tops_compared w8 eqb chosen (replicate 32 bits)) (record { long = reported.long; each = λ k l. cc (reported.each k l, h.each k l ∙ ap (bit_and (get_or v k 0)) (get_or-replicate 32 k asked 0 l)) })
 
-its_mark : (alike : Alike) (x : ℕ) → HasBits alike x → mark_of alike x ≡ 255
-its_mark alike x has = rw (eq-eqb (bit_and x alike.asked) alike.bits has)
-
 -- ---- where probes are passed, by vectors of what their tests give
 
 module _ (each : Bool) (probes : Probes) (line : Text) (place k : ℕ) (all : AllPass each probes line (place + k)) (below : k < 32) where
-  abbrev AreMarks : Probe → List ℕ → Type 0
-  AreMarks probe a = HasLanes a (λ i. mark_of probe.alike (slice_index line (place + i + probe.at)))
-
   abbrev AreBits : Probe → List ℕ → Type 0
   AreBits probe a = HasLanes a (λ i. bits_of probe.nibbles (slice_index line (place + i + probe.at)))
 
   abbrev AreBoth : List ℕ → List ℕ → List ℕ → Type 0
   AreBoth v a b = HasLanes v (λ i. bit_and (get_or a i 0) (get_or b i 0))
-
-  -- two marks have all bits in common
-  pub both_marked : (v a b : List ℕ) → AreBoth v a b → AreMarks probes.first a → AreMarks probes.second b → get_or v k 0 ≢ 0
-  both_marked v a b both first second zero =
-      let left = first.each k below ∙ its_mark probes.first.alike _ all.first.1 in
-      let right = second.each k below ∙ its_mark probes.second.alike _ all.second.1 in
-      let one : get_or v k 0 ≡ 255 = cc (both.each k below) in absurd (omega arith)
-
-  -- neither of two look-ups is 0
-  pub two_met : (v a b : List ℕ) → HasLanes v (λ i. min (get_or a i 0) (get_or b i 0)) → AreBits probes.first a → AreBits probes.second b → get_or v k 0 ≢ 0
-  two_met v a b met first second none = omega (arith, met.each k below, first.each k below, second.each k below)
 
   abbrev AreHalves : Probe → List ℕ → Type 0
   AreHalves probe a = HasLanes a (λ i. half_of probe.nibbles (slice_index line (place + i + probe.at)))

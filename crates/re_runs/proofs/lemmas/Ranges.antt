@@ -1,5 +1,5 @@
 -- Ranges of bytes, and lines of a block by their two places.
-use Rattle.{re_runs.proofs.Prelude.{◌≡◌, ℕ, suc, ◌+◌, ◌-◌, ◌<◌, ◌≤◌, ◌++◌, ◌∷◌, [], length, take, drop, get_or, slice_index, slice_range, sym, ap, ◌∙◌, arith, length-take, length-drop, get_or-take, get_or-drop, get_or-append-add, drop-drop, drop-cons, take-append-drop, All-append, ◌≢◌, Text, newline, HasNoNewline, IsLineFrom}, std.proofs.lemmas.List.{drop-take, take-take, take_more, Folds.drop_split}}
+use Rattle.{re_runs.proofs.Prelude.{◌≡◌, ℕ, suc, ◌+◌, ◌-◌, ◌<◌, ◌≤◌, ◌++◌, ◌∷◌, [], length, take, drop, get_or, slice_index, slice_range, sym, ap, ◌∙◌, arith, length-take, length-drop, get_or-take, get_or-drop, get_or-append-add, drop-drop, drop-cons, take-append-drop, drop-append-le, All-append, ◌≢◌, Text, newline, HasNoNewline, IsLineFrom}, std.proofs.lemmas.List.{drop-take, take-take, take_more, Folds.drop_split}}
 
 -- a byte of a range is one of the buffer
 pub at_range : (buffer : Text) (start end k : ℕ) → start + k < end → get_or (slice_range buffer start end) k 0 ≡ get_or buffer (start + k) 0
@@ -56,6 +56,20 @@ pub line_before : (block : Text) (start place end : ℕ) → start ≤ place →
 line_before block start place end low free cut =
     line_here block start end (omega arith) cut.1
     (rw (joined_range block start place end low cut.0) at (All-append (λ b. b ≢ newline) (slice_range block start place) (slice_range block place end) free cut.2)) (newline_at block place end cut)
+
+-- the line around a place goes on to the newline after it
+module _ (block : Text) (start place : ℕ) (low : start ≤ place) (free : HasNoNewline (drop start (take place block))) where
+  pub line_around : (end : ℕ) → IsLineFrom block place end → IsLineFrom block start end
+  line_around end cut =
+      let same : drop start (take place block) ≡ slice_range block start place = ap (λ n. drop start (take n block)) (omega arith) ∙ drop-take start (place - start) block in
+      line_before block start place end low (rw same at free) cut
+
+  -- or to the block's end
+  pub none_around : place ≤ length block → HasNoNewline (drop place block) → HasNoNewline (drop start block)
+  none_around within none =
+      let split : drop start block ≡ drop start (take place block) ++ drop place block =
+      ap (drop start) (sym (take-append-drop place block)) ∙ drop-append-le start (take place block) (drop place block) (omega (arith, length-take place block)) in
+      rw split (All-append (λ b. b ≢ newline) (drop start (take place block)) (drop place block) free none)
 
 -- a range of the rest of a block is one of the block
 pub range_after : (block : Text) (s a end : ℕ) → slice_range (drop s block) a (end - s) ≡ slice_range block (s + a) end

@@ -41,10 +41,6 @@ HoldsOfMany Holds (line ∷ lines) count =
     (others : ℕ) × HoldsOfMany Holds lines others
     × ((Holds line × (count ≡ others + 1)) ⊎ ((Holds line → ⊥) × (count ≡ others)))
 
--- `count` of the lines are matched
-abbrev pub CountsMatched : Expression → Bool → List Text → ℕ → Type 0
-CountsMatched e whole lines count = HoldsOfMany (λ line. Matches e line whole) lines count
-
 -- ---- the next line that is matched
 
 -- the place, in the bytes of the lines with their newlines, of the first line for which this holds

@@ -1,14 +1,14 @@
-use Rattle.re_runs.proofs.{Prelude.{take, arith, length-take, ⊤}, lemmas.{BlockLemmas.{passes_front_run, passes_whole_run, passed_within}, Looks.{look_in_line, none_after}}}
+use Rattle.re_runs.proofs.{Prelude.{take, refl, arith, length-take, ⊤}, lemmas.{BlockLemmas.{passes_front_run, passes_whole_run, passed_within}, Looks.{look_in_line, none_after}}}
 use Rattle.re_runs.proofs.block.swept_at.Goals as goal
 
 pub returns-in_default-clause-passes : goal.returns-in_default-clause-passes
-returns-in_default-clause-passes c = λ run finds. rw c.nothing_in.ensures.start (passes_whole_run _ _ c.requires.block (rw c.in_default.is at finds))
+returns-in_default-clause-passes c = λ run finds. passes_whole_run _ _ c.requires.block (rw c.in_default.is at finds)
 
 pub returns-in_default-clause-stops : goal.returns-in_default-clause-stops
-returns-in_default-clause-stops c = λ end. none_after c.args.block.now end _ c.nothing_in.ensures.start
+returns-in_default-clause-stops c = λ end. none_after c.args.block.now end _ refl
 
 pub returns-in_default-clause-low : goal.returns-in_default-clause-low
-returns-in_default-clause-low c = rw c.nothing_in.ensures.place tt
+returns-in_default-clause-low c = tt
 
 pub returns-clause-passes : goal.returns-clause-passes
 returns-clause-passes c = λ run finds. passes_front_run run c.args.block.now c.in-Some.at c.line_start.result (rw c.in-Some.is at finds) c.line_start.ensures.lines

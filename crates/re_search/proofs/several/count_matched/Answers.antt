@@ -1,4 +1,4 @@
-use Rattle.{re_search.proofs.{Prelude.{◌-◌, ◌≡◌, ◌+◌, None, Some, length, drop, ap, subst, arith, length-drop, take_rest, lines_of, expressions_of, sought_of, Sought, IsSought, FindsSought}, lemmas.{KeptMatchers.{same_over, same_sought}, OneMatcher.sought_alone, SearchedBlocks.times_more}}, re_runs.proofs.lemmas.{CountedBlocks.counts_same, NextLines.{CountsTo, counts_next, counts_all}}}
+use Rattle.{re_search.proofs.{Prelude.{◌-◌, ◌≡◌, ◌+◌, None, Some, length, drop, ap, subst, arith, length-drop, take_rest, lines_of, expressions_of, sought_of, Sought, IsSought, FindsSought}, lemmas.{KeptMatchers.{same_over, same_sought}, SearchedBlocks.times_more}}, re_runs.proofs.lemmas.NextLines.{CountsTo, counts_next, counts_all}}
 use Rattle.re_search.proofs.several.count_matched.Goals as goal
 
 pub returns-in_default-clause-reported : goal.returns-in_default-clause-reported
@@ -26,8 +26,3 @@ lines-preserved c =
       same = same_over c.next_matched.ensures.same_matchers i.same;
       steps = times_more n (length block - length rest) (at.end + 1) _ i.steps (rw many at c.in-Some.ensures.steps) (omega (arith, i.counts.few, within.1, length-drop (at.end + 1) rest));
     }
-
-pub returns-then-matchers-eq1-clause-reported : goal.returns-then-matchers-eq1-clause-reported
-returns-then-matchers-eq1-clause-reported c =
-    let alone = sought_alone c.args.matchers.now c.index-matchers-0.result c.args.whole c.if-matchers-eq1.true c.requires.alike in
-    counts_same _ _ (λ line. (alone line).0) (λ line. (alone line).1) (lines_of c.args.block.now) c.count_matched.result c.count_matched.ensures.reported

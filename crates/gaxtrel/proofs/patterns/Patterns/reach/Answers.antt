@@ -14,6 +14,6 @@ returns-clause-reached c =
     let most = c.most_of.result in
     let less = less_of _ _ c.most_of.ensures.few (λ e. c.if-end-text.false (omega (arith, c.if-from-text.false))) in
     let width : c.args.from + most - c.args.from ≡ most = omega arith in
-    let lines = rw width at c.line_start.ensures.lines in
-    let last = rw width at c.line_start.ensures.last in
+    let lines = rw width at c.last_line.ensures.lines in
+    let last = rw width at c.last_line.ensures.last in
     inr (most, c.most_of.ensures.within, c.most_of.ensures.most less, omega arith, ap (λ k. c.args.from + k) (whole_lines _ _ lines last))

@@ -7,7 +7,7 @@ returns-in-One-clause-reported c = rw c.in-One.is (finds_literal c.in-One.finder
 pub returns-in_err-end-clause-reported : goal.returns-in_err-end-clause-reported
 returns-in_err-end-clause-reported c =
     let matched = λ (line : Text). Matches (any_literal c.in-Many.set.value) line false in
-    rw (c.from_residual.ensures, c.in-Many.is) (none_next matched c.args.block.now c.first_line-start.result.start c.requires.block (rw c.deref.ensures at c.first_line-start.ensures.passes) c.in_err-end.ensures)
+    rw (c.from_residual.ensures, c.in-Many.is) (none_next matched c.args.block.now c.first_line-start.result.start c.requires (rw c.deref.ensures at c.first_line-start.ensures.passes) c.in_err-end.ensures)
 
 pub returns-in_err-end-clause-looked : goal.returns-in_err-end-clause-looked
 returns-in_err-end-clause-looked c = rw c.in-Many.is (rw c.deref.ensures at c.first_line-start.ensures.looked)
