@@ -3,7 +3,7 @@ use Rattle.grep_io.proofs.input.newlines.newlines_in_vectors.Goals as goal
 
 pub vectors-init : goal.vectors-init
 vectors-init c = record {
-  few = Each1-replicate (λ a. a ≤ 0) 32 0 zero-le;
+  few = Each1-replicate (λ a. a ≤ 0) 64 0 zero-le;
   counted = sym (rw (places_between-none (is_byte newline) c.args.bytes.now c.args.from (c.args.from + 0) (omega arith) (λ k a b. absurd (omega arith))));
 }
 
@@ -16,15 +16,15 @@ overflow_add-counts c = Each2-of (λ a. a ≤ c.vectors.place) (λ a. a ≤ 1) (
 pub vectors-preserved : goal.vectors-preserved
 vectors-preserved c =
     let bytes = c.args.bytes.now in
-    let here = c.args.from + 32 * c.vectors.place in
+    let here = c.args.from + 64 * c.vectors.place in
     let new = c.newlines_at-counts.result in
-    let within : here + 32 ≤ length bytes = omega arith in
-    let long = ap length c.newlines_at-counts.ensures ∙ length-map _ _ ∙ length-chunk here 32 bytes within in
-    let count : 32 ≡ c.args.from + 32 * (c.vectors.place + 1) - here = omega arith in
+    let within : here + 64 ≤ length bytes = omega arith in
+    let long = ap length c.newlines_at-counts.ensures ∙ length-map _ _ ∙ length-chunk here 64 bytes within in
+    let count : 64 ≡ c.args.from + 64 * (c.vectors.place + 1) - here = omega arith in
     record {
       few = Each1-zip2 (λ a b. a + b) (λ a. a ≤ c.vectors.place + 1) c.vectors.counts new
           (Each2-of (λ a. a ≤ c.vectors.place) (λ a. a ≤ 1) (λ a b. a + b ≤ c.vectors.place + 1) (λ a b le le'. omega arith) c.vectors.counts new c.vectors.invariant.few (ones c));
-      counted = cc (sum-zip2 c.vectors.counts new (c.vectors.auto.counts.0 ∙ sym long), c.vectors.invariant.counted, ap sum_l c.newlines_at-counts.ensures ∙ sum_of_ones newline bytes here 32 within ∙ ap (λ n. length (places_from (is_byte newline) bytes here n)) count, places_joined (is_byte newline) bytes c.args.from here (c.args.from + 32 * (c.vectors.place + 1)) (omega arith) (omega arith));
+      counted = cc (sum-zip2 c.vectors.counts new (c.vectors.auto.counts.0 ∙ sym long), c.vectors.invariant.counted, ap sum_l c.newlines_at-counts.ensures ∙ sum_of_ones newline bytes here 64 within ∙ ap (λ n. length (places_from (is_byte newline) bytes here n)) count, places_joined (is_byte newline) bytes c.args.from here (c.args.from + 64 * (c.vectors.place + 1)) (omega arith) (omega arith));
     }
 
 pub overflow_cast-result : goal.overflow_cast-result
@@ -37,11 +37,11 @@ widened xs = rw (map-id xs)
 pub overflow_add-result : goal.overflow_add-result
 overflow_add-result c =
     let most = sum_bound 255 c.vectors.counts (bytes_below c.vectors.counts c.vectors.auto.counts.1) in
-    let long : 255 * length c.vectors.counts ≡ 8160 = rw c.vectors.auto.counts.0 in
+    let long : 255 * length c.vectors.counts ≡ 16320 = rw c.vectors.auto.counts.0 in
     sum_fits w16 0 _ (omega (arith, widened c.vectors.counts))
 
 pub returns : goal.returns
 returns c =
     let ends : c.vectors.place ≡ c.args.vectors = omega arith in
     let all : 0 + sum_l c.vectors.counts ≡ sum_l c.vectors.counts = omega arith in
-    fold-sum 0 _ ∙ ap (λ n. 0 + n) (widened c.vectors.counts) ∙ all ∙ c.vectors.invariant.counted ∙ ap (λ k. length (places_between (is_byte newline) c.args.bytes.now c.args.from (c.args.from + 32 * k))) ends
+    fold-sum 0 _ ∙ ap (λ n. 0 + n) (widened c.vectors.counts) ∙ all ∙ c.vectors.invariant.counted ∙ ap (λ k. length (places_between (is_byte newline) c.args.bytes.now c.args.from (c.args.from + 64 * k))) ends
