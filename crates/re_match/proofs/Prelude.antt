@@ -16,7 +16,7 @@ pub use Rattle.{
   re_match.specs.declared.sweeps.Stop.TheVariants.{Decided, Seen, Unseen},
   re_match.specs.declared.sweeps.Sweep.{Sweep},
   re_meter.specs.Meters.{AddsUpTo, Steps, many_passed},
-  re_needle.specs.Working.Needles.{IsJustRun, IsNeedleOf},
+  re_needle.specs.Working.Needles.{IsNeedleOf, RunSuffices},
   re_needle.specs.declared.needle.Needle.{Needle},
   re_runs.specs.Working.Blocks.{IsBlock, IsLineFrom, PassesAll, PassesUnmatched, StopsInLine},
   re_runs.specs.Working.Finders.{runs_of},

@@ -18,7 +18,7 @@ use crate::window::{Edges, rest_of};
 use re_auto::Meter;
 use re_ends::Window;
 use re_needle::{Needle, has_begin};
-use re_runs::{RunFinder, Swept, bytes_over, first_line_with_run, has_no_newline};
+use re_runs::{RunFinder, Swept, bytes_over, first_line_with_run, line_end};
 use re_trees::{Span, Tree};
 use std::alloc::{AllocError, Global};
 
@@ -46,8 +46,17 @@ impl Prefilter {
         })
     }
 
+    // Whether a look for a string decided the line where it stopped. The next line begins with one, too,
+    // as none is faster.
+    fn has_string(&self, stop: Stop) -> bool {
+        let Some(needle) = &self.needle else {
+            return false;
+        };
+        matches!(stop, Stop::Decided(true)) && needle.finder.text().is_some()
+    }
+
     /// Whether the line is matched, if one look over it says so. A run that is common is looked for
-    /// over blocks alone, and so is one that most lines had of late, unless it is all there is.
+    /// over blocks alone, and so is one that most lines had of late, unless it decides them.
     #[inline(always)]
     pub fn settled(&self, line: &[u8], whole: bool, meter: &mut Meter) -> Option<bool>
         ensures settled { (e : Expression) → IsPrefilterFor e self.now →
@@ -64,13 +73,13 @@ impl Prefilter {
             }
             return Some(false);
         }
-        if needle.is_common || !needle.is_all && self.backoff.rests() {
+        if !needle.suffices && (needle.is_common || self.backoff.rests()) {
             return None;
         }
         if needle.finder.find(line, meter).is_none() {
             return Some(false);
         }
-        if needle.is_all && !whole {
+        if needle.suffices && !whole {
             return Some(true);
         }
         None
@@ -86,7 +95,7 @@ impl Prefilter {
             return 0;
         }
         match &self.needle {
-            Some(needle) if needle.is_all => 0,
+            Some(needle) if needle.suffices => 0,
             _ => self.backoff.walk(),
         }
     }
@@ -108,7 +117,7 @@ impl Prefilter {
         if whole && needle.is_first && is_inside(swept) {
             return Sweep::to(swept.start, reached, Stop::Decided(false));
         }
-        if needle.is_all && !whole && has_run(&needle.finder, block, swept) {
+        if needle.suffices && !whole && has_run(&needle.finder, block, swept) {
             return Sweep::to(swept.start, reached, Stop::Decided(true));
         }
         let first = self.first_place(needle, whole, swept);
@@ -173,7 +182,9 @@ impl Prefilter {
             return Sweep::to(0, 0, Stop::Unseen);
         }
         let sweep = self.first_line(block, whole, meter);
-        self.backoff.note(sweep.first);
+        if !self.has_string(sweep.stop) {
+            self.backoff.note(sweep.first);
+        }
         meter.add_built(sweep.start as u64);
         sweep
     }
@@ -217,8 +228,8 @@ fn is_inside(swept: Swept) -> bool
     }
 }
 
-// Whether the run that a look found is surely in one line: no newline is among as many bytes as the
-// longest has. A run of sets may go over one.
+// Whether the run that a look found is surely in one line: as many bytes as the longest has are before
+// the next newline. A run of sets may go over one.
 fn has_run(finder: &RunFinder, block: &[u8], swept: Swept) -> bool
     requires { FindsRun block.now (runs_of finder.now) swept.place }
     ensures { IsTrue result → (at : ℕ) × (swept.place ≡ Some at)
@@ -228,6 +239,8 @@ fn has_run(finder: &RunFinder, block: &[u8], swept: Swept) -> bool
     let Some(at) = swept.place else {
         return false;
     };
-    let end = at + finder.longest().min(block.len() - at);
-    has_no_newline(&block[at..end])
+    match line_end(block, at) {
+        Some(end) => finder.longest() <= end - at,
+        None => false,
+    }
 }

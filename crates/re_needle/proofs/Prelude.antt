@@ -1,8 +1,8 @@
 -- The words of specs and of std that proofs of this crate use, passed on from one place. Declares nothing.
 pub use Rattle.{
   re_needle.specs.Working.Branches.{AreRunsOf, IsRunOf, branch_within, branches_within, choice_within},
-  re_needle.specs.Working.Needles.{HasNoBegin, IsJustRun, IsNeeded, IsNeedleFor, IsNeedleOf, IsRunNeedleFor, IsSettled, RunBegins, RunIsNeeded, StandsBetween},
-  re_needle.specs.Working.Outlines.{AddsOutline, AddsSets, AddsTurns, AreJoined, AreSetMarks, BeginsWith, Fits, IsOutline, Leads, MarkFits, shown},
+  re_needle.specs.Working.Needles.{HasNoBegin, IsJustRun, IsNeeded, IsNeedleFor, IsNeedleOf, IsRunNeedleFor, IsSettled, RunBegins, RunIsNeeded, RunSuffices, StandsBetween},
+  re_needle.specs.Working.Outlines.{AddsOutline, AddsSets, AddsTurns, AreJoined, BeginsWith, Fits, IsOptional, IsOutline, Leads, MarkFits, MarkSuffices, Suffices, shown},
   re_needle.specs.declared.needle.Needle.{Needle},
   re_needle.specs.declared.outline_item.OutlineItem.{OutlineItem},
   re_runs.specs.Working.Blocks.{FindsMatched, FindsNext, Lacks, PassesAll, PassesUnmatched, StandsIn},
@@ -17,7 +17,7 @@ pub use Rattle.{
   re_trees.specs.declared.bytes.ByteSet.{ByteSet},
   re_trees.specs.declared.span.Span.{Span},
   re_trees.specs.declared.tree.Tree.{Tree},
-  std.proofs.Common.{All, Any, Bool, Err, IfOk, IsTrue, List, None, Ok, Option, Result, Some, [], ap, append-nil, append_assoc, arith, drop, eqb-true, false, get_or, get_or-set_other, get_or-take, inl, inr, is_some, length, length-append, length-drop, length-set, length-take, map, min, nat_eq, refl, replicate, rules, set, slice_get, slice_index, subst, suc, sym, take, take-append-drop, take_all, true, zero, ℕ, ◌&&◌, ◌++◌, ◌+◌, ◌-◌, ◌<◌, ◌↔◌, ◌∙◌, ◌∷◌, ◌≡◌, ◌≢◌, ◌≤◌, ◌⊎◌},
+  std.proofs.Common.{All, Any, Bool, Err, IfOk, IfSome, IsTrue, List, None, Ok, Option, Result, Some, [], ap, append-nil, append_assoc, arith, drop, eqb-true, false, get_or, get_or-set_other, get_or-take, inl, inr, is_some, length, length-append, length-drop, length-set, length-take, map, min, nat_eq, refl, replicate, rules, set, slice_get, slice_index, subst, suc, sym, take, take-append-drop, take_all, true, zero, ℕ, ◌&&◌, ◌++◌, ◌+◌, ◌-◌, ◌<◌, ◌↔◌, ◌∙◌, ◌∷◌, ◌≡◌, ◌≢◌, ◌≤◌, ◌⊎◌},
   std.proofs.Math.Decide.{dec_le},
   std.proofs.lemmas.Bool.{false≢true, or_left, or_right},
   std.proofs.lemmas.Grind.{get_or-set_at},

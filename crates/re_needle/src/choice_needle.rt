@@ -78,6 +78,7 @@ fn needle_around(
             runs,
             are_first,
             are_all,
+            suffice,
         },
     ) = branch_runs(alloc, before, branches, after)?
     else {
@@ -93,6 +94,7 @@ fn needle_around(
         finder: RunFinder::Sets(finder),
         is_first: are_first,
         is_all: are_all,
+        suffices: suffice,
         is_common: false,
     }))
 }
@@ -106,6 +108,8 @@ pub struct BranchRuns {
     pub are_first: bool,
     /// Whether the matches of each branch are exactly the places of its run.
     pub are_all: bool,
+    /// Whether each branch has a match wherever its run is.
+    pub suffice: bool,
 }
 
 // A run of each branch; `None` if one isn't known to need any.
@@ -122,6 +126,7 @@ fn branch_runs(
         runs: Vec::new(alloc),
         are_first: true,
         are_all: true,
+        suffice: true,
     };
     'branches: for place in 0..branches.len() {
         let marks = outline_around(alloc, before, &branches[place], after)?;
@@ -130,7 +135,9 @@ fn branch_runs(
         };
         let run = needle.finder.sets(alloc)?;
         found.are_first &= needle.is_first;
-        found.are_all &= needle.is_all && run.len() == needle.finder.longest();
+        let is_whole = run.len() == needle.finder.longest();
+        found.are_all &= needle.is_all & is_whole;
+        found.suffice &= needle.suffices & is_whole;
         found.runs.push(run)?;
     }
     Ok(Some(found))
@@ -143,7 +150,7 @@ fn outline_around(
     branch: &Tree,
     after: &[Tree],
 ) -> Result<Vec<OutlineItem>, AllocError>
-    ensures { IfOk result (λ marks. IsOutline (map shown marks.items)
+    ensures { IfOk result (λ marks. IsOutline marks.items
         (branch_within before.now (expression_of branch.now) after.now)) }
 {
     let mut marks = Vec::new(alloc);

@@ -46,6 +46,7 @@ fn next_run_set(mark: &OutlineItem, before: usize, of: RunKind) -> Option<ByteSe
     mark_survey(mark, of)?;
     match mark {
         OutlineItem::Set(set) => Some(*set),
+        OutlineItem::Optional => None,
         OutlineItem::Gap => None,
     }
 }

@@ -1,10 +1,10 @@
 //! What every match of an expression contains.
-ghost use Rattle.std.specs.Prelude.{◌≡◌, ◌≤◌, ◌++◌, List, Option, Some, IfOk, IfSome, IsTrue};
-ghost use Rattle.std.specs.Prelude.{false, length, map};
+ghost use Rattle.std.specs.Prelude.{◌≡◌, ◌+◌, ◌≤◌, ◌++◌, List, Option, Some, IfOk, IfSome, IsTrue};
+ghost use Rattle.std.specs.Prelude.{false, length, map, All, take, drop};
 ghost use Rattle.re_trees.specs.{Bytes.{Bytes, only}, Expression.{Expression, byte}};
 ghost use Rattle.re_trees.specs.Working.Trees.{expression_of, members};
 ghost use Rattle.re_needle.specs.Working.Needles.{IsNeedleFor, IsRunNeedleFor};
-ghost use Rattle.re_needle.specs.Working.Outlines.{IsOutline, shown};
+ghost use Rattle.re_needle.specs.Working.Outlines.{IsOptional, IsOutline, shown};
 
 use crate::choice::{Run, RunKind, best_run};
 use crate::choice_needle::{choice_needle, needle_inside};
@@ -41,6 +41,8 @@ pub struct Needle {
     pub is_first: bool,
     /// Whether the matches are exactly the places of the runs.
     pub is_all: bool,
+    /// Whether there is a match wherever a run is.
+    pub suffices: bool,
     /// Whether they are on most lines of some texts. Then it is looked for over blocks, as long
     /// as lines are passed, and not in each line before a search by kept steps.
     pub is_common: bool,
@@ -108,7 +110,7 @@ fn stops_of(needle: &Option<Needle>) -> u64 {
 /// there is none of these. The only error is that an allocation failed.
 pub fn run_needle(alloc: Global, marks: &[OutlineItem]) -> Result<Option<Needle>, AllocError>
     ensures { IfOk result
-        (λ found. (e : Expression) → IsOutline (map shown marks.now) e → IsRunNeedleFor e found) }
+        (λ found. (e : Expression) → IsOutline marks.now e → IsRunNeedleFor e found) }
 {
     let bytes = best_run(marks, RunKind::Bytes);
     let text = text_needle(alloc, marks, bytes.start, 2)?;
@@ -149,19 +151,21 @@ fn text_needle(
     requires start { start ≤ length marks.now }
     requires some { 1 ≤ least }
     ensures { IfOk result
-        (λ found. (e : Expression) → IsOutline (map shown marks.now) e → IsRunNeedleFor e found) }
+        (λ found. (e : Expression) → IsOutline marks.now e → IsRunNeedleFor e found) }
 {
     let bytes = leading_bytes(alloc, &marks[start..])?;
     if bytes.len() < least {
         return Ok(None);
     }
     let is_all = bytes.len() == marks.len();
+    let suffices = are_others_optional(marks, start, bytes.len());
     let is_common = !is_all && is_common_byte(&bytes);
     let finder = Finder::new(&bytes).into_owned(alloc)?;
     Ok(Some(Needle {
         finder: RunFinder::Text(finder),
         is_first: start == 0,
         is_all,
+        suffices,
         is_common,
     }))
 }
@@ -177,7 +181,7 @@ fn single_needle(
     requires bytes { bytes.start ≤ length marks.now }
     requires sets { sets.start ≤ length marks.now }
     ensures { IfOk result
-        (λ found. (e : Expression) → IsOutline (map shown marks.now) e → IsRunNeedleFor e found) }
+        (λ found. (e : Expression) → IsOutline marks.now e → IsRunNeedleFor e found) }
 {
     if !sets.is_rarer(bytes) {
         return text_needle(alloc, marks, bytes.start, 1);
@@ -206,13 +210,14 @@ fn set_needle(
     requires start { start ≤ length marks.now }
     requires some { 1 ≤ least }
     ensures { IfOk result
-        (λ found. (e : Expression) → IsOutline (map shown marks.now) e → IsRunNeedleFor e found) }
+        (λ found. (e : Expression) → IsOutline marks.now e → IsRunNeedleFor e found) }
 {
     let sets = leading_sets(alloc, &marks[start..], of)?;
     if sets.len() < least {
         return Ok(None);
     }
     let is_all = !is_common && sets.len() == marks.len();
+    let suffices = are_others_optional(marks, start, sets.len());
     let mut runs = Vec::new(alloc);
     runs.push(sets)?;
     let Some(finder) = SetFinder::new(alloc, runs)? else {
@@ -225,6 +230,7 @@ fn set_needle(
         finder: RunFinder::Sets(finder),
         is_first: start == 0,
         is_all,
+        suffices,
         is_common,
     }))
 }
@@ -251,7 +257,44 @@ fn byte_of(mark: &OutlineItem) -> Option<u8>
 {
     match mark {
         OutlineItem::Set(set) => set.one_byte(),
+        OutlineItem::Optional => None,
         OutlineItem::Gap => None,
+    }
+}
+
+// Whether all marks but `count` from a mark on are optional.
+fn are_others_optional(marks: &[OutlineItem], start: usize, count: usize) -> bool
+    requires { start + count ≤ length marks.now }
+    ensures { IsTrue result → All IsOptional (take start marks.now)
+        × All IsOptional (drop count (drop start marks.now)) }
+{
+    if !are_optional(&marks[..start]) {
+        return false;
+    }
+    let rest = &marks[start..];
+    are_optional(&rest[count..])
+}
+
+// Whether all of the marks are optional.
+fn are_optional(marks: &[OutlineItem]) -> bool
+    ensures { IsTrue result → All IsOptional marks.now }
+{
+    'marks: for place in 0..marks.len() {
+        if !is_optional(&marks[place]) {
+            return false;
+        }
+    }
+    true
+}
+
+// Whether the mark is an optional stretch.
+fn is_optional(mark: &OutlineItem) -> bool
+    ensures { IsTrue result → IsOptional mark.now }
+{
+    match mark {
+        OutlineItem::Optional => true,
+        OutlineItem::Set(_) => false,
+        OutlineItem::Gap => false,
     }
 }
 

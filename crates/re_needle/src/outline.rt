@@ -66,7 +66,7 @@ fn add_tree(
                 return add_repeated(marks, set, *least, *most);
             }
             if *least == 0 {
-                return add_mark(marks, OutlineItem::Gap);
+                return add_mark(marks, OutlineItem::Optional);
             }
             add_tree(alloc, part, inside, marks)?;
             add_mark(marks, OutlineItem::Gap)
@@ -129,8 +129,8 @@ fn one_set(tree: &Tree) -> Option<ByteSet>
     }
 }
 
-// Adds the outline of a repeated set: one mark for each time that it is repeated at least, and a
-// stretch if it may be repeated more often.
+// Adds the outline of a repeated set: one mark for each time that it is repeated at least, and an
+// optional stretch if it may be repeated more often.
 fn add_repeated(
     marks: &mut Vec<OutlineItem>,
     set: ByteSet,
@@ -142,20 +142,19 @@ fn add_repeated(
 {
     let turns = least.min(MOST_TURNS);
     add_turns(marks, set, turns)?;
-    if turns == least && is_just(most, least) {
+    if turns < least {
+        return add_mark(marks, OutlineItem::Gap);
+    }
+    let Some(top) = most else {
+        return add_mark(marks, OutlineItem::Optional);
+    };
+    if top < least {
+        return add_mark(marks, OutlineItem::Gap);
+    }
+    if top == least {
         return Ok(());
     }
-    add_mark(marks, OutlineItem::Gap)
-}
-
-// Whether there is a most, and it is `least`.
-fn is_just(most: Option<u16>, least: u16) -> bool
-    ensures { IsTrue result → most ≡ Some least }
-{
-    match most {
-        Some(top) => top == least,
-        None => false,
-    }
+    add_mark(marks, OutlineItem::Optional)
 }
 
 // Adds `turns` marks for the set.

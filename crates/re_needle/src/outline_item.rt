@@ -7,6 +7,8 @@ use re_trees::ByteSet;
 pub enum OutlineItem {
     /// One byte of the set.
     Set(ByteSet),
+    /// Any bytes, or none; none are enough.
+    Optional,
     /// Any bytes, or none.
     Gap,
 }

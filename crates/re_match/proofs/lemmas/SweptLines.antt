@@ -1,5 +1,5 @@
 -- What a look over a block says of the line in which it stopped.
-use Rattle.{re_match.{proofs.{Prelude.{◌≡◌, ◌∙◌, sym, min, [], suc, zero, ℕ, ◌+◌, ◌-◌, ◌<◌, ◌≤◌, ◌↔◌, ◌∷◌, inr, List, Bool, true, false, Some, length, take, drop, get_or, slice_range, slice_index, ap, refl, arith, length-take, length-drop, IsTrue, Text, Expression, Matches, newline, HasNoNewline, AddsUpTo, IsLineFrom, StopsInLine, PassesAll, PassesUnmatched, ⊤, IsJustRun, Runs, RunStandsAt, FindsRun, look_cost, Swept, Sweep, Stop, Unseen, Seen, Decided, StopsAt, left_for, steps_left, steps_to, false≢true}, lemmas.StepSums.adds_on}, specs.Working.Sweeps.{CountsSweep, StopsIn, Says}}, re_trees.specs.Bytes.Bytes, re_runs.{specs.Working.Runs.{IsNoWider, RunIsAt, longest_of}, proofs.lemmas.{BlockLemmas.passed_within, Looks.{look_within, place_in_line}, RunLaws.{run_before, run_whole}, Ranges.{at_range, drop_range, length_range, line_after, newline_at, range_after}}}, re_meter.{specs.Meters.{Steps, AddsAtMost}, proofs.lemmas.Adding.adds_both}, re_needle.{specs.Working.Needles.{HasNoBegin, RunBegins}, proofs.lemmas.{NeedleLaws.settled_says, LaterStarts.rest_matched}}}
+use Rattle.{re_match.{proofs.{Prelude.{◌≡◌, ◌∙◌, sym, min, [], suc, zero, ℕ, ◌+◌, ◌-◌, ◌<◌, ◌≤◌, ◌↔◌, ◌∷◌, inr, List, Bool, true, false, Some, length, take, drop, get_or, slice_range, slice_index, ap, refl, arith, length-take, length-drop, IsTrue, Text, Expression, Matches, newline, HasNoNewline, AddsUpTo, IsLineFrom, StopsInLine, PassesAll, PassesUnmatched, ⊤, RunSuffices, Runs, RunStandsAt, FindsRun, look_cost, Swept, Sweep, Stop, Unseen, Seen, Decided, StopsAt, left_for, steps_left, steps_to, false≢true}, lemmas.StepSums.adds_on}, specs.Working.Sweeps.{CountsSweep, StopsIn, Says}}, re_trees.specs.Bytes.Bytes, re_runs.{specs.Working.Runs.{IsNoWider, RunIsAt, longest_of}, proofs.lemmas.{BlockLemmas.passed_within, Looks.{look_within, place_in_line}, RunLaws.{run_before, run_whole}, Ranges.{at_range, drop_range, length_range, line_after, newline_at, range_after}}}, re_meter.{specs.Meters.{Steps, AddsAtMost}, proofs.lemmas.Adding.adds_both}, re_needle.{specs.Working.Needles.{HasNoBegin, RunBegins}, proofs.lemmas.{NeedleLaws.settled_says, LaterStarts.rest_matched}}}
 use native.Mathlib.Omega.{by_contra}
 
 -- what a look says of the line in which it stopped, after which no byte is passed
@@ -46,14 +46,14 @@ within_longest (first ∷ runs) zero run lt at = rw (sym at) (omega arith)
 within_longest (first ∷ runs) (suc n) run lt at = let more = within_longest runs n run (omega arith) at in omega (arith, more)
 
 -- a look that stopped in a line says that it is matched, if the expression holds where one of the runs is
-pub stops_matched : (e : Expression) (runs : Runs) (block : Text) (swept : Swept) (at : ℕ) → IsJustRun runs e → IsNoWider 1 runs → swept.place ≡ Some at → FindsRun block runs swept.place → swept.start ≤ at
+pub stops_matched : (e : Expression) (runs : Runs) (block : Text) (swept : Swept) (at : ℕ) → RunSuffices runs e → IsNoWider 1 runs → swept.place ≡ Some at → FindsRun block runs swept.place → swept.start ≤ at
     → HasNoNewline (slice_range block at (at + min (longest_of runs) (length block - at))) → StopsInLine block swept → StopsAt e false block (record { start = swept.start; first = swept.start; reached = look_cost block swept.place; stop = Decided true })
-stops_matched e runs block swept at is wide place found low free stops = stops_saying e _ _ _ _ _ (λ n. refl) (look_within block swept.place) (λ end cut.
+stops_matched e runs block swept at enough wide place found low free stops = stops_saying e _ _ _ _ _ (λ n. refl) (look_within block swept.place) (λ end cut.
     let (n, run, lt, here, there) = (rw place at found).1 in let some = rw here at (wide n run lt) in
     let near = rw place at (stops end cut) in let few = within_longest runs n run lt here in let fits = there.fits in
     let in_line = is_in_line block run swept.start at _ end there some low near (omega arith) (omega arith) free cut in (
       stops end cut,
-      settled_says e (slice_range block swept.start end) false true (inr (inr (record { runs = runs; is = is; any = refl; place = at - swept.start; stands = (n, run, lt, here, in_line); yes = refl }))),
+      settled_says e (slice_range block swept.start end) false true (inr (inr (record { runs = runs; enough = enough; any = refl; place = at - swept.start; stands = (n, run, lt, here, in_line); yes = refl }))),
     ))
 
 -- ---- a line and the first run in it, with one of which each match begins

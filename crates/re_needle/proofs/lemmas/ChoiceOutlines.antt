@@ -1,5 +1,5 @@
 -- Outlines of choices: the sets that all branches begin with, joined place by place.
-use Rattle.{re_needle.proofs.{Prelude.{◌≡◌, ◌≢◌, ℕ, zero, suc, ◌+◌, ◌<◌, ◌≤◌, ◌⊎◌, inl, inr, IsTrue, List, [], ◌∷◌, ◌++◌, length, map, take, get_or, slice_get, Option, None, Some, refl, sym, ap, ◌∙◌, subst, arith, append_assoc, set, get_or-set_at, get_or-set_other, map-append, Bytes, Text, nothing, Expression, alt, expression_of, Tree, OutlineItem, set_at, shown, Fits, IsOutline, AddsOutline, AddsSets, AreJoined, BeginsWith, Leads}, lemmas.{NeededLaws.parts_grown, OutlineLaws.{fits_le, sets_cut}}}, std.proofs.lemmas.Bool.cases_eq}
+use Rattle.{re_needle.proofs.{Prelude.{◌≡◌, ◌≢◌, ℕ, zero, suc, ◌+◌, ◌<◌, ◌≤◌, ◌⊎◌, inl, inr, IsTrue, List, [], ◌∷◌, ◌++◌, length, map, take, get_or, slice_get, Option, None, Some, refl, sym, ap, ◌∙◌, subst, arith, append_assoc, set, get_or-set_at, get_or-set_other, map-append, Bytes, Text, nothing, Expression, alt, expression_of, Tree, OutlineItem, set_at, shown, Fits, IsOutline, AddsOutline, AddsSets, AreJoined, BeginsWith, Leads}, lemmas.{NeededLaws.parts_grown, OutlineLaws.{fits_le, never}}}, std.proofs.lemmas.Bool.cases_eq}
 use Rattle.re_needle.specs.declared.outline_item.OutlineItem.TheVariants as m
 
 -- ---- what an outline begins with
@@ -31,7 +31,7 @@ lead_fits line (s ∷ sets) i j l =
     let first = l.takes 0 (omega arith) in let place : i + 0 ≡ i = omega arith in
     (i + 1, (first.0, subst (λ n. slice_get line n ≡ Some first.0) place first.1, first.2, refl), lead_fits line sets (i + 1) j (leads_rest s sets line i j l))
 
-begins_with : {marks : List (Option Bytes)} (sets : List Bytes) (rest : List (Option Bytes)) {e : Expression} → IsOutline marks e → marks ≡ map Some sets ++ rest → BeginsWith sets e
+begins_with : {marks : List OutlineItem} (sets : List Bytes) (rest : List (Option Bytes)) {e : Expression} → IsOutline marks e → map shown marks ≡ map Some sets ++ rest → BeginsWith sets e
 begins_with sets rest outline is = λ line i j h. fits_lead line sets rest i j (rw is at (outline.fits line i j h))
 
 pub begins_branch : {old : List OutlineItem} (marks : List OutlineItem) (sets : List Bytes) (e : Expression) → old ≡ [] → AddsOutline old e marks → ((rest : List (Option Bytes)) × (map shown marks ≡ map Some sets ++ rest)) → BeginsWith sets e
@@ -93,13 +93,12 @@ parts_more sets parts i part lt is all one = rw (parts_grown parts i lt is) (bra
 
 -- ---- what is added to the marks
 
-sets_outline : (sets : List Bytes) (e : Expression) → BeginsWith sets e → IsOutline (map Some sets ++ None ∷ []) e
-sets_outline sets e begins = record { fits = λ line i j h. lead_fits line sets i j (begins line i j h); holds = λ all. absurd (sets_cut (map Some sets) (None ∷ []) all).1.0 }
+sets_outline : (marks : List OutlineItem) (sets : List Bytes) (e : Expression) → map shown marks ≡ map Some sets → BeginsWith sets e → IsOutline (marks ++ m.Gap ∷ []) e
+sets_outline marks sets e are begins = record { fits = λ line i j h. rw (map-append shown marks (m.Gap ∷ []) ∙ ap (λ l. l ++ None ∷ []) are) (lead_fits line sets i j (begins line i j h)); holds = λ line i j h. absurd (never line marks i j h) }
 
 pub adds_choice : (old middle new : List OutlineItem) (sets : List Bytes) (choice e : Expression) → e ≡ choice → BeginsWith sets choice → AddsSets old sets middle → new ≡ middle ++ m.Gap ∷ [] → AddsOutline old e new
 adds_choice old middle new sets choice e is begins (more, same, are) added = (
   more ++ m.Gap ∷ [],
   added ∙ ap (λ l. l ++ m.Gap ∷ []) same ∙ append_assoc old more (m.Gap ∷ []),
-  rw (map-append shown more (m.Gap ∷ []) ∙ ap (λ l. l ++ None ∷ []) are)
-      (rw is (sets_outline _ _ begins)),
+  rw is (sets_outline more _ _ are begins),
 )

@@ -1,5 +1,5 @@
 -- Needles, and what their places say of a line.
-use Rattle.{re_needle.proofs.{Prelude.{alt, map, Result, Ok, Err, IfOk, IsNeedleFor, choice_within, branches_within, cat, expression_of, Tree, IsNoWider, RunIsAt, RunStandsAt, IsLongestRun, ◌≡◌, ℕ, ◌+◌, ◌-◌, ◌≤◌, ap, inl, Bool, false, IsTrue, List, [], ◌∷◌, ◌++◌, length, drop, Option, Some, None, refl, sym, subst, arith, true, inr, ◌∙◌, length-append, is_some, Bytes, Text, only, Expression, Holds, Matches, IsFound, IsPart, Needle, RunFinder, most_sets, front_of, FindsRun, IsNeeded, RunIsNeeded, IsNeedleOf, IsRunNeedleFor, RunBegins, IsJustRun, Runs, one_run, runs_of, IsSettled, LacksRun, IsOutline, ◌↔◌, false≢true, length-map, take-append-drop, dec_le}, lemmas.{NeededLaws.cat_cut, OutlineLaws.{cat_join, run_needed, run_begins, just_run}}}, re_trees.proofs.lemmas.{Decisions.Any-first, SomeOfJoined.Any-single}, std.specs.Prelude.{Any, suc, zero}, re_runs.proofs.lemmas.RunLaws.{some_run, one_stands, front_stands, run_rest, run_text, nowhere}}
+use Rattle.{re_needle.proofs.{Prelude.{alt, map, Result, Ok, Err, IfOk, IsNeedleFor, choice_within, branches_within, cat, expression_of, Tree, IsNoWider, RunIsAt, RunStandsAt, IsLongestRun, ◌≡◌, ℕ, ◌+◌, ◌-◌, ◌≤◌, ap, inl, Bool, false, IsTrue, List, [], ◌∷◌, ◌++◌, length, drop, Option, Some, None, refl, sym, subst, arith, true, inr, ◌∙◌, length-append, is_some, Bytes, Text, only, Expression, Holds, Matches, IsFound, IsPart, Needle, RunFinder, most_sets, front_of, FindsRun, IsNeeded, RunIsNeeded, IsNeedleOf, IsRunNeedleFor, RunBegins, RunSuffices, IsJustRun, Runs, one_run, runs_of, IsSettled, LacksRun, IsOutline, IsOptional, OutlineItem, shown, take, All, ◌↔◌, false≢true, length-map, take-append-drop, dec_le}, lemmas.{NeededLaws.cat_cut, OutlineLaws.{cat_join, run_needed, run_begins, run_suffices, just_run}}}, re_trees.proofs.lemmas.{Decisions.Any-first, SomeOfJoined.Any-single}, std.specs.Prelude.{Any, suc, zero}, re_runs.proofs.lemmas.RunLaws.{some_run, one_stands, front_stands, run_rest, run_text, nowhere}}
 
 one_wide : (run : List Bytes) → 1 ≤ length run → IsNoWider 1 (one_run run)
 one_wide run some zero d lt = some
@@ -25,15 +25,16 @@ lacks_run e runs line whole needed lacks m =
     lacks there.0 (stands_there _ _ j _ there.2)
 
 -- sets that are neighbours in an outline are a needle
-pub run_is_needle : (marks : List (Option Bytes)) (finder : RunFinder) (is_first is_all is_common : Bool) (run : List Bytes) (rest : List (Option Bytes)) (start : ℕ) → runs_of finder ≡ one_run run → drop start marks ≡ map Some run ++ rest → 1 ≤ length run
-    → (IsTrue is_first → start ≡ 0) → (IsTrue is_all → length run ≡ length marks) → (e : Expression) → IsOutline marks e
-    → IsRunNeedleFor e (Some (record { finder = finder; is_first = is_first; is_all = is_all; is_common = is_common }))
-run_is_needle marks finder is_first is_all is_common run rest start is stands some first all e outline = (
+pub run_is_needle : (marks : List OutlineItem) (finder : RunFinder) (is_first is_all suffices is_common : Bool) (run : List Bytes) (rest : List (Option Bytes)) (start : ℕ) → runs_of finder ≡ one_run run → drop start (map shown marks) ≡ map Some run ++ rest → 1 ≤ length run
+    → (IsTrue is_first → start ≡ 0) → (IsTrue is_all → length run ≡ length marks) → (IsTrue suffices → All IsOptional (take start marks) × All IsOptional (drop (length run) (drop start marks))) → (e : Expression) → IsOutline marks e
+    → IsRunNeedleFor e (Some (record { finder = finder; is_first = is_first; is_all = is_all; suffices = suffices; is_common = is_common }))
+run_is_needle marks finder is_first is_all suffices is_common run rest start is stands some first all others e outline = (
   record {
     needed = rw is (run_needed marks e outline run rest start stands);
     some = rw is (one_wide run some);
     first = λ reported. rw is (run_begins marks e outline _ rest _ stands (first reported));
     all = λ reported. rw is (just_run _ e outline _ rest start stands some (all reported));
+    enough = λ reported. rw is (run_suffices _ e outline _ rest start stands (others reported));
   },
   run,
   is,
@@ -96,7 +97,7 @@ module _ (e : Expression) (line : Text) where
       matches : Matches e line false
       matches =
           let (n, run, lt, at, there) = has.stands in
-          let own = subst (λ r. RunIsAt line has.place r → Holds line e has.place (has.place + length r)) at (has.is.holds line has.place n run lt) in
+          let own = subst (λ r. RunIsAt line has.place r → Holds line e has.place (has.place + length r)) at (has.enough line has.place n run lt) in
           (has.place, has.place + length run, there.fits, own there)
 
 -- ---- expressions that hold on the same stretches
@@ -107,6 +108,7 @@ same_needle f same of = record {
   some = of.some;
   first = λ reported line i j within h. of.first reported line i j within ((same line i j).1 h);
   all = λ reported. record { stands = λ line i j within h. (of.all reported).stands line i j within ((same line i j).1 h); holds = λ line k n d lt there. (same line k _).0 ((of.all reported).holds line k n d lt there) };
+  enough = λ reported line k n d lt there. (same line k _).0 (of.enough reported line k n d lt there);
 }
 
 -- one part alone

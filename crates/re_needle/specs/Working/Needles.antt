@@ -25,12 +25,16 @@ abbrev pub RunIsNeeded : Runs → Expression → Type 0
 RunIsNeeded runs e =
     (line : Text) (i j : ℕ) → j ≤ length line → Holds line e i j → RunStandsBetween line runs i j
 
--- the expression holds exactly where one of the runs is
+-- the expression holds wherever one of the runs is
+abbrev pub RunSuffices : Runs → Expression → Type 0
+RunSuffices runs e =
+    (line : Text) (k : ℕ) → All (λ run. RunIsAt line k run → Holds line e k (k + length run)) runs
+
+-- it holds exactly where one of the runs is
 pub record IsJustRun (runs : Runs) (e : Expression) : Type 0 where
   pub stands : (line : Text) (i j : ℕ) → j ≤ length line → Holds line e i j →
       Any (λ run. RunIsAt line i run × (j ≡ i + length run)) runs
-  pub holds : (line : Text) (k : ℕ) →
-      All (λ run. RunIsAt line k run → Holds line e k (k + length run)) runs
+  pub holds : RunSuffices runs e
 
 -- each stretch on which the expression holds begins with one of the runs
 abbrev pub RunBegins : Runs → Expression → Type 0
@@ -46,12 +50,14 @@ HasNoBegin (repeat e least most) = HasNoBegin e
 HasNoBegin e = ⊤
 
 -- The expression needs one of the runs. If the needle says that they are first, each match begins with
--- one. If the needle says that they are all, the expression holds exactly where one is.
+-- one. If the needle says that they are all, the expression holds exactly where one is; if it says
+-- that one suffices, wherever one is.
 pub record IsNeedleOf (e : Expression) (needle : Needle) : Type 0 where
   pub needed : RunIsNeeded (runs_of needle.finder) e
   pub some : IsNoWider 1 (runs_of needle.finder)
   pub first : IsTrue needle.is_first → RunBegins (runs_of needle.finder) e
   pub all : IsTrue needle.is_all → IsJustRun (runs_of needle.finder) e
+  pub enough : IsTrue needle.suffices → RunSuffices (runs_of needle.finder) e
 
 -- the same for a needle, if there is one
 abbrev pub IsNeedleFor : Expression → Option Needle → Type 0
@@ -64,7 +70,7 @@ IsRunNeedleFor e needle =
 
 -- a search has its answer without a step: the line lacks a run of sets that every match has in it;
 -- or it has to be matched as a whole, and does not begin with a run that every match begins with;
--- or it has the run that is all that matches
+-- or it has a run that suffices
 pub record LacksNeeded (e : Expression) (line : Text) (answer : Bool) : Type 0 where
   pub runs : Runs
   pub needed : RunIsNeeded runs e
@@ -78,9 +84,9 @@ pub record LacksFirst (e : Expression) (whole : Bool) (line : Text) (answer : Bo
   pub absent : BeginsWithout runs line
   pub no : answer ≡ false
 
-pub record HasAll (e : Expression) (whole : Bool) (line : Text) (answer : Bool) : Type 0 where
+pub record HasEnough (e : Expression) (whole : Bool) (line : Text) (answer : Bool) : Type 0 where
   pub runs : Runs
-  pub is : IsJustRun runs e
+  pub enough : RunSuffices runs e
   pub any : whole ≡ false
   pub place : ℕ
   pub stands : RunStandsAt line runs place
@@ -88,4 +94,4 @@ pub record HasAll (e : Expression) (whole : Bool) (line : Text) (answer : Bool) 
 
 abbrev pub IsSettled : Expression → Bool → Text → Bool → Type 0
 IsSettled e whole line answer =
-    LacksNeeded e line answer ⊎ (LacksFirst e whole line answer ⊎ HasAll e whole line answer)
+    LacksNeeded e line answer ⊎ (LacksFirst e whole line answer ⊎ HasEnough e whole line answer)

@@ -1,6 +1,6 @@
 -- Outlines of expressions: sets of bytes one after another, with stretches between them that may be
--- anything.
-use Rattle.std.specs.Prelude.{◌≡◌, ℕ, ◌+◌, ◌<◌, ◌≤◌, ⊤, IsTrue, List, [], ◌∷◌, ◌++◌, length, map}
+-- anything, some of them optional.
+use Rattle.std.specs.Prelude.{◌≡◌, ℕ, ◌+◌, ◌<◌, ◌≤◌, IsTrue, List, [], ◌∷◌, ◌++◌, length, map}
 use Rattle.std.specs.Prelude.{min, replicate, slice_get, Option, None, Some}
 use Rattle.re_trees.specs.{Holds.Holds, Bytes.{Bytes, Text}, Working.Trees.members}
 use Rattle.re_trees.specs.Expression.{Expression, one_of}
@@ -11,6 +11,7 @@ use Rattle.re_needle.specs.declared.outline_item.OutlineItem.TheVariants as m
 -- a mark of an outline: a set, or any stretch
 abbrev pub shown : OutlineItem → Option Bytes
 shown (m.Set set) = Some (members set)
+shown m.Optional = None
 shown m.Gap = None
 
 -- a mark fits the line from place i to place j
@@ -23,23 +24,29 @@ abbrev pub Fits : Text → List (Option Bytes) → ℕ → ℕ → Type 0
 Fits line [] i j = i ≡ j
 Fits line (mark ∷ marks) i j = (k : ℕ) × MarkFits line mark i k × Fits line marks k j
 
-abbrev pub IsSetMark : Option Bytes → Type 0
-IsSetMark (Some set) = ⊤
-IsSetMark None = ⊥
+abbrev pub IsOptional : OutlineItem → Type 0
+IsOptional mark = mark ≡ m.Optional
 
-abbrev pub AreSetMarks : List (Option Bytes) → Type 0
-AreSetMarks [] = ⊤
-AreSetMarks (mark ∷ marks) = IsSetMark mark × AreSetMarks marks
+-- a stretch is enough for a mark: a byte of the set, or nothing if the mark is optional
+abbrev pub MarkSuffices : Text → OutlineItem → ℕ → ℕ → Type 0
+MarkSuffices line (m.Set set) i j = Holds line (one_of (members set)) i j
+MarkSuffices line m.Optional i j = i ≡ j
+MarkSuffices line m.Gap i j = ⊥
 
--- The marks fit each stretch on which the expression holds. If all of them are sets, it holds on
--- all that they fit.
-pub record IsOutline (marks : List (Option Bytes)) (e : Expression) : Type 0 where
-  pub fits : (line : Text) (i j : ℕ) → Holds line e i j → Fits line marks i j
-  pub holds : AreSetMarks marks → (line : Text) (i j : ℕ) → Fits line marks i j → Holds line e i j
+-- the stretch from i to j is enough for the marks, one after another
+abbrev pub Suffices : Text → List OutlineItem → ℕ → ℕ → Type 0
+Suffices line [] i j = i ≡ j
+Suffices line (mark ∷ marks) i j = (k : ℕ) × MarkSuffices line mark i k × Suffices line marks k j
+
+-- The marks fit each stretch on which the expression holds. It holds on each that is enough for
+-- them.
+pub record IsOutline (marks : List OutlineItem) (e : Expression) : Type 0 where
+  pub fits : (line : Text) (i j : ℕ) → Holds line e i j → Fits line (map shown marks) i j
+  pub holds : (line : Text) (i j : ℕ) → Suffices line marks i j → Holds line e i j
 
 -- the marks are the old ones and then those that are an outline of the expression
 abbrev pub AddsOutline : List OutlineItem → Expression → List OutlineItem → Type 0
-AddsOutline old e new = (more : List OutlineItem) × (new ≡ old ++ more) × IsOutline (map shown more) e
+AddsOutline old e new = (more : List OutlineItem) × (new ≡ old ++ more) × IsOutline more e
 
 -- the marks are the old ones and then those of these sets
 abbrev pub AddsSets : List OutlineItem → List Bytes → List OutlineItem → Type 0

@@ -1,4 +1,4 @@
-use Rattle.{re_needle.proofs.{Prelude.{rules, ◌≡◌, map, take, refl, sym, ap, subst, ◌∙◌, arith, take_all, alt, cat, expression_of, members, AddsOutline, BeginsWith}, lemmas.{OutlineLaws.{adds_set, adds_stretch, adds_repeat, adds_more, ok_with}, ChoiceOutlines.{adds_choice, begins_branch, joined_first, joined_second, no_branch, parts_more}}, outline.+outline.Goals.{add_choice-then-i-eq0, add_choice-else-i-eq0}}, re_trees.proofs.lemmas.ExpressionLaws.{expression-Alt, expression-Cat, expression-Set, expression-Repeat}}
+use Rattle.{re_needle.proofs.{Prelude.{rules, ◌≡◌, map, take, refl, sym, ap, subst, ◌∙◌, arith, take_all, alt, cat, expression_of, members, AddsOutline, BeginsWith}, lemmas.{OutlineLaws.{adds_optional, adds_set, adds_stretch, adds_repeat, adds_more, ok_with}, ChoiceOutlines.{adds_choice, begins_branch, joined_first, joined_second, no_branch, parts_more}}, outline.+outline.Goals.{add_choice-then-i-eq0, add_choice-else-i-eq0}}, re_trees.proofs.lemmas.ExpressionLaws.{expression-Alt, expression-Cat, expression-Set, expression-Repeat}}
 use Rattle.re_needle.proofs.outline.+outline.Goals as goal
 
 pub add_all-parts-preserved : goal.add_all-parts-preserved
@@ -10,7 +10,11 @@ pub add_tree-returns-then-depth-eq0 : goal.add_tree-returns-then-depth-eq0
 add_tree-returns-then-depth-eq0 t c = ok_with _ (adds_stretch c.args.marks.now.items c.add_mark.new.marks.items (expression_of c.args.tree.now)) c.add_mark.ensures
 
 pub add_tree-returns-then-least-eq0 : goal.add_tree-returns-then-least-eq0
-add_tree-returns-then-least-eq0 t c = ok_with _ (adds_stretch c.args.marks.now.items c.add_mark-then-least-eq0.new.marks.items (expression_of c.args.tree.now)) c.add_mark-then-least-eq0.ensures
+add_tree-returns-then-least-eq0 t c =
+    ok_with _
+    (adds_optional c.args.marks.now.items c.add_mark-then-least-eq0.new.marks.items (expression_of c.in-Repeat.part.value) (expression_of c.args.tree.now) c.in-Repeat.most
+    (cc (c.in-Repeat.is, expression-Repeat c.in-Repeat.part c.in-Repeat.least c.in-Repeat.most, c.if-least-eq0.true)))
+    c.add_mark-then-least-eq0.ensures
 
 pub add_tree-returns-in-Set : goal.add_tree-returns-in-Set
 add_tree-returns-in-Set t c = ok_with _ (adds_set c.args.marks.now.items c.add_mark-in-Set.new.marks.items (expression_of c.args.tree.now) c.in-Set.set (cc (c.in-Set.is, expression-Set c.in-Set.set))) c.add_mark-in-Set.ensures

@@ -19,7 +19,7 @@ returns-then-has_run-clause-stops c = λ e is.
     let needle = rw c.in-Some.is at is.needle in let of = c.first_line_with_run-swept.ensures in
     let (at, place, free) = c.has_run.ensures c.if-has_run.true in
     let low = rw place at of.low in
-    rw (c.to-then-has_run.ensures, c.bytes_over-reached.ensures, c.if-not-whole.true) (stops_matched e (runs_of c.in-Some.needle.finder) c.args.block.now c.first_line_with_run-swept.result at (needle.all c.if-needle-2.true) needle.some place of.found low free of.stops)
+    rw (c.to-then-has_run.ensures, c.bytes_over-reached.ensures, c.if-not-whole.true) (stops_matched e (runs_of c.in-Some.needle.finder) c.args.block.now c.first_line_with_run-swept.result at (needle.enough c.if-needle-2.true) needle.some place of.found low free of.stops)
 
 pub returns-clause-passes : goal.returns-clause-passes
 returns-clause-passes c = λ e is. rw c.to-2.ensures (passes_unmatched_run e _ c.args.whole (rw c.in-Some.is at is.needle).needed c.args.block.now _ c.first_line_with_run-swept.ensures.passes)
