@@ -66,7 +66,7 @@ pub use Rattle.{
   re_syntax.specs.declared.syntax.Syntax.{Syntax},
   re_syntax.specs.declared.syntax.Syntax.TheVariants.{Basic},
   re_trees.specs.declared.class.Class.TheVariants.{Digit},
-  std.proofs.Common.{All, Any, Bool, Bor, Err, IfSome, IsTrue, IsUtf8, List, MatchBool, MatchResult, None, Ok, Option, Result, Some, [], add-one, ap, append-nil, append_assoc, arith, bytes_eq, codes, decimal, drop, drop-cons, encode_utf8, encode_utf8_all, false, get_or, if◌then◌else◌, inl, inr, is_some, le-ltb, length, length-append, lt-ltb, ltb-false, ltb-true, map, min, nat_eq, nat_lt, option_map, refl, rules, slice_get, subst, suc, sym, take, take-suc, take_all, true, zero, ℕ, ⊎_elim, ◌&&◌, ◌*◌, ◌++◌, ◌+◌, ◌-◌, ◌<◌, ◌^◌, ◌∙◌, ◌∷◌, ◌≡◌, ◌≢◌, ◌≤◌, ◌⊎◌},
+  std.proofs.Common.{All, Any, Bool, Bor, Err, IfSome, IsTrue, IsUtf8, List, MatchBool, MatchResult, None, Ok, Option, Result, Some, [], add-one, ap, append-nil, append_assoc, arith, bytes_eq, codes, decimal, drop, drop-cons, encode_utf8, encode_utf8_all, false, get_or, if◌then◌else◌, inl, inr, is_some, le-ltb, length, length-append, lt-ltb, ltb-false, ltb-true, map, min, nat_eq, nat_lt, option_map, refl, rules, slice_get, subst, suc, sym, take, take_all, true, zero, ℕ, ⊎_elim, ◌&&◌, ◌*◌, ◌++◌, ◌+◌, ◌-◌, ◌<◌, ◌^◌, ◌∙◌, ◌∷◌, ◌≡◌, ◌≢◌, ◌≤◌, ◌⊎◌},
   std.proofs.KnownBytes.{Appends-nil},
   std.proofs.lemmas.Bool.{and_from, cond-false, cond-true, false≢true},
   std.proofs.lemmas.Iterator.Consumers.{YieldsList-from_first, nth_from_yields_List},

@@ -1,5 +1,5 @@
 //! Blocks of whole lines: finding one, passing over the first ones, and counting them, at once.
-ghost use Rattle.std.specs.Prelude.{◌≡◌, ◌+◌, ◌<◌, ◌≤◌, ◌↔◌, ◌++◌, ◌∷◌, IsTrue, IfSome};
+ghost use Rattle.std.specs.Prelude.{◌≡◌, ◌+◌, ◌<◌, ◌≤◌, ◌++◌, ◌∷◌, IfSome};
 ghost use Rattle.std.specs.Prelude.{MatchOption, length, map, take, drop, ⊤, None};
 ghost use Rattle.re_trees.specs.Lines.{lines_of, HasNoNewline, newline};
 ghost use Rattle.re_runs.specs.Working.Runs.{look_cost, FindsRun, LacksRun, Runs};
@@ -119,7 +119,7 @@ pub fn bytes_to(block: &[u8], found: Option<Span>) -> u64
     }
 }
 
-/// Where the line ends that begins at the place; `None` if no newline follows.
+/// Where the line ends that has the place; `None` if no newline follows.
 #[inline(always)]
 pub fn line_end(block: &[u8], start: usize) -> Option<usize>
     requires { start ≤ length block.now }
@@ -128,14 +128,4 @@ pub fn line_end(block: &[u8], start: usize) -> Option<usize>
 {
     let length = first_newline(&block[start..])?;
     Some(start + length)
-}
-
-/// Whether there is no newline.
-pub fn has_no_newline(bytes: &[u8]) -> bool
-    ensures { IsTrue result ↔ HasNoNewline bytes.now }
-{
-    match first_newline(bytes) {
-        Some(_) => false,
-        None => true,
-    }
 }

@@ -15,8 +15,7 @@ mod survey;
 mod text_finder;
 
 pub use block::{
-    Swept, bytes_to, first_line_with, first_line_with_run, has_no_newline, line_end, line_start,
-    next_line_with,
+    Swept, bytes_to, first_line_with, first_line_with_run, line_end, line_start, next_line_with,
 };
 pub use newline::first_newline;
 pub use nibbles::Nibbles;

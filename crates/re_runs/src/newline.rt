@@ -9,7 +9,7 @@ use crate::lanes::{bits_below, highest, lowest, marks_of};
 use memchr::{memchr, memrchr};
 
 // How many bytes are compared at once.
-const NEAR: usize = 32;
+const LANES: usize = 32;
 
 /// The place of the first newline.
 #[inline(always)]
@@ -41,12 +41,12 @@ fn first_byte(byte: u8, bytes: &[u8]) -> Option<usize>
     ensures { IsFirstByte (is_byte byte) bytes.now result }
 {
     let mut start = 0;
-    'vectors: while NEAR <= bytes.len() - start {
+    'vectors: while LANES <= bytes.len() - start {
         let marks = marks_of(byte, bytes, start);
         if marks != 0 {
             return Some(start + lowest(marks));
         }
-        start += NEAR;
+        start += LANES;
     }
     let Some(place) = memchr(byte, &bytes[start..]) else {
         return None;
@@ -61,13 +61,13 @@ fn last_byte(byte: u8, bytes: &[u8], before: usize) -> Option<usize>
     ensures { IsLastByte (is_byte byte) (take before bytes.now) result }
 {
     let mut end = before;
-    'vectors: while NEAR <= end {
-        if let Some(place) = last_of(byte, bytes, end - NEAR, NEAR) {
+    'vectors: while LANES <= end {
+        if let Some(place) = last_of(byte, bytes, end - LANES, LANES) {
             return Some(place);
         }
-        end -= NEAR;
+        end -= LANES;
     }
-    if bytes.len() < NEAR {
+    if bytes.len() < LANES {
         return memrchr(byte, &bytes[..end]);
     }
     last_of(byte, bytes, 0, end)
