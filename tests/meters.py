@@ -77,7 +77,7 @@ MAY_BE_QUICK = {
     "the children of a node, each byte a step or passed": {"re_strings/trie.rt"},
     SPLITS: {"re_trees/split.rt", "re_runs/newline.rt", "re_runs/block.rt", "grep_io/input/newlines.rt",
              "grep_io/input/window.rt", "grep_io/devices/byte_buffer.rt"},
-    "looks at patterns, not at lines": {"re_search/strings.rt", "grep_session/patterns.rt"},
+    "looks at patterns, not at lines": {"re_strings/step_rows.rt", "re_search/strings.rt", "grep_session/patterns.rt"},
 }
 """The files that may name it, by the reason."""
 

@@ -15,9 +15,6 @@ use re_auto::Automaton;
 use std::alloc::{AllocError, Global};
 use std::collections::HashMap;
 
-// The most steps that are kept.
-const MOST_STEPS: usize = 1 << 14;
-
 // The most bytes that rows, cells and lists take.
 const MOST_BYTES: usize = 1 << 24;
 
@@ -30,6 +27,9 @@ const LISTED: u16 = 1 << 15;
 
 // No operation.
 const UNKNOWN: u16 = u16::MAX;
+
+// The most lists.
+const MOST_LISTS: usize = (UNKNOWN - LISTED) as usize;
 
 /// A kept step.
 #[derive(Clone, Copy, Drop)]
@@ -64,7 +64,6 @@ pub struct KeptSteps {
     cells: Vec<Step>,
     lists: Vec<Vec<Run>>,
     numbers: HashMap<u64, usize>,
-    held: usize,
     bytes: usize,
 }
 
@@ -88,7 +87,6 @@ impl KeptSteps {
             cells,
             lists: Vec::new(alloc),
             numbers: HashMap::new(alloc),
-            held: 0,
             bytes: 0,
         })
     }
@@ -120,14 +118,13 @@ impl KeptSteps {
         self.cells.fill(NO_STEP);
         self.lists.clear();
         self.numbers.clear();
-        self.held = 0;
         self.bytes = 0;
         2 * self.width
     }
 
     // Whether no more steps may be kept.
     fn is_full(&self) -> bool {
-        self.held >= MOST_STEPS || self.bytes >= MOST_BYTES
+        self.lists.len() >= MOST_LISTS || self.bytes >= MOST_BYTES
     }
 
     // Counts elements that are kept, each of so many bytes.
@@ -284,7 +281,6 @@ impl KeptSteps {
             op,
             count: groups.count,
         };
-        self.held = self.held.saturating_add(1);
         if op < LISTED {
             return;
         }
@@ -306,7 +302,7 @@ fn operation_of(alloc: Global, lists: &mut Vec<Vec<Run>>, runs: &[Run]) -> Resul
         return Ok(runs[0].first);
     }
     let number = lists.len();
-    if number >= MOST_STEPS {
+    if number >= MOST_LISTS {
         return Err(AllocError);
     }
     let list = Vec::from_slice(alloc, runs)?;

@@ -1,5 +1,6 @@
 pub mod KeyLaws
 pub mod SetSteps
+pub mod StepRowLaws
 pub mod SetTries
 pub mod SetSearch
 pub mod SetReached

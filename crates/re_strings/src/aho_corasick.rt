@@ -12,6 +12,7 @@ ghost use Rattle.re_meter.specs.Meters.{many_passed};
 
 use crate::keys::key_of;
 use crate::leaps::{Leaps, Payoff};
+use crate::step_rows::StepRows;
 use crate::trie::Trie;
 use re_meter::Meter;
 use re_trees::Span;
@@ -21,8 +22,8 @@ use re_trees::Span;
 pub struct AhoCorasick {
     /// The nodes.
     pub trie: Trie,
-    /// The node after each byte at the first nodes, 256 for each: at these no children are searched.
-    pub steps: Vec<u32>,
+    /// The steps at the first nodes: at these no children are searched.
+    pub steps: StepRows,
     /// For each node the longest other one that it ends with; any value for the root.
     pub fails: Vec<u32>,
     /// The length of each node.
@@ -280,8 +281,8 @@ impl AhoCorasick {
 }
 
 // The node for the longest end of the bytes so far, after this byte.
-#[inline]
-pub fn step(trie: &Trie, steps: &[u32], fails: &[u32], node: usize, byte: u8) -> usize
+#[inline(always)]
+pub fn step(trie: &Trie, steps: &StepRows, fails: &[u32], node: usize, byte: u8) -> usize
     requires trie { IsTrie trie.now.first.items trie.now.bytes.items }
     requires steps { AreSteps trie.now.first.items steps.now }
     requires fails { AreFallbacks fails.now }
@@ -293,14 +294,16 @@ pub fn step(trie: &Trie, steps: &[u32], fails: &[u32], node: usize, byte: u8) ->
     ensures step { (all : Labels) → IsTrieOf all trie.now.first.items trie.now.bytes.items →
         AreStepsOf all steps.now → AreFallbacksOf all fails.now → StepsOn all node byte result }
 {
+    let width = steps.bytes.len();
+    let class = steps.classes[byte as usize] as usize;
     let mut at = node;
-    'nodes: while at * 256 + byte as usize >= steps.len() {
+    'nodes: while at * width + class >= steps.cells.len() {
         if let Some(child) = trie.child(at, byte) {
             return child;
         }
         at = fails[at] as usize;
     }
-    steps[at * 256 + byte as usize] as usize
+    steps.cells[at * width + class] as usize
 }
 
 // Whether the best so far begins before this place.

@@ -7,7 +7,8 @@ ghost use Rattle.re_strings.specs.Working.Branches.{AreAscending, branch_at, own
 use crate::aho_corasick::AhoCorasick;
 use crate::growth::{Branch, grow};
 use crate::leaps::{leaps_of, window_of};
-use crate::links::{links_of, starts_of, steps_of};
+use crate::links::links_of;
+use crate::step_rows::{starts_of, steps_of};
 use crate::trie::Trie;
 use std::alloc::{AllocError, Global};
 

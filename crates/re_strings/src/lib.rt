@@ -9,6 +9,7 @@ mod keys;
 mod leaps;
 mod links;
 mod occurrences;
+mod step_rows;
 mod trie;
 
 pub use aho_corasick::AhoCorasick;

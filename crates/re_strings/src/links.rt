@@ -1,16 +1,14 @@
 //! The fallbacks of the nodes, and the strings that they end with.
 ghost use Rattle.std.specs.Prelude.{◌≡◌, ℕ, ◌+◌, ◌^◌, ◌<◌, ◌≤◌, ◌++◌, [], ◌∷◌, IfOk, length};
 ghost use Rattle.std.specs.Prelude.{slice_index};
-ghost use Rattle.re_strings.specs.Working.FixedSets.{StepsOn, AreSteps, AreFallbacksOf, IsTrieOf};
+ghost use Rattle.re_strings.specs.Working.FixedSets.{AreSteps, AreFallbacksOf, IsTrieOf};
 ghost use Rattle.re_strings.specs.Working.FixedSets.{AreLinked, AreStepsOf, Labels, own_or, IsTrie};
 ghost use Rattle.re_strings.specs.Working.FixedSets.{AreLinkedFor, AreFallbacks, StandsFor, AreOwn};
 
 use crate::aho_corasick::step;
+use crate::step_rows::StepRows;
 use crate::trie::Trie;
 use std::alloc::{AllocError, Global};
-
-// How many nodes have a step for each byte.
-const FIRST: usize = 512;
 
 /// For each node its fallback, and the longest string that it ends with.
 #[derive(Drop)]
@@ -21,64 +19,11 @@ pub struct Links {
     pub outputs: Vec<u32>,
 }
 
-/// The child of the root for each byte, the root if there is none.
-pub fn starts_of(alloc: Global, trie: &Trie) -> Result<Vec<u32>, AllocError>
-    requires trie { IsTrie trie.now.first.items trie.now.bytes.items }
-    requires few { length trie.now.bytes.items < 2 ^ 32 }
-    ensures starts { IfOk result (λ starts. AreSteps trie.now.first.items starts.items) }
-    ensures right { IfOk result
-        (λ starts. (all : Labels) → IsTrieOf all trie.now.first.items trie.now.bytes.items →
-        AreStepsOf all starts.items) }
-{
-    let mut starts = Vec::new(alloc);
-    'bytes: while starts.len() < 256 {
-        let start = start_of(trie, starts.len() as u8);
-        push_number(&mut starts, start)?;
-    }
-    Ok(starts)
-}
-
-/// The node after each byte at the first nodes, 256 for each. `starts` has those at the root.
-pub fn steps_of(trie: &Trie, starts: Vec<u32>, fails: &[u32]) -> Result<Vec<u32>, AllocError>
-    requires trie { IsTrie trie.now.first.items trie.now.bytes.items }
-    requires few { length trie.now.bytes.items < 2 ^ 32 }
-    requires starts { AreSteps trie.now.first.items starts.items }
-    requires fails { AreFallbacks fails.now }
-    requires all { length fails.now ≡ length trie.now.bytes.items }
-    ensures steps { IfOk result (λ steps. AreSteps trie.now.first.items steps.items) }
-    ensures right { IfOk result
-        (λ steps. (all : Labels) → IsTrieOf all trie.now.first.items trie.now.bytes.items →
-        AreStepsOf all starts.items → AreFallbacksOf all fails.now
-        → AreStepsOf all steps.items) }
-{
-    let end = trie.bytes.len().min(FIRST) * 256;
-    let mut steps = starts;
-    'steps: while steps.len() < end {
-        let byte = (steps.len() % 256) as u8;
-        let next = step(trie, &steps, fails, steps.len() / 256, byte);
-        push_number(&mut steps, next)?;
-    }
-    Ok(steps)
-}
-
-// The child of the root for this byte, the root if there is none.
-fn start_of(trie: &Trie, byte: u8) -> usize
-    requires trie { IsTrie trie.now.first.items trie.now.bytes.items }
-    ensures near { result < slice_index trie.now.first.items 1 }
-    ensures right { (all : Labels) → IsTrieOf all trie.now.first.items trie.now.bytes.items →
-        StepsOn all 0 byte result }
-{
-    match trie.child(0, byte) {
-        Some(child) => child,
-        None => 0,
-    }
-}
-
 /// The links of all nodes. `owns` has the length of each node that is a string, and 0 for others.
 pub fn links_of(
     alloc: Global,
     trie: &Trie,
-    starts: &[u32],
+    starts: &StepRows,
     owns: &[u32],
 ) -> Result<Links, AllocError>
     requires trie { IsTrie trie.now.first.items trie.now.bytes.items }
@@ -106,7 +51,7 @@ pub fn links_of(
 // Links the children of a node.
 fn link_children(
     trie: &Trie,
-    starts: &[u32],
+    starts: &StepRows,
     owns: &[u32],
     node: usize,
     links: &mut Links,
@@ -139,7 +84,7 @@ fn link_children(
 }
 
 // The fallback of a node's child that has this byte.
-fn fallback(trie: &Trie, starts: &[u32], fails: &[u32], node: usize, byte: u8) -> usize
+fn fallback(trie: &Trie, starts: &StepRows, fails: &[u32], node: usize, byte: u8) -> usize
     requires trie { IsTrie trie.now.first.items trie.now.bytes.items }
     requires small { length trie.now.bytes.items < 2 ^ 32 }
     requires starts { AreSteps trie.now.first.items starts.now }
@@ -175,7 +120,8 @@ fn add_link(links: &mut Links, fail: usize, output: usize) -> Result<(), AllocEr
     Ok(())
 }
 
-fn push_number(numbers: &mut Vec<u32>, n: usize) -> Result<(), AllocError>
+/// Adds a number. The error is that an allocation failed, or that the number is too large.
+pub fn push_number(numbers: &mut Vec<u32>, n: usize) -> Result<(), AllocError>
     ensures { IfOk result (λ _. numbers.new.items ≡ numbers.old.items ++ n ∷ []) }
 {
     match u32::try_from(n) {

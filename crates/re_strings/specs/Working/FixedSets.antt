@@ -5,6 +5,7 @@ use Rattle.std.specs.Prelude.{take, drop, Any, slice_index, Option, nat_eq, nat_
 use Rattle.re_trees.specs.Working.BestStretches.{IsBest, places, better_span}
 use Rattle.re_trees.specs.{declared.span.Span.Span, Bytes.{Text, Begins}}
 use Rattle.re_strings.specs.declared.{leaps.Leaps.Leaps, aho_corasick.AhoCorasick.AhoCorasick}
+use Rattle.re_strings.specs.declared.step_rows.StepRows.{StepRows}
 
 -- some string begins with the text
 abbrev pub IsFront : List Text → Text → Type 0
@@ -98,15 +99,33 @@ StepsOn all n b m =
     (w : Text) (from : ℕ) → MayStandFor all.strings (all.label n) w b from →
     StandsFor all.strings (all.label m) (w ++ b ∷ []) from
 
--- the nodes after each byte at the root and perhaps at the nodes next to it, 256 for each
-pub record AreSteps (first steps : List ℕ) : Type 0 where
-  pub root : 256 ≤ length steps
-  pub nodes : (n b : ℕ) → b < 256 → n * 256 + b < length steps → slice_index steps (n * 256 + b) < slice_index first (n + 1)
+-- class 0 is that of bytes that no node has, and each other class is that of one byte
+pub record AreClasses (nodes : List ℕ) (steps : StepRows) : Type 0 where
+  pub some : 0 < length steps.bytes.items
+  pub few : length steps.bytes.items ≤ length steps.classes.items + 1
+  pub within : (b : ℕ) → b < length steps.classes.items → slice_index steps.classes.items b < length steps.bytes.items
+  pub own : (b : ℕ) → b < length steps.classes.items → 0 < slice_index steps.classes.items b →
+      slice_index steps.bytes.items (slice_index steps.classes.items b) ≡ b
+  pub others : (b : ℕ) → b < length steps.classes.items → slice_index steps.classes.items b ≡ 0 →
+      (m : ℕ) → 0 < m → m < length nodes → ¬ (slice_index nodes m ≡ b)
+
+-- the cell of a node and a byte
+abbrev pub cell_of : StepRows → ℕ → ℕ → ℕ
+cell_of steps n b = n * length steps.bytes.items + slice_index steps.classes.items b
+
+-- the nodes after each byte at the root and perhaps at the nodes next to it
+pub record AreSteps (first : List ℕ) (steps : StepRows) : Type 0 where
+  pub all : length steps.classes.items ≡ 256
+  pub few : length steps.bytes.items ≤ 257
+  pub root : (b : ℕ) → b < 256 → slice_index steps.classes.items b < length steps.cells.items
+  pub nodes : (n b : ℕ) → b < 256 → cell_of steps n b < length steps.cells.items →
+      slice_index steps.cells.items (cell_of steps n b) < slice_index first (n + 1)
 
 -- each is right for its byte
-abbrev pub AreStepsOf : Labels → List ℕ → Type 0
+abbrev pub AreStepsOf : Labels → StepRows → Type 0
 AreStepsOf all steps =
-    (n b : ℕ) → b < 256 → n * 256 + b < length steps → StepsOn all n b (slice_index steps (n * 256 + b))
+    (n b : ℕ) → b < 256 → cell_of steps n b < length steps.cells.items →
+    StepsOn all n b (slice_index steps.cells.items (cell_of steps n b))
 
 -- a string, not the empty one, is in the text from place i, `from` or later, to place j
 abbrev pub Occurs : List Text → ℕ → Text → ℕ → ℕ → Type 0
@@ -144,7 +163,7 @@ pub record AreLeapsOf (strings : List Text) (l : Leaps) : Type 0 where
 pub record IsTable (t : AhoCorasick) : Type 0 where
   pub trie : IsTrie t.trie.first.items t.trie.bytes.items
   pub few : length t.trie.bytes.items < 2 ^ 32
-  pub steps : AreSteps t.trie.first.items t.steps.items
+  pub steps : AreSteps t.trie.first.items t.steps
   pub fallbacks : AreFallbacks t.fails.items
   pub fails : length t.fails.items ≡ length t.trie.bytes.items
   pub depths : length t.depths.items ≡ length t.trie.bytes.items
@@ -157,7 +176,7 @@ pub record IsTable (t : AhoCorasick) : Type 0 where
 -- the rows are right for the strings
 pub record IsTableOf (all : Labels) (t : AhoCorasick) : Type 0 where
   pub trie : IsTrieOf all t.trie.first.items t.trie.bytes.items
-  pub steps : AreStepsOf all t.steps.items
+  pub steps : AreStepsOf all t.steps
   pub fails : AreFallbacksOf all t.fails.items
   pub depths : (n : ℕ) → n < length t.trie.bytes.items →
       slice_index t.depths.items n ≡ length (all.label n)

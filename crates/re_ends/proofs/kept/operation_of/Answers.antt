@@ -13,4 +13,4 @@ returns-clause-kept c = λ k list is. rw c.in_ok-push.ensures.items (get_left _ 
 pub returns-clause-op : goal.returns-clause-op
 returns-clause-op c =
     let at : 32768 + c.len-number.result - 32768 ≡ length c.args.lists.now.items = omega (arith, c.len-number.ensures, c.args.lists.now.ok) in
-    (omega (arith, c.if-number-ge-MOST_STEPS.false), (λ low. absurd (omega (arith, low)), λ le. (c.in_ok-list.list, rw (at, c.in_ok-push.ensures.items) (get_last c.args.lists.now.items c.in_ok-list.list), ap numbers_of (sym c.in_ok-list.ensures.items))))
+    (omega (arith, c.if-number-ge-MOST_LISTS.false), (λ low. absurd (omega (arith, low)), λ le. (c.in_ok-list.list, rw (at, c.in_ok-push.ensures.items) (get_last c.args.lists.now.items c.in_ok-list.list), ap numbers_of (sym c.in_ok-list.ensures.items))))

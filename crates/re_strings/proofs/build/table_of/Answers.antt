@@ -6,12 +6,12 @@ returns-clause-right c = λ strings same.
     let (label, trie, own) = c.in_ok-nodes.ensures.right strings same in
     let all : Labels = record { strings = strings; label = label } in
     let starts = c.in_ok-starts.ensures.right all trie in
-    let linked = (rw (c.deref.ensures.value, c.deref-2.ensures.value) at c.in_ok-links.ensures.right) all trie starts own in
+    let linked = (rw c.deref.ensures.value at c.in_ok-links.ensures.right) all trie starts own in
     let ended = c.in_ok-links.ensures.linked.all_outputs in (
       label,
       record {
         trie = trie;
-        steps = c.in_ok-steps.ensures.right all trie starts (rw c.deref-3.ensures.value linked.fallbacks);
+        steps = c.in_ok-steps.ensures.right all trie starts (rw c.deref-2.ensures.value linked.fallbacks);
         fails = linked.fallbacks;
         depths = c.in_ok-depths.ensures.right all trie;
         outputs = λ n lt. linked.ended n (omega arith);

@@ -1,4 +1,4 @@
-use Rattle.re_strings.proofs.{Prelude.{◌≡◌, ◌+◌, ◌-◌, ◌<◌, slice_index, arith}, lemmas.{SetSteps.may_at_first, SetTries.ascends}}
+use Rattle.re_strings.proofs.{Prelude.{◌≡◌, ◌+◌, ◌-◌, ◌<◌, slice_index, refl, arith}, lemmas.{SetSteps.may_at_first, SetTries.ascends}}
 use Rattle.re_strings.proofs.links.fallback.Goals as goal
 
 pub returns-clause-before : goal.returns-clause-before
@@ -27,3 +27,7 @@ step-requires-clause-within c =
     let less = c.requires.fails c.args.node (omega (arith, c.if-node-eq0.false)) c.requires.within in
     let within = c.requires.within in
     omega arith
+
+pub returns-then-node-eq0-clause-right : goal.returns-then-node-eq0-clause-right
+returns-then-node-eq0-clause-right c = λ all t _ _.
+    rw (c.if-node-eq0.true, t.root) (record { start = 1; low = omega arith; high = omega arith; is = refl; none = λ j low lt _. absurd (omega arith) })

@@ -30,7 +30,7 @@ places-preserved c =
     let node = c.step-node.result in
     let stands : (all : Labels) → IsTableOf all c.args.self.now → StandsAtNode all 0 line (place + 1) node =
     λ all t.
-    let steps = (rw (c.deref.ensures.value, c.deref-in-places.ensures.value) at c.step-node.ensures.step) all t.trie t.steps t.fails in
+    let steps = (rw c.deref.ensures.value at c.step-node.ensures.step) all t.trie t.steps t.fails in
     byte_read all 0 line place c.places.node c.step-node.result (omega (arith, size, inside)) (c.places.invariant.stands all t) (subst (λ b. StepsOn all c.places.node b c.step-node.result) here steps) in
     record {
       in_trie = c.step-node.ensures.within;

@@ -15,7 +15,7 @@ returns-clause-stands c = λ all t from low s.
     let inside : start < length c.args.line.now = omega (arith, c.if-start-line.false) in
     let is : c.key_of-byte.result ≡ key fold (slice_index c.args.line.now start) = cc (c.key_of-byte.ensures, c.requires.alike) in
     let here = is ∙ sym (key_at _ _ _ inside) in
-    let steps = (rw (c.deref.ensures.value, c.deref-2.ensures.value) at c.step-into.ensures.step) all t.trie t.steps t.fails in
+    let steps = (rw c.deref.ensures.value at c.step-into.ensures.step) all t.trie t.steps t.fails in
     stands_after _ _ _ _ _ _ (omega arith) (c.next_start-start.ensures.stands all t from low s)
     (rw here at steps)
 
@@ -29,6 +29,6 @@ returns-clause-begun c = λ all t from some s.
     let inside : start < length c.args.line.now = omega (arith, c.if-start-line.false) in
     let is : c.key_of-byte.result ≡ key fold (slice_index c.args.line.now start) = cc (c.key_of-byte.ensures, c.requires.alike) in
     let here = is ∙ sym (key_at _ _ _ inside) in
-    let steps = (rw (c.deref.ensures.value, c.deref-2.ensures.value) at c.step-into.ensures.step) all t.trie t.steps t.fails in
+    let steps = (rw c.deref.ensures.value at c.step-into.ensures.step) all t.trie t.steps t.fails in
     byte_read all from line start c.args.node c.step-into.result (omega (arith, size, inside)) (subst (λ n. StandsAtNode all from line n c.args.node) (sym (c.next_start-start.ensures.begun some)) s)
     (rw here at steps)
