@@ -4,15 +4,29 @@ ghost use Rattle.std.specs.Prelude.{◌≡◌, ◌≤◌, length};
 use crate::outline_item::OutlineItem;
 use re_runs::{HALVED, Survey};
 
-// From how many bytes on a run is long. If one of two runs is long, the longer one is taken; else
-// one that is much rarer takes precedence over a longer one.
-const LONG: usize = 4;
+// A run that is everywhere has this chance.
+const CERTAIN: u64 = 1 << 62;
 
-// By how many ranks a byte is much rarer than another.
-const MUCH: u8 = 32;
+// A mark that half of all bytes are in leaves it.
+const HALF: u64 = TEXT / 2;
 
-// A byte of this rank or a higher one is on most lines of texts in words.
-const OFTEN: u8 = 240;
+// A byte of this chance is on most lines of texts in words.
+const OFTEN: u64 = CERTAIN / HALF * 3_072;
+
+// A mark counts as no rarer than this, since some texts are full of bytes that most have few of.
+const RAREST: u64 = 512;
+
+// A mark counts as no more common than this, since longer runs are rarer.
+const COMMONEST: u64 = 16_000;
+
+// A set counts at most as twice its commonest byte: as this, if that has the highest rank.
+const ALIKE: u64 = 16_384;
+
+// Four marks of a run are rarer than four blanks if they are less likely than this.
+const BLANKS: u64 = CERTAIN / 300;
+
+/// A run is short if it has at most so many marks.
+pub const SHORT: usize = 4;
 
 // As many bytes of most texts as surveys speak of.
 const TEXT: u64 = 65_536;
@@ -49,8 +63,8 @@ pub struct Run {
     length: usize,
     // How many of its marks are narrow.
     narrow: usize,
-    // How common its rarest mark is.
-    rank: u8,
+    // How likely it is at a place, where each further mark makes it half as likely at least.
+    chance: u64,
     // About how many of 65,536 places of most texts have it.
     stops: u64,
 }
@@ -64,7 +78,7 @@ impl Run {
             start,
             length: 0,
             narrow: 0,
-            rank: u8::MAX,
+            chance: CERTAIN,
             stops: TEXT,
         }
     }
@@ -73,13 +87,15 @@ impl Run {
     fn with(self, mark: Survey) -> Run
         ensures { result.start ≡ self.start }
     {
+        // Bytes of one kind stand together, so many lines have none of them.
+        let share = u64::from(mark.share).min(ALIKE >> ((u8::MAX - mark.rank) / HALVED));
         Run {
             start: self.start,
             length: self.length.saturating_add(1),
             narrow: self
                 .narrow
                 .saturating_add(usize::from(mark.share <= NARROW)),
-            rank: self.rank.min(mark.rank),
+            chance: (self.chance / HALF).saturating_mul(share.max(RAREST).min(COMMONEST)),
             stops: self.stops.saturating_mul(u64::from(mark.share)) / TEXT,
         }
     }
@@ -89,38 +105,33 @@ impl Run {
         self.length == marks.len()
     }
 
-    /// Whether a mark of it is half as common as the first of the other, which is on most lines.
+    /// Whether it is half as likely as the other, which is one byte that is on most lines.
     pub fn is_rarer(self, byte: Run) -> bool {
-        byte.length > 0 && byte.rank >= OFTEN && self.rank.saturating_add(HALVED) <= byte.rank
+        byte.length > 0 && byte.chance >= OFTEN && self.chance <= byte.chance / 2
     }
 
     /// Whether it is at fewer places of most texts than the other, or at no more, and much longer than a
     /// short one.
     pub fn is_at_fewer(self, other: Run) -> bool {
-        if other.length <= LONG && self.narrow >= 2 * other.length {
+        if other.length <= SHORT && self.narrow >= 2 * other.length {
             return self.stops <= other.stops;
         }
         self.stops.saturating_add(FEW) < other.stops
     }
 
-    // Whether it takes precedence over the other, which begins at the same place or before. A
-    // single byte never takes precedence over a single byte, but a single set may.
-    fn beats(self, other: Run, of: RunKind) -> bool {
-        if self.length == 1 && other.length == 1 {
-            return !matches!(of, RunKind::Bytes) && self.is_rarer(other);
-        }
-        if self.length >= LONG || other.length >= LONG || self.length < 2 || other.length < 2 {
+    // Whether it takes precedence over the other: it goes on from it, or is much less likely, and not the
+    // shorter one of less than `least` marks. Where matches begin with the run, fewer bytes are stepped over.
+    fn beats(self, other: Run, least: usize) -> bool {
+        if self.start == other.start || other.chance == 0 {
             return self.length > other.length;
         }
-        if self.rank.saturating_add(MUCH) <= other.rank {
-            return true;
-        }
-        self.length > other.length && self.rank < other.rank.saturating_add(MUCH)
+        let less = if other.start == 0 { 16 } else { 2 };
+        self.length >= other.length.min(least) && self.chance < other.chance / less
     }
 }
 
-/// The run of such marks that is looked for.
-pub fn best_run(marks: &[OutlineItem], of: RunKind) -> Run
+/// The run of such marks that is looked for. One with less than `least` goes before none that is longer.
+pub fn best_run(marks: &[OutlineItem], of: RunKind, least: usize) -> Run
     ensures { result.start ≤ length marks.now }
 {
     let mut now = Run::at(0);
@@ -130,11 +141,32 @@ pub fn best_run(marks: &[OutlineItem], of: RunKind) -> Run
             Some(mark) => now.with(mark),
             None => Run::at(place + 1),
         };
-        if now.beats(best, of) {
+        if now.beats(best, least) {
             best = now;
         }
     }
     best
+}
+
+/// Where the run is looked for. One of several branches is looked for by some of its first sets, so most
+/// of its leading blanks are left out.
+pub fn start_among(branches: usize, marks: &[OutlineItem], run: Run) -> usize
+    ensures { result ≤ length marks.now }
+{
+    let start = run.start.min(marks.len());
+    if branches < 2 {
+        return start;
+    }
+    'marks: for place in start..marks.len().saturating_sub(SHORT - 1) {
+        let part = best_run(&marks[place..place + SHORT], RunKind::SmallSets, 0);
+        if part.length < SHORT {
+            return start;
+        }
+        if part.chance < BLANKS {
+            return place;
+        }
+    }
+    start
 }
 
 /// How common the bytes of the mark are, if it may be one of such a run.

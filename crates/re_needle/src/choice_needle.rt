@@ -130,7 +130,7 @@ fn branch_runs(
     };
     'branches: for place in 0..branches.len() {
         let marks = outline_around(alloc, before, &branches[place], after)?;
-        let Some(needle) = run_needle(alloc, &marks)? else {
+        let Some(needle) = run_needle(alloc, &marks, branches.len())? else {
             return Ok(None);
         };
         let run = needle.finder.sets(alloc)?;

@@ -6,7 +6,7 @@ ghost use Rattle.re_trees.specs.Working.Trees.{expression_of, members};
 ghost use Rattle.re_needle.specs.Working.Needles.{IsNeedleFor, IsRunNeedleFor};
 ghost use Rattle.re_needle.specs.Working.Outlines.{IsOptional, IsOutline, shown};
 
-use crate::choice::{Run, RunKind, best_run};
+use crate::choice::{Run, RunKind, SHORT, best_run, start_among};
 use crate::choice_needle::{choice_needle, needle_inside};
 use crate::leading_sets::leading_sets;
 use crate::outline::add_outline;
@@ -23,7 +23,10 @@ const MANY_SETS: usize = 8;
 // table of ranks counts all bytes from 0xC0 on as common, too.
 const COMMON: u8 = 250;
 
-// A string of at most so many bytes may be a word that is on most lines of a text.
+// Where more runs are looked for at once, a short one costs much: all are tested as far as the shortest.
+const FEW_RUNS: usize = 4;
+
+// A run of at most so many bytes may be a word that is on most lines of a text.
 const WORD: usize = 5;
 
 // About how many of 65,536 places of such a text have it.
@@ -61,7 +64,7 @@ impl Needle {
         }
         let mut marks = Vec::new(alloc);
         add_outline(alloc, tree, &mut marks)?;
-        let run = run_needle(alloc, &marks)?;
+        let run = run_needle(alloc, &marks, 1)?;
         let inside = needle_inside(alloc, tree, stops_of(&run))?;
         if inside.is_some() {
             return Ok(inside);
@@ -78,13 +81,16 @@ impl Needle {
     }
 
     /// About how many of 65,536 places of most texts a look for it stops at: none if it is a string, which
-    /// is looked for fast, unless it may be a common word.
+    /// is looked for fast, but no fewer than a common word if it is as short as one.
     pub fn stops(&self) -> u64 {
-        match &self.finder {
-            RunFinder::Text(finder) if finder.needle().len() <= WORD => OF_WORDS,
+        let stops = match &self.finder {
             RunFinder::Text(_) => 0,
             RunFinder::Sets(finder) => finder.stops(),
+        };
+        if self.finder.longest() <= WORD {
+            return stops.max(OF_WORDS);
         }
+        stops
     }
 
     /// Whether the next match of a line is looked for by it: it isn't common, or sets at few places.
@@ -106,20 +112,27 @@ fn stops_of(needle: &Option<Needle>) -> u64 {
 /// unless small sets are at fewer places; a run of small sets that is rare in most texts; one byte
 /// that is not common; a long run of sets of any size; a common byte, or a small set that is half
 /// as common as a byte of most lines; any run of small sets, be it of one. A choice has the sets
-/// that its branches begin with, and a set that is repeated counts once for each time. `None` if
+/// that its branches begin with, and a set that is repeated counts once for each time. With other branches,
+/// `branches` in all, its run is looked for by sets, and small sets after a string make it rarer. `None` if
 /// there is none of these. The only error is that an allocation failed.
-pub fn run_needle(alloc: Global, marks: &[OutlineItem]) -> Result<Option<Needle>, AllocError>
+pub fn run_needle(
+    alloc: Global,
+    marks: &[OutlineItem],
+    branches: usize,
+) -> Result<Option<Needle>, AllocError>
     ensures { IfOk result
         (λ found. (e : Expression) → IsOutline marks.now e → IsRunNeedleFor e found) }
 {
-    let bytes = best_run(marks, RunKind::Bytes);
+    let least = if branches > FEW_RUNS { SHORT } else { 0 };
+    let bytes = best_run(marks, RunKind::Bytes, 0);
     let text = text_needle(alloc, marks, bytes.start, 2)?;
-    let sets = best_run(marks, RunKind::SmallSets);
-    let is_text = !sets.is_all(marks) && !sets.is_at_fewer(bytes);
+    let sets = best_run(marks, RunKind::SmallSets, least);
+    let is_text = branches < 2 && !sets.is_all(marks) && !sets.is_at_fewer(bytes);
     if text.is_some() && (is_text || bytes.is_all(marks)) {
         return Ok(text);
     }
-    let found = set_needle(alloc, marks, sets.start, RunKind::SmallSets, 2, false)?;
+    let start = start_among(branches, marks, sets);
+    let found = set_needle(alloc, marks, start, RunKind::SmallSets, 2, false)?;
     if found.is_some() {
         return Ok(found);
     }
@@ -130,7 +143,7 @@ pub fn run_needle(alloc: Global, marks: &[OutlineItem]) -> Result<Option<Needle>
     if matches!(&single, Some(needle) if !needle.is_common) {
         return Ok(single);
     }
-    let wide = best_run(marks, RunKind::Sets).start;
+    let wide = best_run(marks, RunKind::Sets, 0).start;
     let found = set_needle(alloc, marks, wide, RunKind::Sets, MANY_SETS, true)?;
     if found.is_some() {
         return Ok(found);
