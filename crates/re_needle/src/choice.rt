@@ -122,7 +122,7 @@ impl Run {
     // Whether it takes precedence over the other: it goes on from it, or is much less likely, and not the
     // shorter one of less than `least` marks. Where matches begin with the run, fewer bytes are stepped over.
     fn beats(self, other: Run, least: usize) -> bool {
-        if self.start == other.start || other.chance == 0 {
+        if self.start == other.start || other.length == 0 || other.chance == 0 {
             return self.length > other.length;
         }
         let less = if other.start == 0 { 16 } else { 2 };
