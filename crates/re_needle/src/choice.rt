@@ -105,9 +105,11 @@ impl Run {
         self.length == marks.len()
     }
 
-    /// Whether it is half as likely as the other, which is one byte that is on most lines.
+    /// Whether it is much less likely than the other; half as likely is enough if that is one byte that is on
+    /// most lines.
     pub fn is_rarer(self, byte: Run) -> bool {
-        byte.length > 0 && byte.chance >= OFTEN && self.chance <= byte.chance / 2
+        let less = if byte.chance >= OFTEN { 2 } else { 8 };
+        byte.length > 0 && self.chance <= byte.chance / less
     }
 
     /// Whether it is at fewer places of most texts than the other, or at no more, and much longer than a

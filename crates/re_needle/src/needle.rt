@@ -110,8 +110,8 @@ fn stops_of(needle: &Option<Needle>) -> u64 {
 /// The run to look for, the first of these that every match needs, also in groups and in what is
 /// repeated once or more: two or more small sets that are all there is; two or more single bytes,
 /// unless small sets are at fewer places; a run of small sets that is rare in most texts; one byte
-/// that is not common; a long run of sets of any size; a common byte, or a small set that is half
-/// as common as a byte of most lines; any run of small sets, be it of one. A choice has the sets
+/// that is not common, and than which no small sets are rarer; a long run of sets of any size; a common
+/// byte, or such small sets; any run of small sets, be it of one. A choice has the sets
 /// that its branches begin with, and a set that is repeated counts once for each time. With other branches,
 /// `branches` in all, its run is looked for by sets, and small sets after a string make it rarer. `None` if
 /// there is none of these. The only error is that an allocation failed.
@@ -183,8 +183,7 @@ fn text_needle(
     }))
 }
 
-// The needle of one byte. If that is on most lines, a byte or a small set takes its place that is
-// half as common.
+// The needle of one byte, or of small sets that are rarer.
 fn single_needle(
     alloc: Global,
     marks: &[OutlineItem],
@@ -198,9 +197,6 @@ fn single_needle(
 {
     if !sets.is_rarer(bytes) {
         return text_needle(alloc, marks, bytes.start, 1);
-    }
-    if let Some(needle) = text_needle(alloc, marks, sets.start, 1)? {
-        return Ok(Some(needle));
     }
     set_needle(alloc, marks, sets.start, RunKind::SmallSets, 1, true)
 }
