@@ -130,10 +130,14 @@ fn mixed_line(rt: &HostRuntime, count: usize) -> Option<Vec<u8>> {
     Some(line)
 }
 
-/// The greatest end of `(a|b){14}a(a|b)*` from place `k` of such a line: the line's end, if there
-/// is an `a` after 14 bytes.
+// With many classes of bytes a row takes much memory.
+const WIDE: &[u8] =
+    b"(a|b){18}a(a|b)*|0123456789ABCDEFGHIJKLMNOPQRSTUVWXYZcdefghijklmnopqrstuvwxyz";
+
+/// The greatest end of a match of `WIDE` from place `k` of such a line: the line's end, if there is
+/// an `a` after 18 bytes.
 fn end_from(line: &[u8], k: usize) -> usize {
-    let Some(byte) = line.get(k.saturating_add(14)) else {
+    let Some(byte) = line.get(k.saturating_add(18)) else {
         return 0;
     };
     if *byte == b'a' {
@@ -147,7 +151,7 @@ fn ends_are_right_where_steps_are_removed(rt: HostRuntime) {
     let Some(line) = mixed_line(&rt, 40_000) else {
         return;
     };
-    let Some((ends, built)) = passed_twice(&rt, b"(a|b){14}a(a|b)*", &line) else {
+    let Some((ends, built)) = passed_twice(&rt, WIDE, &line) else {
         assert!(rt; false);
         return;
     };

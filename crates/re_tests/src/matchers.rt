@@ -18,7 +18,7 @@ const GROUPED: Pattern = (Syntax::Extended, b"x(ab|cd)y", false, false);
 
 const IN_GROUPS: Pattern = (Syntax::Extended, b"x((ab)+)z", false, false);
 
-const RARE: Pattern = (Syntax::Basic, b"the.*qz", false, false);
+const RARE: Pattern = (Syntax::Basic, b"the.*qzj", false, false);
 
 const SETS: Pattern = (Syntax::Basic, b"[abc][xyz]", false, false);
 
